@@ -1,0 +1,5 @@
+pub mod Limits
+pub mod Layout
+pub mod Node
+pub mod Text
+pub mod Start

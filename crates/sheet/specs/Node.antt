@@ -1,0 +1,45 @@
+-- The nodes of a sheet. A node is kind, span (the nodes of its subtree), count (its children), a, b, c; its children follow it in order.
+-- Node numbers are 32-bit words, so the next sibling's number is taken modulo 2 ^ 32; in a sheet of the right shape nothing wraps.
+use Prim.Native.Nat.{ℕ, suc, _+_, _*_, _%_}
+use mathlib.Core.List.{List}
+use Rattle.words.specs.Word.{word}
+use Rattle.sheet.specs.Limits.{headerWords, nodeWords, wordRange}
+use Rattle.sheet.specs.Layout.{positionsAt, localsAt}
+
+-- word f of node n
+unfoldable pub field : List ℕ → ℕ → ℕ → ℕ
+field s n f = word s (headerWords + nodeWords * n + f)
+
+abbrev pub kind : List ℕ → ℕ → ℕ
+kind s n = field s n 0
+
+abbrev pub span : List ℕ → ℕ → ℕ
+span s n = field s n 1
+
+abbrev pub count : List ℕ → ℕ → ℕ
+count s n = field s n 2
+
+abbrev pub fieldA : List ℕ → ℕ → ℕ
+fieldA s n = field s n 3
+
+abbrev pub fieldB : List ℕ → ℕ → ℕ
+fieldB s n = field s n 4
+
+abbrev pub fieldC : List ℕ → ℕ → ℕ
+fieldC s n = field s n 5
+
+-- the position of node n: line times 65,536, plus column
+unfoldable pub position : List ℕ → ℕ → ℕ
+position s n = word s (positionsAt s + n)
+
+-- the text number of local l
+unfoldable pub localText : List ℕ → ℕ → ℕ
+localText s l = word s (localsAt s + l)
+
+-- the first child of n, if it has one
+unfoldable pub child : ℕ → ℕ
+child n = (n + 1) % wordRange
+
+-- the sibling after n
+unfoldable pub next : List ℕ → ℕ → ℕ
+next s n = (n + span s n) % wordRange

@@ -1,0 +1,51 @@
+// Bytes and little-endian 32-bit words of a byte string. Every index is answered: what lies past the end reads as 0.
+ghost use mathlib.Core.Path.{_≡_};
+ghost use Prim.Native.Nat.{_+_, _*_, _<_, _≤_};
+ghost use lib.ListN.{length};
+ghost use Rattle.words.specs.Word.{byteOf, fromBytes, word};
+
+// Byte `i` of `s`, 0 past the end.
+pub fn byte(s: &[u8], i: usize) -> u8
+    ensures { λ r. ⌜ r ≡ byteOf (now (s .entry)) i ⌝ }
+{
+    if i < s.len() { s[i] } else { 0 }
+}
+
+// The number that four bytes stand for, the lowest first.
+fn from_bytes(a: u8, b: u8, c: u8, d: u8) -> u32
+    ensures { λ r. ⌜ r ≡ fromBytes a b c d ⌝ }
+{
+    (a as u32) + 256 * (b as u32) + 65536 * (c as u32) + 16777216 * (d as u32)
+}
+
+// A word of which the string has all four bytes.
+fn whole(s: &[u8], i: usize) -> u32
+    requires { ⌜ 4 * i + 3 < length (now s) ⌝ }
+    ensures { λ r. ⌜ r ≡ word (now (s .entry)) i ⌝ }
+{
+    let at = 4 * i;
+    from_bytes(s[at], s[at + 1], s[at + 2], s[at + 3])
+}
+
+// The word that the string ends in, with fewer than four bytes left.
+fn cut(s: &[u8], i: usize) -> u32
+    requires { ⌜ 4 * i ≤ length (now s) ⌝ }
+    ensures { λ r. ⌜ r ≡ word (now (s .entry)) i ⌝ }
+{
+    let at = 4 * i;
+    from_bytes(byte(s, at), byte(s, at + 1), byte(s, at + 2), byte(s, at + 3))
+}
+
+// Word `i` of `s`, with 0 for each byte past the end.
+pub fn word_at(s: &[u8], i: usize) -> u32
+    ensures { λ r. ⌜ r ≡ word (now (s .entry)) i ⌝ }
+{
+    let n = s.len() / 4;
+    if i < n {
+        return whole(s, i);
+    }
+    if i == n {
+        return cut(s, i);
+    }
+    0
+}
