@@ -3,3 +3,4 @@ pub mod Layout
 pub mod Node
 pub mod Text
 pub mod Start
+pub mod StartLaws

@@ -14,9 +14,10 @@ byte-past s i h = List·getD-eq-default s 0 h
 pub word-past : (s : List ℕ) (i : ℕ) → length s ≤ 4 * i → word s i ≡ 0
 unfolding word
 word-past s i h =
-    omega
-    (arith,
-    byte-past s (4 * i) h,
-    byte-past s (4 * i + 1) (omega arith),
-    byte-past s (4 * i + 2) (omega arith),
-    byte-past s (4 * i + 3) (omega arith))
+    omega (
+      arith,
+      byte-past s (4 * i) h,
+      byte-past s (4 * i + 1) (omega arith),
+      byte-past s (4 * i + 2) (omega arith),
+      byte-past s (4 * i + 3) (omega arith),
+    )

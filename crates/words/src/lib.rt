@@ -1,7 +1,7 @@
 // Bytes and little-endian 32-bit words of a byte string. Every index is answered: what lies past the end reads as 0.
 ghost use mathlib.Core.Path.{_≡_};
 ghost use Prim.Native.Nat.{_+_, _*_, _<_, _≤_};
-ghost use lib.ListN.{length};
+ghost use lib.ListN.{length, take, drop};
 ghost use Rattle.words.specs.Word.{byteOf, fromBytes, word};
 
 // Byte `i` of `s`, 0 past the end.
@@ -33,7 +33,12 @@ fn cut(s: &[u8], i: usize) -> u32
     ensures { λ r. ⌜ r ≡ word (now (s .entry)) i ⌝ }
 {
     let at = 4 * i;
-    from_bytes(byte(s, at), byte(s, at + 1), byte(s, at + 2), byte(s, at + 3))
+    from_bytes(
+        byte(s, at),
+        byte(s, at + 1),
+        byte(s, at + 2),
+        byte(s, at + 3),
+    )
 }
 
 // Word `i` of `s`, with 0 for each byte past the end.
@@ -48,4 +53,19 @@ pub fn word_at(s: &[u8], i: usize) -> u32
         return cut(s, i);
     }
     0
+}
+
+// The `len` bytes of `s` from `at` on, or as many of them as there are.
+pub fn part(s: &[u8], at: usize, len: usize) -> &[u8]
+    ensures { λ r. ⌜ now r ≡ take len (drop at (now (s .entry))) ⌝ }
+{
+    let n = s.len();
+    if n <= at {
+        return &s[n..];
+    }
+    if len <= n - at {
+        let end = at + len;
+        return &s[at..end];
+    }
+    &s[at..]
 }

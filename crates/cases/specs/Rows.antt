@@ -1,0 +1,53 @@
+-- The rows of document 01 on ranges, as one table with one theorem: the split of each list of ranges is the row's list of entries.
+use Prim.Native.Nat.{ℕ}
+use mathlib.Core.Path.{_≡_, refl}
+use mathlib.Core.Bool.{Bool, true, false}
+use mathlib.Core.List.{List, [], _∷_, map}
+use Rattle.text.specs.Same.{same}
+use Rattle.cases.specs.Excess.{excess}
+use Rattle.cases.specs.Range.{Range, inside, blocksWhere}
+use Rattle.cases.specs.Points.{points, insert, sortOnto, sort, dedupAfter, dedup, cuts}
+use Rattle.cases.specs.Split.{Entry, atoms, covers, piece, opened, join, pieces, split}
+
+-- the small number n, the least and the greatest integer
+unfoldable pub small : ℕ → ℕ
+small n = excess n 0
+
+unfoldable pub least : ℕ
+least = excess 0 0x8000_0000
+
+unfoldable pub greatest : ℕ
+greatest = excess 0xFFFF_FFFF 0x7FFF_FFFF
+
+-- a..b and a..=b of a block, and as entries
+unfoldable pub range : ℕ → ℕ → Bool → ℕ → Range
+range a b i k = record { from = a; to = b; inclusive = i; block = k }
+
+unfoldable pub entry : ℕ → ℕ → Bool → List ℕ → Entry
+entry a b i ks = record { from = a; to = b; inclusive = i; blocks = ks }
+
+pub record Row : Type 0 where
+  pub ranges : List Range
+  pub entries : List Entry
+
+unfoldable pub rows : List Row
+rows =
+    record {
+      ranges = range (small 0) (small 0) true 0 ∷ range (small 0) (small 255) true 1 ∷ [];
+      entries = entry (small 0) (small 0) true (0 ∷ 1 ∷ []) ∷ entry (small 0) (small 255) true (1 ∷ []) ∷ [];
+    }
+    ∷ record { ranges = range (small 5) (small 5) false 0 ∷ range (small 9) (small 3) true 1 ∷ []; entries = [] }
+    ∷ record { ranges = range least greatest true 0 ∷ []; entries = entry least greatest true (0 ∷ []) ∷ [] }
+    ∷ record {
+      ranges = range (small 4) (small 6) false 0 ∷ range (small 5) (small 6) true 1 ∷ [];
+      entries =
+          entry (small 4) (small 5) false (0 ∷ [])
+          ∷ entry (small 5) (small 6) false (0 ∷ 1 ∷ [])
+          ∷ entry (small 6) (small 6) true (1 ∷ [])
+          ∷ [];
+    }
+    ∷ []
+
+pub rows-right : map (λ (r : Row). split (r .ranges)) rows ≡ map (λ (r : Row). r .entries) rows
+unfolding small least greatest range entry rows excess inside blocksWhere points insert sortOnto sort dedupAfter dedup cuts same atoms covers piece opened join pieces split
+rows-right = refl

@@ -1,0 +1,25 @@
+-- `sheet::next` meets its contract: the sum modulo 2 ^ 32 is the definition.
+use Rattle.sheet.specs.Node.{next}
+use borrow.Author.Needs.{needs}
+use Rattle.sheet.proofs.next.Statement.{statement}
+use Rattle.sheet.proofs.next.Tie as tie
+use Rattle.sheet.proofs.next.Reads as reads
+use Rattle.sheet.proofs.next.Lts as lts
+use Rattle.sheet.proofs.span.Reads as span-reads
+use Rattle.std.proofs.num.wrapping_add_u32.Reads as wrapping-add-u32-reads
+
+-- src/lib.rt:139:35
+span-requires : tie.Need-span-requires
+span-requires c κs = search needs
+
+-- src/lib.rt:139:5
+wrapping-add-u32-requires : tie.Need-wrapping-add-u32-requires
+wrapping-add-u32-requires c κs = search needs
+
+-- src/lib.rt:136:1
+returns : tie.Need-returns
+unfolding next
+returns c = search needs
+
+pub next-spec : {M : Type 1} → statement M
+next-spec = tie.close (tie.spec span-requires wrapping-add-u32-requires returns)

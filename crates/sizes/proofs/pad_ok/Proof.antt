@@ -1,0 +1,71 @@
+-- `sizes::pad_ok` meets its contract: the byte read is the one that the definition names.
+use Rattle.sizes.specs.Sizes.{padOk}
+use borrow.Author.Needs.{needs}
+use Rattle.sizes.proofs.pad_ok.Statement.{statement}
+use Rattle.sizes.proofs.pad_ok.Tie as tie
+use Rattle.sizes.proofs.pad_ok.Reads as reads
+use Rattle.sizes.proofs.pad_ok.Lts as lts
+use Rattle.sheet.proofs.byte_count.Reads as byte-count-reads
+use Rattle.sheet.proofs.bytes_at.Reads as bytes-at-reads
+use Rattle.words.proofs.byte.Reads as byte-reads
+
+-- src/lib.rt:35:13
+byte-count-requires : tie.Need-byte-count-requires
+byte-count-requires c κs = search needs
+
+-- src/lib.rt:35:13
+cast-b : tie.Need-cast-b
+cast-b c = search needs
+
+-- src/lib.rt:36:23
+add-ended : tie.Need-add-ended
+add-ended c = search needs
+
+-- src/lib.rt:36:17
+mul-ended : tie.Need-mul-ended
+mul-ended c = search needs
+
+-- src/lib.rt:36:38
+add-ended-2 : tie.Need-add-ended-2
+add-ended-2 c = search needs
+
+-- src/lib.rt:37:28
+bytes-at-requires : tie.Need-bytes-at-requires
+bytes-at-requires c κs = search needs
+
+-- src/lib.rt:37:24
+mul-byte : tie.Need-mul-byte
+mul-byte c = search needs
+
+-- src/lib.rt:37:24
+add-byte : tie.Need-add-byte
+add-byte c = search needs
+
+-- src/lib.rt:37:24
+add-byte-2 : tie.Need-add-byte-2
+add-byte-2 c = search needs
+
+-- src/lib.rt:37:16
+byte-requires : tie.Need-byte-requires
+byte-requires c κs = search needs
+
+-- src/lib.rt:31:1
+returns : tie.Need-returns
+unfolding padOk
+returns c = cc
+
+pub pad-ok-spec : {M : Type 1} → statement M
+pad-ok-spec =
+    tie.close
+    (tie.spec
+    byte-count-requires
+    cast-b
+    add-ended
+    mul-ended
+    add-ended-2
+    bytes-at-requires
+    mul-byte
+    add-byte
+    add-byte-2
+    byte-requires
+    returns)
