@@ -16,32 +16,32 @@ any = 0xffff_ffff
 -- For each kind from 0 on: the least and the greatest count of children, and the greatest a, b and c. Kind 0 is no kind.
 abbrev pub bounds : List ℕ
 bounds =
-      1 ∷ 0 ∷ 0 ∷ 0 ∷ 0
-    ∷ 0 ∷ 0 ∷ 1 ∷ 0 ∷ 0           -- 1 Bool
-    ∷ 0 ∷ 0 ∷ 0 ∷ 0 ∷ 0           -- 2 Unit
-    ∷ 0 ∷ 0 ∷ any ∷ any ∷ 0       -- 3 Int
-    ∷ 0 ∷ 0 ∷ any ∷ any ∷ 0       -- 4 Float
-    ∷ 0 ∷ 0 ∷ any ∷ 0 ∷ 0         -- 5 Char
-    ∷ 0 ∷ 0 ∷ any ∷ 0 ∷ 0         -- 6 String
-    ∷ 0 ∷ any ∷ 0 ∷ 0 ∷ 0         -- 7 Interpolated
-    ∷ 0 ∷ any ∷ 0 ∷ 0 ∷ 0         -- 8 Array
-    ∷ 0 ∷ 0 ∷ any ∷ 0 ∷ 0         -- 9 Variable
-    ∷ 0 ∷ 0 ∷ 0 ∷ 0 ∷ 0           -- 10 This
-    ∷ 0 ∷ 0 ∷ any ∷ any ∷ any     -- 11 Property
-    ∷ 0 ∷ any ∷ any ∷ 0 ∷ 0       -- 12 MethodCall
-    ∷ 0 ∷ any ∷ any ∷ 1 ∷ 65535   -- 13 FnCall
-    ∷ 2 ∷ 2 ∷ 3 ∷ 0 ∷ 0           -- 14 Dot
-    ∷ 2 ∷ 2 ∷ 3 ∷ 0 ∷ 0           -- 15 Index
-    ∷ 1 ∷ any ∷ 0 ∷ 0 ∷ 0         -- 16 And
-    ∷ 1 ∷ any ∷ 0 ∷ 0 ∷ 0         -- 17 Or
-    ∷ 1 ∷ any ∷ 0 ∷ 0 ∷ 0         -- 18 Coalesce
-    ∷ 1 ∷ any ∷ any ∷ any ∷ any   -- 19 Switch
-    ∷ 1 ∷ any ∷ 0 ∷ 0 ∷ 0         -- 20 Case
-    ∷ 2 ∷ 2 ∷ 1 ∷ any ∷ 0         -- 21 Range
-    ∷ 0 ∷ 0 ∷ any ∷ 0 ∷ 0         -- 22 Ref
-    ∷ 0 ∷ 0 ∷ 0 ∷ 0 ∷ 0           -- 23 Map
-    ∷ 0 ∷ 0 ∷ 0 ∷ 0 ∷ 0           -- 24 block
-    ∷ 0 ∷ 0 ∷ 0 ∷ 0 ∷ 0           -- 25 DynamicConstant
+    1 ∷ 0 ∷ 0 ∷ 0 ∷ 0
+    ∷ 0 ∷ 0 ∷ 1 ∷ 0 ∷ 0  -- 1 Bool
+    ∷ 0 ∷ 0 ∷ 0 ∷ 0 ∷ 0  -- 2 Unit
+    ∷ 0 ∷ 0 ∷ any ∷ any ∷ 0  -- 3 Int
+    ∷ 0 ∷ 0 ∷ any ∷ any ∷ 0  -- 4 Float
+    ∷ 0 ∷ 0 ∷ any ∷ 0 ∷ 0  -- 5 Char
+    ∷ 0 ∷ 0 ∷ any ∷ 0 ∷ 0  -- 6 String
+    ∷ 0 ∷ any ∷ 0 ∷ 0 ∷ 0  -- 7 Interpolated
+    ∷ 0 ∷ any ∷ 0 ∷ 0 ∷ 0  -- 8 Array
+    ∷ 0 ∷ 0 ∷ any ∷ 0 ∷ 0  -- 9 Variable
+    ∷ 0 ∷ 0 ∷ 0 ∷ 0 ∷ 0  -- 10 This
+    ∷ 0 ∷ 0 ∷ any ∷ any ∷ any  -- 11 Property
+    ∷ 0 ∷ any ∷ any ∷ 0 ∷ 0  -- 12 MethodCall
+    ∷ 0 ∷ any ∷ any ∷ 1 ∷ 65535  -- 13 FnCall
+    ∷ 2 ∷ 2 ∷ 3 ∷ 0 ∷ 0  -- 14 Dot
+    ∷ 2 ∷ 2 ∷ 3 ∷ 0 ∷ 0  -- 15 Index
+    ∷ 1 ∷ any ∷ 0 ∷ 0 ∷ 0  -- 16 And
+    ∷ 1 ∷ any ∷ 0 ∷ 0 ∷ 0  -- 17 Or
+    ∷ 1 ∷ any ∷ 0 ∷ 0 ∷ 0  -- 18 Coalesce
+    ∷ 1 ∷ any ∷ any ∷ any ∷ any  -- 19 Switch
+    ∷ 1 ∷ any ∷ 0 ∷ 0 ∷ 0  -- 20 Case
+    ∷ 2 ∷ 2 ∷ 1 ∷ any ∷ 0  -- 21 Range
+    ∷ 0 ∷ 0 ∷ any ∷ 0 ∷ 0  -- 22 Ref
+    ∷ 0 ∷ 0 ∷ 0 ∷ 0 ∷ 0  -- 23 Map
+    ∷ 0 ∷ 0 ∷ 0 ∷ 0 ∷ 0  -- 24 block
+    ∷ 0 ∷ 0 ∷ 0 ∷ 0 ∷ 0  -- 25 DynamicConstant
     ∷ []
 
 -- bound f of kind k: 0 least count, 1 greatest count, 2 a, 3 b, 4 c
@@ -72,6 +72,12 @@ caseChild i k = elim (eqb i 0) [ true ↦ caseValue k | false ↦ eqb k 22 ]
 -- kind k may stand as child i of a node of kind p whose fields are a and b
 unfoldable pub childKind : ℕ → ℕ → ℕ → ℕ → ℕ → Bool
 childKind p a b i k =
-    elim (eqb p 19) [ true ↦ switchChild a b i k | false ↦
-    elim (eqb p 20) [ true ↦ caseChild i k | false ↦
-    elim (eqb p 21) [ true ↦ eqb k 3 | false ↦ expression k ] ] ]
+    elim (eqb p 19) [
+      | true ↦ switchChild a b i k
+      | false ↦
+          elim (eqb p 20) [
+            | true ↦ caseChild i k
+            | false ↦
+                elim (eqb p 21) [ true ↦ eqb k 3 | false ↦ expression k ]
+          ]
+    ]

@@ -1,2 +1,4 @@
 pub mod Kinds
 pub mod Shape
+pub mod KindsLaws
+pub mod ShapeLaws

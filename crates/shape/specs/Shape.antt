@@ -29,28 +29,35 @@ fieldsOk s n =
     withinBounds (kind s n) (count s n) (fieldA s n) (fieldB s n) (fieldC s n)
     && ownRule (kind s n) (count s n) (fieldA s n) (fieldB s n)
 
--- node j may be child i of node n, and its subtree ends at e or before
+-- node j may be child i of a node of kind p with fields a and b, and its subtree ends at e or before
+unfoldable pub childFits : List ℕ → ℕ → ℕ → ℕ → ℕ → ℕ → ℕ → Bool
+childFits s p a b e i j = leb 1 (span s j) && leb (j + span s j) e && childKind p a b i (kind s j)
+
+-- node j may be child i of node n
 unfoldable pub childOk : List ℕ → ℕ → ℕ → ℕ → ℕ → Bool
-childOk s n e i j =
-    leb 1 (span s j) && leb (j + span s j) e && childKind (kind s n) (fieldA s n) (fieldB s n) i (kind s j)
+childOk s n e i j = childFits s (kind s n) (fieldA s n) (fieldB s n) e i j
 
 -- m children of n from child i on, which is node j, end at e
 unfoldable pub tiles : ℕ → List ℕ → ℕ → ℕ → ℕ → ℕ → Bool
 tiles zero s n e i j = eqb j e
 tiles (suc m) s n e i j = elim (childOk s n e i j) [ true ↦ tiles m s n e (suc i) (j + span s j) | false ↦ false ]
 
--- node n is right by itself and its subtree lies within the sheet
-unfoldable pub selfOk : List ℕ → ℕ → Bool
-selfOk s n = fieldsOk s n && leb 1 (span s n) && leb (n + span s n) (nodeCount s)
+-- node n is right by itself and its subtree lies within m nodes
+unfoldable pub selfOk : List ℕ → ℕ → ℕ → Bool
+selfOk s n m = fieldsOk s n && leb 1 (span s n) && leb (n + span s n) m
 
 -- node n is right, and so are its children's places
 unfoldable pub nodeOk : List ℕ → ℕ → Bool
-nodeOk s n = elim (selfOk s n) [ true ↦ tiles (count s n) s n (n + span s n) 0 (n + 1) | false ↦ false ]
+nodeOk s n = elim (selfOk s n (nodeCount s)) [ true ↦ tiles (count s n) s n (n + span s n) 0 (n + 1) | false ↦ false ]
 
 -- node 0 is an expression or a Switch, and its subtree is the whole sheet
 unfoldable pub rootOk : List ℕ → Bool
 rootOk s = (expression (kind s 0) || eqb (kind s 0) 19) && eqb (span s 0) (nodeCount s)
 
+-- every node is right
+unfoldable pub nodesOk : List ℕ → Bool
+nodesOk s = allBelow (nodeCount s) (nodeOk s)
+
 -- nothing of refusal 2
 unfoldable pub shapeOk : List ℕ → Bool
-shapeOk s = elim (rootOk s) [ true ↦ allBelow (nodeCount s) (nodeOk s) | false ↦ false ]
+shapeOk s = elim (rootOk s) [ true ↦ nodesOk s | false ↦ false ]

@@ -1,1 +1,346 @@
-// x
+// Refusal 2: node kind, shape or field wrong.
+ghost use mathlib.Core.Path.{_≡_};
+ghost use Prim.Native.Nat.{_+_, _*_, _<_, _≤_};
+ghost use Rattle.sheet.specs.Node as nodes;
+ghost use Rattle.shape.specs.Kinds as kinds;
+ghost use Rattle.shape.specs.Shape as shape;
+use sheet::count;
+use sheet::field_a;
+use sheet::field_b;
+use sheet::field_c;
+use sheet::kind;
+use sheet::node_count;
+use sheet::span;
+
+// any 32-bit word
+const ANY: u32 = 0xffff_ffff;
+
+// For each kind from 0 on: the least and the greatest count of children, and the greatest a, b and c. Kind 0 is no kind.
+const BOUNDS: [u32; 130] = [
+    1,
+    0,
+    0,
+    0,
+    0,
+    0,
+    0,
+    1,
+    0,
+    0,
+    0,
+    0,
+    0,
+    0,
+    0,
+    0,
+    0,
+    ANY,
+    ANY,
+    0,
+    0,
+    0,
+    ANY,
+    ANY,
+    0,
+    0,
+    0,
+    ANY,
+    0,
+    0,
+    0,
+    0,
+    ANY,
+    0,
+    0,
+    0,
+    ANY,
+    0,
+    0,
+    0,
+    0,
+    ANY,
+    0,
+    0,
+    0,
+    0,
+    0,
+    ANY,
+    0,
+    0,
+    0,
+    0,
+    0,
+    0,
+    0,
+    0,
+    0,
+    ANY,
+    ANY,
+    ANY,
+    0,
+    ANY,
+    ANY,
+    0,
+    0,
+    0,
+    ANY,
+    ANY,
+    1,
+    65535,
+    2,
+    2,
+    3,
+    0,
+    0,
+    2,
+    2,
+    3,
+    0,
+    0,
+    1,
+    ANY,
+    0,
+    0,
+    0,
+    1,
+    ANY,
+    0,
+    0,
+    0,
+    1,
+    ANY,
+    0,
+    0,
+    0,
+    1,
+    ANY,
+    ANY,
+    ANY,
+    ANY,
+    1,
+    ANY,
+    0,
+    0,
+    0,
+    2,
+    2,
+    1,
+    ANY,
+    0,
+    0,
+    0,
+    ANY,
+    0,
+    0,
+    0,
+    0,
+    0,
+    0,
+    0,
+    0,
+    0,
+    0,
+    0,
+    0,
+    0,
+    0,
+    0,
+    0,
+    0,
+];
+
+// The kinds are 1 to 25.
+const LAST_KIND: u32 = 25;
+
+// Bound `f` of kind `k`: 0 least count, 1 greatest count, 2 a, 3 b, 4 c.
+fn bound(k: u32, f: u32) -> u32
+    ensures { λ r. ⌜ r ≡ kinds.bound k f ⌝ }
+{
+    let at = 5 * (k as usize) + (f as usize);
+    if at < 130 { BOUNDS[at] } else { 0 }
+}
+
+// A Unicode scalar value.
+fn scalar(x: u32) -> bool
+    ensures { λ r. ⌜ r ≡ kinds.scalar x ⌝ }
+{
+    (x < 0xd800) | ((0xdfff < x) & (x < 0x11_0000))
+}
+
+// A kind that may stand where an expression is wanted.
+fn expression(k: u32) -> bool
+    ensures { λ r. ⌜ r ≡ kinds.expression k ⌝ }
+{
+    ((1 <= k) & (k <= 18)) | ((23 <= k) & (k <= 25))
+}
+
+// A kind that may be a Case's value: Int, Char or String.
+fn case_value(k: u32) -> bool
+    ensures { λ r. ⌜ r ≡ kinds.caseValue k ⌝ }
+{
+    (k == 3) | (k == 5) | (k == 6)
+}
+
+// Kind `k` may stand as child `i` of a Switch of `blocks` blocks and `cases` cases.
+fn switch_child(blocks: u32, cases: u32, i: u32, k: u32) -> bool
+    ensures { λ r. ⌜ r ≡ kinds.switchChild blocks cases i k ⌝ }
+{
+    let pairs = 2 * (blocks as u64);
+    let at = i as u64;
+    if at <= pairs {
+        return expression(k);
+    }
+    if at <= pairs + (cases as u64) {
+        return k == 20;
+    }
+    k == 21
+}
+
+// Kind `k` may stand as child `i` of a Case.
+fn case_child(i: u32, k: u32) -> bool
+    ensures { λ r. ⌜ r ≡ kinds.caseChild i k ⌝ }
+{
+    if i == 0 {
+        return case_value(k);
+    }
+    k == 22
+}
+
+// Kind `k` may stand as child `i` of a node of kind `p` whose fields are `a` and `b`.
+fn child_kind(p: u32, a: u32, b: u32, i: u32, k: u32) -> bool
+    ensures { λ r. ⌜ r ≡ kinds.childKind p a b i k ⌝ }
+{
+    if p == 19 {
+        return switch_child(a, b, i, k);
+    }
+    if p == 20 {
+        return case_child(i, k);
+    }
+    if p == 21 {
+        return k == 3;
+    }
+    expression(k)
+}
+
+// The fields of a node of kind `k`, with `m` children, are within the kind's bounds.
+fn within_bounds(k: u32, m: u32, a: u32, b: u32, c: u32) -> bool
+    ensures { λ r. ⌜ r ≡ shape.withinBounds k m a b c ⌝ }
+{
+    let least = bound(k, 0);
+    let most = bound(k, 1);
+    let most_a = bound(k, 2);
+    let most_b = bound(k, 3);
+    let most_c = bound(k, 4);
+    (1 <= k)
+        & (k <= LAST_KIND)
+        & (least <= m)
+        & (m <= most)
+        & (a <= most_a)
+        & (b <= most_b)
+        & (c <= most_c)
+}
+
+// A Char is a scalar value, and a Switch has a subject, its blocks and its cases.
+fn own_rule(k: u32, m: u32, a: u32, b: u32) -> bool
+    ensures { λ r. ⌜ r ≡ shape.ownRule k m a b ⌝ }
+{
+    let wanted = 1 + 2 * (a as u64) + (b as u64);
+    ((k != 5) | scalar(a)) & ((k != 19) | (wanted <= (m as u64)))
+}
+
+// Node `n` has a kind, and a count and fields that fit it.
+fn fields_ok(s: &[u8], n: u32) -> bool
+    ensures { λ r. ⌜ r ≡ shape.fieldsOk (now (s .entry)) n ⌝ }
+{
+    let k = kind(s, n);
+    let m = count(s, n);
+    let a = field_a(s, n);
+    let b = field_b(s, n);
+    let c = field_c(s, n);
+    within_bounds(k, m, a, b, c) & own_rule(k, m, a, b)
+}
+
+// Node `n` is right by itself and its subtree lies within `m` nodes.
+fn self_ok(s: &[u8], n: u32, m: u32) -> bool
+    ensures { λ r. ⌜ r ≡ shape.selfOk (now (s .entry)) n m ⌝ }
+{
+    let w = span(s, n);
+    let end = (n as u64) + (w as u64);
+    fields_ok(s, n) & (1 <= w) & (end <= (m as u64))
+}
+
+// Node 0 is an expression or a Switch, and its subtree is the whole sheet.
+fn root_ok(s: &[u8]) -> bool
+    ensures { λ r. ⌜ r ≡ shape.rootOk (now (s .entry)) ⌝ }
+{
+    let k = kind(s, 0);
+    (expression(k) | (k == 19)) & (span(s, 0) == node_count(s))
+}
+
+// Node `j` may be child `i` of a node of kind `p` with fields `a` and `b`, and its subtree ends at `e` or before.
+fn child_ok(s: &[u8], p: u32, a: u32, b: u32, e: u32, i: u32, j: u32) -> bool
+    ensures { λ r. ⌜ r ≡ shape.childFits (now (s .entry)) p a b e i j ⌝ }
+{
+    let w = span(s, j);
+    let end = (j as u64) + (w as u64);
+    (1 <= w) & (end <= (e as u64)) & child_kind(p, a, b, i, kind(s, j))
+}
+
+// The children of node `n` tile the nodes from behind it up to `e`.
+fn tiles(s: &[u8], n: u32, e: u32) -> bool
+    requires { ⌜ n + 1 ≤ e ⌝ }
+    ensures { λ r. ⌜ r ≡ shape.tiles (nodes.count (now (s .entry)) n) (now (s .entry)) n e 0 (n + 1) ⌝ }
+{
+    let p = kind(s, n);
+    let m = count(s, n);
+    let a = field_a(s, n);
+    let b = field_b(s, n);
+    let mut i: u32 = 0;
+    let mut j: u32 = n + 1;
+    while i < m {
+        if child_ok(s, p, a, b, e, i, j) {
+            j += span(s, j);
+            i += 1;
+        } else {
+            return false;
+        }
+    }
+    j == e
+}
+
+// Node `n` is right, and so are its children's places.
+fn node_ok(s: &[u8], n: u32) -> bool
+    ensures { λ r. ⌜ r ≡ shape.nodeOk (now (s .entry)) n ⌝ }
+{
+    let m = node_count(s);
+    if self_ok(s, n, m) {
+        return tiles(s, n, n + span(s, n));
+    }
+    false
+}
+
+// Nothing of refusal 2.
+pub fn shape_ok(s: &[u8]) -> bool
+    ensures { λ r. ⌜ r ≡ shape.shapeOk (now (s .entry)) ⌝ }
+{
+    if root_ok(s) {
+        return nodes_ok(s);
+    }
+    false
+}
+
+// Every node is right.
+fn nodes_ok(s: &[u8]) -> bool
+    ensures { λ r. ⌜ r ≡ shape.nodesOk (now (s .entry)) ⌝ }
+{
+    let m = node_count(s);
+    let mut n: u32 = 0;
+    while n < m {
+        if node_ok(s, n) {
+            n += 1;
+        } else {
+            return false;
+        }
+    }
+    true
+}

@@ -9,8 +9,11 @@ ghost use Rattle.sheet.specs.Text as texts;
 ghost use Rattle.sheet.specs.Start as starts;
 
 pub mod limits;
-use limits::{HEADER_WORDS, NODE_WORDS};
-use words::{part, word_at};
+
+use limits::HEADER_WORDS;
+use limits::NODE_WORDS;
+use words::part;
+use words::word_at;
 
 // The sizes.
 pub fn node_count(s: &[u8]) -> u32

@@ -8,8 +8,11 @@ pub const NODE_WORDS: usize = 6;
 
 // greatest sizes
 pub const MAX_NODES: u32 = 131072;
+
 pub const MAX_TEXTS: u32 = 65536;
+
 pub const MAX_BYTES: u32 = 1048576;
+
 pub const MAX_LOCALS: u32 = 65535;
 
 // greatest depth of the tree; node 0 is at depth 1

@@ -3,9 +3,16 @@ ghost use mathlib.Core.Path.{_≡_};
 ghost use Prim.Native.Nat.{_+_, _*_, _<_};
 ghost use Rattle.sheet.specs.Layout.{endAt};
 ghost use Rattle.sizes.specs.Sizes as sizes;
-
-use sheet::limits::{MAX_BYTES, MAX_LOCALS, MAX_NODES, MAX_TEXTS};
-use sheet::{byte_count, bytes_at, local_count, locals_at, node_count, text_count};
+use sheet::byte_count;
+use sheet::bytes_at;
+use sheet::limits::MAX_BYTES;
+use sheet::limits::MAX_LOCALS;
+use sheet::limits::MAX_NODES;
+use sheet::limits::MAX_TEXTS;
+use sheet::local_count;
+use sheet::locals_at;
+use sheet::node_count;
+use sheet::text_count;
 use words::byte;
 
 // Each size is within its limit.

@@ -1,2 +1,4 @@
+pub mod Lazy
 pub mod Same
+pub mod SameLaws
 pub mod Keyword

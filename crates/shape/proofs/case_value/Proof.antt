@@ -1,0 +1,15 @@
+-- `shape::case_value` meets its contract: the test is the definition's.
+use mathlib.Core.Path.{refl}
+use Rattle.shape.specs.Kinds.{caseValue}
+use Rattle.shape.proofs.case_value.Statement.{statement}
+use Rattle.shape.proofs.case_value.Tie as tie
+use Rattle.shape.proofs.case_value.Reads as reads
+use Rattle.shape.proofs.case_value.Lts as lts
+
+-- src/lib.rt:177:1
+returns : tie.Need-returns
+unfolding caseValue
+returns c = refl
+
+pub case-value-spec : {M : Type 1} → statement M
+case-value-spec = tie.close (tie.spec returns)
