@@ -4,3 +4,5 @@ pub mod Node
 pub mod Text
 pub mod Start
 pub mod StartLaws
+pub mod Walk
+pub mod WalkLaws

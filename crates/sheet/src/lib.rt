@@ -7,6 +7,7 @@ ghost use Rattle.sheet.specs.Layout.{nodeCount, textCount, byteCount, lo
 ghost use Rattle.sheet.specs.Node as nodes;
 ghost use Rattle.sheet.specs.Text as texts;
 ghost use Rattle.sheet.specs.Start as starts;
+ghost use Rattle.sheet.specs.Walk as walks;
 
 pub mod limits;
 
@@ -183,4 +184,17 @@ pub fn text(s: &[u8], t: u32) -> &[u8]
     let at = 4 * bytes_at(s) + (text_start(s, t) as usize);
     let len = text_length(s, t) as usize;
     part(s, at, len)
+}
+
+// The sibling `m` places after node `j`.
+pub fn skip(s: &[u8], m: u32, j: u32) -> u32
+    ensures { λ r. ⌜ r ≡ walks.skip (now (s .entry)) m j ⌝ }
+{
+    let mut i: u32 = 0;
+    let mut at = j;
+    while i < m {
+        at = next(s, at);
+        i += 1;
+    }
+    at
 }

@@ -1,0 +1,46 @@
+-- Laws of walks over siblings: m in all, of which i are passed, with node j next.
+use Prim.Native.Nat.{ℕ, zero, suc, _+_, _-_, _<_, _≤_}
+use mathlib.Core.Path.{_≡_, refl, ap, _∙_}
+use mathlib.Core.Bool.{Bool, true, false}
+use mathlib.Core.List.{List}
+use native.Mathlib.Omega.{arith}
+use Rattle.sheet.specs.Node.{next}
+use Rattle.sheet.specs.Walk.{siblings, skip}
+
+-- what is left, when one more is passed
+left-one : (m i : ℕ) → i < m → m - i ≡ suc (m - (i + 1))
+left-one m i h = omega arith
+
+left-none : (m i : ℕ) → m ≤ i → m - i ≡ 0
+left-none m i h = omega arith
+
+module _ (P : ℕ → Bool) (s : List ℕ) where
+  sibling-passes : (l j : ℕ) → P j ≡ true → siblings P s (suc l) j ≡ siblings P s l (next s j)
+  unfolding siblings
+  sibling-passes l j h = rw (h, siblings)
+
+  sibling-fails : (l j : ℕ) → P j ≡ false → siblings P s (suc l) j ≡ false
+  unfolding siblings
+  sibling-fails l j h = rw (h, siblings)
+
+  pub siblings-more : (m i j : ℕ) → i < m → P j ≡ true → siblings P s (m - i) j ≡ siblings P s (m - (i + 1)) (next s j)
+  siblings-more m i j h p = ap (λ l. siblings P s l j) (left-one m i h) ∙ sibling-passes (m - (i + 1)) j p
+
+  pub siblings-fail : (m i j : ℕ) → i < m → P j ≡ false → siblings P s (m - i) j ≡ false
+  siblings-fail m i j h p = ap (λ l. siblings P s l j) (left-one m i h) ∙ sibling-fails (m - (i + 1)) j p
+
+  pub siblings-done : (m i j : ℕ) → m ≤ i → siblings P s (m - i) j ≡ true
+  unfolding siblings
+  siblings-done m i j h = ap (λ l. siblings P s l j) (left-none m i h)
+
+module _ (s : List ℕ) where
+  skip-one : (l j : ℕ) → skip s (suc l) j ≡ skip s l (next s j)
+  unfolding skip
+  skip-one l j = refl
+
+  pub skip-more : (m i j : ℕ) → i < m → skip s (m - i) j ≡ skip s (m - (i + 1)) (next s j)
+  skip-more m i j h = ap (λ l. skip s l j) (left-one m i h) ∙ skip-one (m - (i + 1)) j
+
+  pub skip-done : (m i j : ℕ) → m ≤ i → skip s (m - i) j ≡ j
+  unfolding skip
+  skip-done m i j h = ap (λ l. skip s l j) (left-none m i h)
