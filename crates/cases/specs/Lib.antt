@@ -1,5 +1,11 @@
 pub mod Excess
+pub mod ExcessLaws
 pub mod Range
+pub mod RangeLaws
 pub mod Points
+pub mod PointsLaws
 pub mod Split
+pub mod JoinLaws
+pub mod SplitRight
+pub mod SplitLaws
 pub mod Rows

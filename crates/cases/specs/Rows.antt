@@ -7,7 +7,7 @@ use Rattle.text.specs.Same.{same}
 use Rattle.cases.specs.Excess.{excess}
 use Rattle.cases.specs.Range.{Range, inside, blocksWhere}
 use Rattle.cases.specs.Points.{points, insert, sortOnto, sort, dedupAfter, dedup, cuts}
-use Rattle.cases.specs.Split.{Entry, atoms, covers, piece, opened, join, pieces, split}
+use Rattle.cases.specs.Split.{Entry, atomsFrom, atoms, covers, piece, opened, join, pieces, split}
 
 -- the small number n, the least and the greatest integer
 unfoldable pub small : ℕ → ℕ
@@ -49,5 +49,5 @@ rows =
     ∷ []
 
 pub rows-right : map (λ (r : Row). split (r .ranges)) rows ≡ map (λ (r : Row). r .entries) rows
-unfolding small least greatest range entry rows excess inside blocksWhere points insert sortOnto sort dedupAfter dedup cuts same atoms covers piece opened join pieces split
+unfolding small least greatest range entry rows excess inside blocksWhere points insert sortOnto sort dedupAfter dedup cuts same atomsFrom atoms covers piece opened join pieces split
 rows-right = refl

@@ -29,10 +29,14 @@ pub data Atom : Type 0 where
   point : ℕ → Atom
   between : ℕ → ℕ → Atom
 
+-- each point, and what lies between it and the next; p is the first
+unfoldable pub atomsFrom : ℕ → List ℕ → List Atom
+atomsFrom p [] = point p ∷ []
+atomsFrom p (q ∷ ps) = point p ∷ between p q ∷ atomsFrom q ps
+
 unfoldable pub atoms : List ℕ → List Atom
 atoms [] = []
-atoms (p ∷ []) = point p ∷ []
-atoms (p ∷ q ∷ ps) = point p ∷ between p q ∷ atoms (q ∷ ps)
+atoms (p ∷ ps) = atomsFrom p ps
 
 -- a range has the whole of a piece or nothing of it, since both its ends are points
 unfoldable pub covers : Atom → Range → Bool

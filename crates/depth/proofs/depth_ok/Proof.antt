@@ -1,0 +1,20 @@
+-- `depth::depth_ok` meets its contract: node 0 is at depth 1.
+use Rattle.depth.specs.Depth.{depthOk}
+use borrow.Author.Needs.{needs}
+use Rattle.depth.proofs.depth_ok.Statement.{statement}
+use Rattle.depth.proofs.depth_ok.Tie as tie
+use Rattle.depth.proofs.depth_ok.Reads as reads
+use Rattle.depth.proofs.depth_ok.Lts as lts
+use Rattle.depth.proofs.within.Reads as within-reads
+
+-- src/lib.rt:33:5
+within-requires : tie.Need-within-requires
+within-requires c κs = search needs
+
+-- src/lib.rt:30:1
+returns : tie.Need-returns
+unfolding depthOk
+returns c = cc
+
+pub depth-ok-spec : {M : Type 1} → statement M
+depth-ok-spec = tie.close (tie.spec within-requires returns)

@@ -1,0 +1,34 @@
+// Refusal 5: depth of the tree above its limit. At most as many levels of calls as the limit has.
+ghost use mathlib.Core.Path.{_≡_};
+ghost use Rattle.depth.specs.Depth as depths;
+
+use sheet::limits::MAX_DEPTH;
+use sheet::{child, count, next};
+
+// The subtree of node `n` has at most `left` levels.
+fn within(left: u32, s: &[u8], n: u32) -> bool
+    ensures { λ r. ⌜ r ≡ depths.within left (now (s .entry)) n ⌝ }
+{
+    if left == 0 {
+        return false;
+    }
+    let m = count(s, n);
+    let mut i: u32 = 0;
+    let mut j = child(n);
+    while i < m {
+        if within(left - 1, s, j) {
+            j = next(s, j);
+            i += 1;
+        } else {
+            return false;
+        }
+    }
+    true
+}
+
+// Nothing of refusal 5.
+pub fn depth_ok(s: &[u8]) -> bool
+    ensures { λ r. ⌜ r ≡ depths.depthOk (now (s .entry)) ⌝ }
+{
+    within(MAX_DEPTH, s, 0)
+}
