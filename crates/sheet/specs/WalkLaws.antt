@@ -4,6 +4,7 @@ use mathlib.Core.Path.{_≡_, refl, ap, _∙_}
 use mathlib.Core.Bool.{Bool, true, false}
 use mathlib.Core.List.{List}
 use native.Mathlib.Omega.{arith}
+use native.Mathlib.Nat.{zero-add, suc-add}
 use Rattle.sheet.specs.Node.{next}
 use Rattle.sheet.specs.Walk.{siblings, skip}
 
@@ -44,3 +45,8 @@ module _ (s : List ℕ) where
   pub skip-done : (m i j : ℕ) → m ≤ i → skip s (m - i) j ≡ j
   unfolding skip
   skip-done m i j h = ap (λ l. skip s l j) (left-none m i h)
+
+  pub skip-add : (k m j : ℕ) → skip s (k + m) j ≡ skip s m (skip s k j)
+  unfolding skip
+  skip-add zero m j = ap (λ l. skip s l j) (zero-add m)
+  skip-add (suc k) m j = ap (λ l. skip s l j) (suc-add k m) ∙ skip-add k m (next s j)

@@ -2,3 +2,12 @@ pub mod Lazy
 pub mod Same
 pub mod SameLaws
 pub mod Keyword
+pub mod Utf8
+pub mod RowLaws
+pub mod Char
+pub mod Utf8Laws
+pub mod CharLaws
+pub mod ReadLaws
+pub mod Rfc3629
+pub mod Rfc3629Laws
+pub mod Utf8Examples

@@ -18,7 +18,7 @@ abbrev μ-loop : tie.MeasureT-loop
 returns : tie.Need-returns Inv-loop μ-loop
 returns c =
     let a = c .before .args in
-    sym (same-lengths (a .a .now) (a .b .now) (c .if1 .taken))
+    sym (same-lengths (a .a .now) (a .b .now) (λ e. omega arith))
 
 loop-holds : tie.Need-loop-holds Inv-loop μ-loop
 loop-holds c = search needs
@@ -49,7 +49,7 @@ loop-again c =
 returns-3 : tie.Need-returns-3 Inv-loop μ-loop
 returns-3 c =
     let a = c .before .before .before .args in
-    sym (same-each (a .a .now) (a .b .now) (c .before .before .if1 .left) (λ k h. c .before .loop .inv .1 k (omega arith)))
+    sym (same-each (a .a .now) (a .b .now) (omega arith) (λ k h. c .before .loop .inv .1 k (omega arith)))
 
 pub same-bytes-spec : {M : Type 1} → statement M
 same-bytes-spec =

@@ -1,0 +1,15 @@
+-- `support::refused_kind` meets its contract: the tests are the definition's.
+use mathlib.Core.Path.{refl}
+use Rattle.support.specs.Support.{refusedKind}
+use Rattle.support.proofs.refused_kind.Statement.{statement}
+use Rattle.support.proofs.refused_kind.Tie as tie
+use Rattle.support.proofs.refused_kind.Reads as reads
+use Rattle.support.proofs.refused_kind.Lts as lts
+
+-- src/lib.rt:9:1
+returns : tie.Need-returns
+unfolding refusedKind
+returns c = refl
+
+pub refused-kind-spec : {M : Type 1} → statement M
+refused-kind-spec = tie.close (tie.spec returns)

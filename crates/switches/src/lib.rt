@@ -1,0 +1,141 @@
+// Refusals 6 and 7, of a Switch: too many entries; two cases of equal kind and value.
+ghost use mathlib.Core.Path.{_≡_};
+ghost use Prim.Native.Nat.{_+_, _≤_};
+ghost use Rattle.sheet.specs.Walk as walks;
+ghost use Rattle.switches.specs.Switch as switches;
+
+use sheet::limits::MAX_ENTRIES;
+use sheet::{child, count, field_a, field_b, kind, next, skip};
+use text::same_bytes;
+
+// Node 0 is a Switch.
+pub fn is_switch(s: &[u8]) -> bool
+    ensures { λ r. ⌜ r ≡ switches.isSwitch (now (s .entry)) ⌝ }
+{
+    kind(s, 0) == 19
+}
+
+// The first Case, if there is one, of a Switch whose counts are within their limits.
+pub fn first_case(s: &[u8]) -> u32
+    ensures { λ r. ⌜ r ≡ switches.firstCase (now (s .entry)) ⌝ }
+{
+    let blocks = field_a(s, 0);
+    let j = skip(s, blocks, child(0));
+    next(s, skip(s, blocks, j))
+}
+
+// Case `j` has few enough Refs.
+fn refs_ok(s: &[u8], j: u32) -> bool
+    ensures { λ r. ⌜ r ≡ switches.refsOk (now (s .entry)) j ⌝ }
+{
+    count(s, j) <= 1 + MAX_ENTRIES
+}
+
+// The blocks, cases and ranges are few enough.
+fn counts_ok(s: &[u8]) -> bool
+    ensures { λ r. ⌜ r ≡ switches.countsOk (now (s .entry)) ⌝ }
+{
+    let blocks = field_a(s, 0);
+    let cases = field_b(s, 0);
+    let others = 1 + 2 * (blocks as u64) + (cases as u64);
+    let few = (count(s, 0) as u64) <= others + (MAX_ENTRIES as u64);
+    (blocks <= MAX_ENTRIES) & (cases <= MAX_ENTRIES) & few
+}
+
+// Each of `m` Cases from node `at` on has few enough Refs.
+fn all_refs_ok(s: &[u8], m: u32, at: u32) -> bool
+    ensures { λ r. ⌜ r ≡ walks.siblings (switches.refsOk (now (s .entry))) (now (s .entry)) m at ⌝ }
+{
+    let mut i: u32 = 0;
+    let mut j = at;
+    while i < m {
+        if refs_ok(s, j) {
+            j = next(s, j);
+            i += 1;
+        } else {
+            return false;
+        }
+    }
+    true
+}
+
+// Nothing of refusal 6.
+pub fn entries_ok(s: &[u8]) -> bool
+    ensures { λ r. ⌜ r ≡ switches.entriesOk (now (s .entry)) ⌝ }
+{
+    if is_switch(s) {
+        if counts_ok(s) {
+            return all_refs_ok(s, field_b(s, 0), first_case(s));
+        }
+        return false;
+    }
+    true
+}
+
+// Nodes `v` and `w` have equal kind and value.
+fn same_value(s: &[u8], v: u32, w: u32) -> bool
+    ensures { λ r. ⌜ r ≡ switches.sameValue (now (s .entry)) v w ⌝ }
+{
+    let k = kind(s, v);
+    if k == kind(s, w) {
+        let a = field_a(s, v);
+        let b = field_a(s, w);
+        if k == 6 {
+            return same_bytes(sheet::text(s, a), sheet::text(s, b));
+        }
+        return (a == b) & (field_b(s, v) == field_b(s, w));
+    }
+    false
+}
+
+// The Cases `p` and `q` differ.
+fn apart(s: &[u8], p: u32, q: u32) -> bool
+    ensures { λ r. ⌜ r ≡ switches.apart (now (s .entry)) p q ⌝ }
+{
+    !same_value(s, child(p), child(q))
+}
+
+// The Case `p` differs from each of `m` Cases from node `at` on.
+fn apart_from(s: &[u8], p: u32, m: u32, at: u32) -> bool
+    ensures { λ r. ⌜ r ≡ walks.siblings (switches.apart (now (s .entry)) p) (now (s .entry)) m at ⌝ }
+{
+    let mut i: u32 = 0;
+    let mut j = at;
+    while i < m {
+        if apart(s, p, j) {
+            j = next(s, j);
+            i += 1;
+        } else {
+            return false;
+        }
+    }
+    true
+}
+
+// `m` Cases from node `at` on differ, each from each.
+fn distinct(s: &[u8], m: u32, at: u32) -> bool
+    ensures { λ r. ⌜ r ≡ switches.distinct (now (s .entry)) m at ⌝ }
+{
+    let mut left = m;
+    let mut j = at;
+    while 0 < left {
+        let q = next(s, j);
+        if apart_from(s, j, left - 1, q) {
+            j = q;
+            left -= 1;
+        } else {
+            return false;
+        }
+    }
+    true
+}
+
+// Nothing of refusal 7.
+pub fn cases_ok(s: &[u8]) -> bool
+    ensures { λ r. ⌜ r ≡ switches.casesOk (now (s .entry)) ⌝ }
+{
+    if is_switch(s) {
+        return distinct(s, field_b(s, 0), first_case(s));
+    }
+    true
+}
