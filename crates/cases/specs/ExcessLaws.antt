@@ -2,20 +2,20 @@
 use Prim.Native.Nat.{ℕ, _^_, _<_}
 use mathlib.Core.Path.{_≡_}
 use native.Mathlib.Omega.{arith}
-use Rattle.cases.specs.Excess.{excess, lowWord, highWord}
+use Rattle.cases.specs.Excess.{shifted, excess, lowWord, highWord}
 
 pub excess-below : (lo hi : ℕ) → excess lo hi < 2 ^ 64
-unfolding excess
+unfolding shifted excess
 excess-below lo hi = omega arith
 
 pub low-excess : (lo hi : ℕ) → lo < 2 ^ 32 → hi < 2 ^ 32 → lowWord (excess lo hi) ≡ lo
-unfolding excess lowWord
+unfolding shifted excess lowWord
 low-excess lo hi h k = omega arith
 
 pub high-excess : (lo hi : ℕ) → lo < 2 ^ 32 → hi < 2 ^ 32 → highWord (excess lo hi) ≡ hi
-unfolding excess highWord
+unfolding shifted excess highWord
 high-excess lo hi h k = omega arith
 
 pub excess-words : (e : ℕ) → e < 2 ^ 64 → excess (lowWord e) (highWord e) ≡ e
-unfolding excess lowWord highWord
+unfolding shifted excess lowWord highWord
 excess-words e h = omega arith

@@ -1,9 +1,14 @@
 pub mod Excess
 pub mod ExcessLaws
+pub mod Held
+pub mod HeldLaws
 pub mod Range
 pub mod RangeLaws
 pub mod Points
 pub mod PointsLaws
+pub mod InsertLaws
+pub mod SortLaws
+pub mod DedupLaws
 pub mod Split
 pub mod JoinLaws
 pub mod SplitRight

@@ -4,7 +4,7 @@ use mathlib.Core.Path.{_≡_, refl}
 use mathlib.Core.Bool.{Bool, true, false}
 use mathlib.Core.List.{List, [], _∷_, map}
 use Rattle.text.specs.Same.{same}
-use Rattle.cases.specs.Excess.{excess}
+use Rattle.cases.specs.Excess.{shifted, excess}
 use Rattle.cases.specs.Range.{Range, inside, blocksWhere}
 use Rattle.cases.specs.Points.{points, insert, sortOnto, sort, dedupAfter, dedup, cuts}
 use Rattle.cases.specs.Split.{Entry, atomsFrom, atoms, covers, piece, opened, join, pieces, split}
@@ -49,5 +49,5 @@ rows =
     ∷ []
 
 pub rows-right : map (λ (r : Row). split (r .ranges)) rows ≡ map (λ (r : Row). r .entries) rows
-unfolding small least greatest range entry rows excess inside blocksWhere points insert sortOnto sort dedupAfter dedup cuts same atomsFrom atoms covers piece opened join pieces split
+unfolding small least greatest range entry rows shifted excess inside blocksWhere points insert sortOnto sort dedupAfter dedup cuts same atomsFrom atoms covers piece opened join pieces split
 rows-right = refl

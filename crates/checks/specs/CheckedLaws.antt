@@ -1,0 +1,56 @@
+-- Laws of the check: one for each answer.
+use Prim.Native.Nat.{ℕ}
+use mathlib.Core.Path.{_≡_}
+use mathlib.Core.Bool.{true, false}
+use mathlib.Core.List.{List}
+use Rattle.sizes.specs.Sizes.{sizesOk}
+use Rattle.shape.specs.Shape.{shapeOk}
+use Rattle.texts.specs.Texts.{textsOk}
+use Rattle.numbers.specs.Numbers.{numbersOk}
+use Rattle.depth.specs.Depth.{depthOk}
+use Rattle.switches.specs.Switch.{entriesOk, casesOk}
+use Rattle.support.specs.Support.{supportedOk}
+use Rattle.checks.specs.Checked.{treeChecked, checked}
+use Rattle.checks.specs.declared.Verdict.{Verdict}
+use Rattle.checks.specs.declared.Verdict.the-variants.{Accepted, Size, Node, Text, Number, Depth, Entries, Repeated, Unsupported}
+
+module _ (s : List ℕ) where
+  pub says-1 : sizesOk s ≡ false → checked s ≡ Size
+  unfolding checked
+  says-1 a = rw (a, checked)
+
+  pub says-2 : sizesOk s ≡ true → shapeOk s ≡ false → checked s ≡ Node
+  unfolding checked
+  says-2 a b = rw (a, b, checked)
+
+  pub says-3 : sizesOk s ≡ true → shapeOk s ≡ true → textsOk s ≡ false → checked s ≡ Text
+  unfolding checked
+  says-3 a b c = rw (a, b, c, checked)
+
+  pub says-4 : sizesOk s ≡ true → shapeOk s ≡ true → textsOk s ≡ true → numbersOk s ≡ false → checked s ≡ Number
+  unfolding checked
+  says-4 a b c d = rw (a, b, c, d, checked)
+
+  pub goes-on : sizesOk s ≡ true → shapeOk s ≡ true → textsOk s ≡ true → numbersOk s ≡ true → checked s ≡ treeChecked s
+  unfolding checked
+  goes-on a b c d = rw (a, b, c, d, checked)
+
+  pub says-5 : depthOk s ≡ false → treeChecked s ≡ Depth
+  unfolding treeChecked
+  says-5 a = rw (a, treeChecked)
+
+  pub says-6 : depthOk s ≡ true → entriesOk s ≡ false → treeChecked s ≡ Entries
+  unfolding treeChecked
+  says-6 a b = rw (a, b, treeChecked)
+
+  pub says-7 : depthOk s ≡ true → entriesOk s ≡ true → casesOk s ≡ false → treeChecked s ≡ Repeated
+  unfolding treeChecked
+  says-7 a b c = rw (a, b, c, treeChecked)
+
+  pub says-8 : depthOk s ≡ true → entriesOk s ≡ true → casesOk s ≡ true → supportedOk s ≡ false → treeChecked s ≡ Unsupported
+  unfolding treeChecked
+  says-8 a b c d = rw (a, b, c, d, treeChecked)
+
+  pub says-0 : depthOk s ≡ true → entriesOk s ≡ true → casesOk s ≡ true → supportedOk s ≡ true → treeChecked s ≡ Accepted
+  unfolding treeChecked
+  says-0 a b c d = rw (a, b, c, d, treeChecked)

@@ -1,0 +1,79 @@
+// The check of a sheet: refusals 1 to 8 in ascending number. Any bytes are answered, nothing is written, and no memory is used but locals.
+ghost use mathlib.Core.Path.{_≡_};
+ghost use Rattle.checks.specs.Checked as answers;
+
+use depth::depth_ok;
+use numbers::numbers_ok;
+use shape::shape_ok;
+use sizes::sizes_ok;
+use support::supported_ok;
+use switches::{cases_ok, entries_ok};
+use texts::texts_ok;
+
+// What a check answers: the sheet is within the format, or the first cause that fits.
+pub enum Verdict {
+    Accepted,
+    Size,
+    Node,
+    Text,
+    Number,
+    Depth,
+    Entries,
+    Repeated,
+    Unsupported,
+}
+
+// The number of an answer: 0, or the refusal's.
+pub fn number(v: Verdict) -> u32
+    ensures { λ r. ⌜ r ≡ answers.numberOf v ⌝ }
+{
+    match v {
+        Verdict::Accepted => 0,
+        Verdict::Size => 1,
+        Verdict::Node => 2,
+        Verdict::Text => 3,
+        Verdict::Number => 4,
+        Verdict::Depth => 5,
+        Verdict::Entries => 6,
+        Verdict::Repeated => 7,
+        Verdict::Unsupported => 8,
+    }
+}
+
+// From refusal 5 on.
+fn tree(s: &[u8]) -> Verdict
+    ensures { λ r. ⌜ r ≡ answers.treeChecked (now (s .entry)) ⌝ }
+{
+    if depth_ok(s) {
+        if entries_ok(s) {
+            if cases_ok(s) {
+                if supported_ok(s) {
+                    return Verdict::Accepted;
+                }
+                return Verdict::Unsupported;
+            }
+            return Verdict::Repeated;
+        }
+        return Verdict::Entries;
+    }
+    Verdict::Depth
+}
+
+// The answer for any byte string.
+pub fn check(s: &[u8]) -> Verdict
+    ensures { λ r. ⌜ r ≡ answers.checked (now (s .entry)) ⌝ }
+{
+    if sizes_ok(s) {
+        if shape_ok(s) {
+            if texts_ok(s) {
+                if numbers_ok(s) {
+                    return tree(s);
+                }
+                return Verdict::Number;
+            }
+            return Verdict::Text;
+        }
+        return Verdict::Node;
+    }
+    Verdict::Size
+}
