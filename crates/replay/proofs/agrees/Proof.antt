@@ -1,0 +1,34 @@
+-- `replay::agrees` is safe: the part that is checked is as long as it says.
+use lib.Seq.{length-take-le}
+use mathlib.Core.Path.{sym}
+use borrow.Author.Needs.{needs}
+use Rattle.replay.proofs.agrees.Statement.{statement}
+use Rattle.replay.proofs.agrees.Tie as tie
+use Rattle.replay.proofs.agrees.Reads as reads
+use Rattle.replay.proofs.agrees.Lts as lts
+use Rattle.checks.proofs.check.Reads as check-reads
+use Rattle.checks.proofs.number.Reads as number-reads
+
+-- src/main.rt:16:45
+slice-aggregate-check : tie.Need-slice-aggregate-check
+slice-aggregate-check c = sym (length-take-le (c .before .before .before .args .len) (c .before .before .before .args .buf .now) (c .before .if1 .taken))
+
+-- src/main.rt:16:31
+check-requires : tie.Need-check-requires
+check-requires c κs = search needs
+
+-- src/main.rt:16:16
+number-requires : tie.Need-number-requires
+number-requires c κs = search needs
+
+-- src/main.rt:16:9
+returns : tie.Need-returns
+returns c = search needs
+
+-- src/main.rt:14:1
+returns-2 : tie.Need-returns-2
+returns-2 c = search needs
+
+pub agrees-spec : {M : Type 1} → statement M
+agrees-spec =
+    tie.close (tie.spec slice-aggregate-check check-requires number-requires returns returns-2)
