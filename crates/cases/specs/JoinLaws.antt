@@ -1,14 +1,13 @@
 -- Joining neighbours with equal block lists, and leaving out those with none, keeps the first match.
-use Prim.Native.Nat.{ℕ, _≤_, _<_}
+use Prim.Native.Nat.{ℕ, _≤_}
 use mathlib.Core.Path.{_≡_, refl, sym, _∙_, ap}
 use mathlib.Core.Bool.{Bool, true, false, true≢false}
 use mathlib.Core.Option.{Option, none, some}
 use mathlib.Core.List.{List, [], _∷_}
 use native.Mathlib.Omega.{arith}
 use native.Mathlib.Decide.{decLt}
-use lib.Dec.{eqb}
-use borrow.Author.Tests.{eqb-true}
 use Rattle.text.specs.Same.{same}
+use Rattle.text.specs.SameLaws.{same-true}
 use Rattle.cases.specs.RangeLaws.{Within, within-le, within-lt, inside-yes, inside-low, inside-high, inside-no}
 use Rattle.cases.specs.Split.{Entry, holds, firstMatch, stretch, opened, join}
 
@@ -86,17 +85,6 @@ unfoldable pub kept : List Entry → List Entry
 unfolding keptIf
 kept [] = []
 kept (e ∷ es) = keptIf (e .blocks) e (kept es)
-
-pub same-true : (xs ys : List ℕ) → same xs ys ≡ true → xs ≡ ys
-unfolding same
-same-true [] [] h = refl
-same-true [] (y ∷ ys) h = cc
-same-true (x ∷ xs) [] h = cc
-same-true (x ∷ xs) (y ∷ ys) h = by (eqb x y) refl (same-true xs ys)
-  where
-    by : (t : Bool) → eqb x y ≡ t → (same xs ys ≡ true → xs ≡ ys) → x ∷ xs ≡ y ∷ ys
-    by true e k = cc (eqb-true x y e, k (cc))
-    by false e k = cc
 
 -- an open run ends at t and has blocks
 abbrev Open : ℕ → Option Entry → Type 0

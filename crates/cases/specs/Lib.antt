@@ -2,6 +2,8 @@ pub mod Excess
 pub mod ExcessLaws
 pub mod Held
 pub mod HeldLaws
+pub mod OrderLaws
+pub mod WordLaws
 pub mod Range
 pub mod RangeLaws
 pub mod Points
@@ -13,4 +15,6 @@ pub mod Split
 pub mod JoinLaws
 pub mod SplitRight
 pub mod SplitLaws
+pub mod Piece
+pub mod PieceLaws
 pub mod Rows

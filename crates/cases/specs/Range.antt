@@ -10,6 +10,10 @@ pub record Range : Type 0 where
   pub inclusive : Bool
   pub block : ℕ
 
+-- a..b, or a..=b, with its block
+abbrev pub range : ℕ → ℕ → Bool → ℕ → Range
+range a b i k = record { from = a; to = b; inclusive = i; block = k }
+
 -- x is not below a, and below b or, if inclusive, not above b
 unfoldable pub inside : ℕ → ℕ → Bool → ℕ → Bool
 inside a b true x = leb a x && leb x b

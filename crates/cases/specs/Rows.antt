@@ -5,7 +5,7 @@ use mathlib.Core.Bool.{Bool, true, false}
 use mathlib.Core.List.{List, [], _∷_, map}
 use Rattle.text.specs.Same.{same}
 use Rattle.cases.specs.Excess.{shifted, excess}
-use Rattle.cases.specs.Range.{Range, inside, blocksWhere}
+use Rattle.cases.specs.Range.{Range, range, inside, blocksWhere}
 use Rattle.cases.specs.Points.{points, insert, sortOnto, sort, dedupAfter, dedup, cuts}
 use Rattle.cases.specs.Split.{Entry, atomsFrom, atoms, covers, piece, opened, join, pieces, split}
 
@@ -19,10 +19,7 @@ least = excess 0 0x8000_0000
 unfoldable pub greatest : ℕ
 greatest = excess 0xFFFF_FFFF 0x7FFF_FFFF
 
--- a..b and a..=b of a block, and as entries
-unfoldable pub range : ℕ → ℕ → Bool → ℕ → Range
-range a b i k = record { from = a; to = b; inclusive = i; block = k }
-
+-- an entry from a to b with the blocks ks
 unfoldable pub entry : ℕ → ℕ → Bool → List ℕ → Entry
 entry a b i ks = record { from = a; to = b; inclusive = i; blocks = ks }
 
@@ -49,5 +46,5 @@ rows =
     ∷ []
 
 pub rows-right : map (λ (r : Row). split (r .ranges)) rows ≡ map (λ (r : Row). r .entries) rows
-unfolding small least greatest range entry rows shifted excess inside blocksWhere points insert sortOnto sort dedupAfter dedup cuts same atomsFrom atoms covers piece opened join pieces split
+unfolding small least greatest entry rows shifted excess inside blocksWhere points insert sortOnto sort dedupAfter dedup cuts same atomsFrom atoms covers piece opened join pieces split
 rows-right = refl

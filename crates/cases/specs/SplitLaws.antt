@@ -1,7 +1,7 @@
 -- What else holds of the split: its entries ascend; each has blocks, which are blocks of the ranges, and its ends are end points of
 -- ranges; there are fewer than twice as many entries as cuts.
 use Prim.Native.Nat.{ℕ, _+_, _*_, _-_, _≤_}
-use mathlib.Core.Path.{_≡_, refl, _∙_}
+use mathlib.Core.Path.{_≡_, refl}
 use mathlib.Core.Bool.{Bool, true, false}
 use mathlib.Core.Logic.{⊎-elim}
 use mathlib.Core.Option.{Option, none, some}
@@ -9,12 +9,13 @@ use mathlib.Core.List.{List, [], _∷_, map, List·Memᴰ, List·Memᴰ·head, L
 use native.Mathlib.Omega.{arith}
 use lib.ListN.{length, length-map}
 use Rattle.text.specs.Same.{same}
+use Rattle.text.specs.SameLaws.{same-true}
 use Rattle.cases.specs.Range.{Range, blocksWhere}
-use Rattle.cases.specs.RangeLaws.{Within, within-le, where-yes, where-no}
+use Rattle.cases.specs.RangeLaws.{within-le, where-yes, where-no}
 use Rattle.cases.specs.Points.{points, cuts}
-use Rattle.cases.specs.PointsLaws.{Rising, Strict, cuts-strict, All, cuts-all}
-use Rattle.cases.specs.Split.{Entry, Atom, point, between, atomsFrom, atoms, covers, piece, stretch, opened, join, pieces, split}
-use Rattle.cases.specs.JoinLaws.{Chained, Filled, same-true, join-same, join-other}
+use Rattle.cases.specs.PointsLaws.{Strict, cuts-strict, All, cuts-all}
+use Rattle.cases.specs.Split.{Entry, point, between, atomsFrom, atoms, covers, piece, stretch, opened, join, pieces, split}
+use Rattle.cases.specs.JoinLaws.{Chained, Filled, join-same, join-other}
 use Rattle.cases.specs.SplitRight.{from-cuts-chained}
 
 -- ---- each entry
@@ -166,7 +167,7 @@ unfolding atomsFrom
 from-count p [] = refl
 from-count p (q ∷ ps) = omega (arith, from-count q ps)
 
-atoms-count : (cs : List ℕ) → length (atoms cs) ≡ 2 * length cs - 1
+pub atoms-count : (cs : List ℕ) → length (atoms cs) ≡ 2 * length cs - 1
 unfolding atoms
 atoms-count [] = refl
 atoms-count (p ∷ ps) = omega (arith, from-count p ps)

@@ -1,16 +1,16 @@
 -- The first entry of the split that contains an integer has the blocks of all ranges that contain it, in source order.
 use Prim.Native.Nat.{ℕ, _≤_, _<_}
 use mathlib.Core.Path.{_≡_, refl, sym, _∙_, ap}
-use mathlib.Core.Bool.{Bool, true, false, _&&_}
+use mathlib.Core.Bool.{true, false}
 use mathlib.Core.Logic.{_⊎_, inl, inr, ⊎-elim}
 use mathlib.Core.Option.{none}
-use mathlib.Core.List.{List, [], _∷_, map, List·Memᴰ, List·Memᴰ·head, List·Memᴰ·tail, List·Memᴰ·cases-cons, List·Memᴰ·eq-of-singleton}
+use mathlib.Core.List.{List, [], _∷_, map, List·Memᴰ, List·Memᴰ·cases-cons, List·Memᴰ·eq-of-singleton}
 use native.Mathlib.Omega.{arith}
 use native.Mathlib.Decide.{decLt}
 use lib.Dec.{leb}
 use borrow.Author.Tests.{leb-true, le-leb, lt-leb}
-use Rattle.cases.specs.Range.{Range, inside, contains, blocksWhere, containing}
-use Rattle.cases.specs.RangeLaws.{Within, within-le, within-lt, inside-yes, inside-low, inside-high, inside-no, and-left, and-right, and-both, no-right, where-same, where-none, where-less}
+use Rattle.cases.specs.Range.{Range, contains, blocksWhere, containing}
+use Rattle.cases.specs.RangeLaws.{within-le, within-lt, inside-yes, inside-no, and-left, and-right, no-right, where-same, where-none, where-less}
 use Rattle.cases.specs.Points.{points, cuts}
 use Rattle.cases.specs.PointsLaws.{Rising, Strict, cuts-strict, cuts-have, from-point, to-point}
 use Rattle.cases.specs.Split.{Entry, holds, firstMatch, point, between, atomsFrom, atoms, covers, piece, join, pieces, split}
