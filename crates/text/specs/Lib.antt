@@ -11,3 +11,4 @@ pub mod ReadLaws
 pub mod Rfc3629
 pub mod Rfc3629Laws
 pub mod Utf8Examples
+pub mod RunLaws

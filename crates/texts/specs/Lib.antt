@@ -1,2 +1,4 @@
 pub mod Texts
+pub mod Marks
+pub mod MarkLaws
 pub mod TextsLaws

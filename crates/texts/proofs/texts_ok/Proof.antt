@@ -1,61 +1,49 @@
--- `texts::texts_ok` meets its contract. The loop's invariant: each text passed is right. Assumes nothing.
-use Prim.Native.Nat.{_≤_, _-_}
-use mathlib.Core.Path.{_≡_, sym, _∙_}
-use mathlib.Core.Bool.{true}
+-- `texts::texts_ok` meets its contract: the marks that `keep` keeps of the text bytes are true, and `all_ok` goes by them. Assumes
+-- nothing.
+use Rattle.texts.specs.MarkLaws.{mark-none}
+use Rattle.texts.specs.TextsLaws.{bytes-marks}
 use borrow.Author.Needs.{needs}
-use native.Mathlib.Omega.{arith}
-use Rattle.words.specs.Count.{allBelow}
-use Rattle.words.specs.CountLaws.{all-none, all-more}
-use Rattle.texts.specs.Texts.{textOk}
-use Rattle.texts.specs.TextsLaws.{texts-fail, texts-pass}
 use Rattle.texts.proofs.texts_ok.Statement.{statement}
 use Rattle.texts.proofs.texts_ok.Tie as tie
 
-abbrev Inv-loop : tie.InvT-loop
-Inv-loop s n t₀ t = (t ≤ n) × (allBelow t (textOk s) ≡ true)
+bytes-at-requires : tie.Need-bytes-at-requires
+bytes-at-requires c κs = search needs
 
-abbrev μ-loop : tie.MeasureT-loop
-μ-loop s n t₀ t = n - t
+mul-part : tie.Need-mul-part
+mul-part c = search needs
 
-text-count-requires : tie.Need-text-count-requires Inv-loop μ-loop
-text-count-requires c κs = search needs
+byte-count-requires : tie.Need-byte-count-requires
+byte-count-requires c κs = search needs
 
-loop-holds : tie.Need-loop-holds Inv-loop μ-loop
-loop-holds c = (omega arith, all-none _)
+cast-part : tie.Need-cast-part
+cast-part c = search needs
 
-text-ok-requires : tie.Need-text-ok-requires Inv-loop μ-loop
-text-ok-requires c κs = search needs
+part-requires : tie.Need-part-requires
+part-requires c κs = search needs
 
-add-t : tie.Need-add-t Inv-loop μ-loop
-add-t c = omega arith
+keep-requires : tie.Need-keep-requires
+keep-requires c κs = mark-none _
 
-loop-less : tie.Need-loop-less Inv-loop μ-loop
-loop-less c = omega arith
+all-ok-requires : tie.Need-all-ok-requires
+all-ok-requires c κs =
+    let k = c .before in
+    let p = k .before .before in
+    let n = p .before in
+    let a = n .before .before .before .args in
+    bytes-marks (a .s .now) _ _ _ (n .before .bytes-at .ensures .0) _ (n .byte-count .ensures) (p .part .ensures) (k .keep .ensures)
 
-loop-again : tie.Need-loop-again Inv-loop μ-loop
-loop-again c =
-    let l = c .before .before .before in
-    (omega arith, all-more _ (l .loop .t) (l .loop .inv .1) (sym (c .before .text-ok .ensures) ∙ c .if1 .taken))
-
-returns : tie.Need-returns Inv-loop μ-loop
-returns c =
-    let l = c .before .before .before in
-    sym (texts-fail _ (l .loop .t) (omega arith) (sym (c .before .text-ok .ensures) ∙ c .if1 .left))
-
-returns-2 : tie.Need-returns-2 Inv-loop μ-loop
-returns-2 c = sym (texts-pass _ (c .before .loop .t) (omega arith) (c .before .loop .inv .1))
+returns : tie.Need-returns
+returns c = search needs
 
 pub texts-ok-spec : {M : Type 1} → statement M
 texts-ok-spec =
     tie.close
     (tie.spec
-    Inv-loop
-    μ-loop
-    text-count-requires
-    loop-holds
-    text-ok-requires
-    add-t
-    loop-less
-    loop-again
-    returns
-    returns-2)
+    bytes-at-requires
+    mul-part
+    byte-count-requires
+    cast-part
+    part-requires
+    keep-requires
+    all-ok-requires
+    returns)

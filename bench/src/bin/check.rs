@@ -1,0 +1,128 @@
+//! Times the proved check beside the Rust check on the same bytes, in one process.
+//!
+//! `check [--seconds S] [--sheets COUNT] [NAME...]`: S seconds for each workload (2); COUNT generated sheets of each size on which
+//! both must answer alike before anything is timed (5000); only the workloads whose names contain one of NAME. Times are processor
+//! time of the thread, so that other programs on the machine count as little as they can.
+
+use bench::workloads::{self, Workload};
+use oracle::gen::{self, Size};
+use std::hint::black_box;
+use std::time::{Duration, Instant};
+
+type Check = fn(&[u8]) -> u32;
+
+const OURS: Check = bench::check;
+const RUST: Check = oracle::check;
+
+extern "C" {
+    fn clock_gettime(clock: i32, time: *mut [i64; 2]) -> i32;
+}
+
+/// The processor time of this thread in nanoseconds.
+fn now() -> f64 {
+    const THREAD: i32 = 3;
+    let mut time = [0i64; 2];
+    // The C library writes two 64-bit numbers, seconds and nanoseconds.
+    let status = unsafe { clock_gettime(THREAD, &mut time) };
+    assert_eq!(status, 0, "no clock");
+    time[0] as f64 * 1e9 + time[1] as f64
+}
+
+/// Nanoseconds for one call, over `calls` calls.
+fn time(check: Check, sheet: &[u8], calls: u32) -> f64 {
+    let start = now();
+    for _ in 0..calls {
+        black_box(check(black_box(sheet)));
+    }
+    (now() - start) / f64::from(calls)
+}
+
+fn median(times: &mut [f64]) -> f64 {
+    times.sort_by(f64::total_cmp);
+    times[times.len() / 2]
+}
+
+/// Both must answer alike on generated sheets.
+fn agree(count: u64) {
+    for size in [Size::SMALL, Size::NORMAL] {
+        for index in 0..count {
+            let sheet = gen::sheet("all", 7, index, size);
+            let (ours, rust) = (OURS(&sheet), RUST(&sheet));
+            assert_eq!(ours, rust, "generated sheet {index} of seed 7");
+        }
+    }
+    println!("the same answers on {} generated sheets", 2 * count);
+}
+
+/// Runs a workload until its time is over, and prints its line.
+fn run(workload: &Workload, limit: Duration) {
+    let sheet = &workload.sheet;
+    let start = Instant::now();
+    let (ours, rust) = (OURS(sheet), RUST(sheet));
+    assert_eq!(ours, rust, "{}: the answers differ", workload.name);
+    assert_eq!(ours, workload.number, "{}: another number", workload.name);
+    // So many calls for a round that it takes a millisecond or more.
+    let mut calls = 1;
+    let once = start.elapsed() / 2;
+    if once < Duration::from_millis(1) {
+        let warm = time(OURS, sheet, 100).max(time(RUST, sheet, 100));
+        calls = (1e6 / warm).ceil().max(1.0) as u32;
+    }
+    let (mut ours, mut rust) = (Vec::new(), Vec::new());
+    let start = Instant::now();
+    loop {
+        // Each goes first in turn.
+        if ours.len() % 2 == 0 {
+            ours.push(time(OURS, sheet, calls));
+            rust.push(time(RUST, sheet, calls));
+        } else {
+            rust.push(time(RUST, sheet, calls));
+            ours.push(time(OURS, sheet, calls));
+        }
+        let enough = ours.len() >= 10 || once > Duration::from_secs(1);
+        if enough && start.elapsed() > limit {
+            break;
+        }
+    }
+    let rounds = ours.len();
+    let (ours, rust) = (median(&mut ours), median(&mut rust));
+    let nodes = f64::from(workload.nodes());
+    println!(
+        "{:<24}{:>3}{:>8}{:>9}{:>14.0}{:>12.0}{:>12.1}{:>12.1}{:>9.2}{:>8}",
+        workload.name,
+        workload.number,
+        nodes,
+        sheet.len(),
+        ours,
+        rust,
+        ours / nodes,
+        rust / nodes,
+        ours / rust,
+        rounds,
+    );
+}
+
+fn main() {
+    let mut seconds = 2.0;
+    let mut sheets = 5000;
+    let mut names = Vec::new();
+    let mut words = std::env::args().skip(1);
+    while let Some(word) = words.next() {
+        let mut value = || words.next().expect("a number after the option");
+        match word.as_str() {
+            "--seconds" => seconds = value().parse().expect("a number of seconds"),
+            "--sheets" => sheets = value().parse().expect("a number of sheets"),
+            _ => names.push(word),
+        }
+    }
+    agree(sheets);
+    println!(
+        "{:<24}{:>3}{:>8}{:>9}{:>14}{:>12}{:>12}{:>12}{:>9}{:>8}",
+        "workload", "no", "nodes", "bytes", "ours ns", "Rust ns", "ours/node", "Rust/node", "ratio", "rounds"
+    );
+    for name in workloads::NAMES {
+        if names.is_empty() || names.iter().any(|part| name.contains(part.as_str())) {
+            run(&workloads::workload(name), Duration::from_secs_f64(seconds));
+        }
+    }
+}

@@ -1,0 +1,13 @@
+pub mod Agree
+pub mod Chosen
+pub mod Table1
+pub mod Table2
+pub mod Table3
+pub mod Table4
+pub mod Table5
+pub mod Table6
+pub mod Table7
+pub mod Table8
+pub mod Table9
+pub mod Table10
+pub mod Table11

@@ -1,0 +1,4 @@
+pub mod Op
+pub mod Chain
+pub mod Switch
+pub mod Effect
