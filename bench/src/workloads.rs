@@ -45,6 +45,7 @@ pub const NAMES: &[&str] = &[
     "hostile levels",
     "hostile overlap",
     "hostile overlap halves",
+    "hostile overlap ends",
     "hostile cases",
     "hostile counts",
 ];
@@ -58,20 +59,31 @@ pub fn workload(name: &'static str) -> Workload {
         "switch" => Workload::new(name, switch(), 0),
         "text ascii" => Workload::new(name, one_text(&text(BYTES, &["a"])), 0),
         "text mixed" => {
-            let pieces = ["The ", "width ", "größe ", "of ", "длина ", "is ", "4 ", "→ ", "end. "];
+            let pieces = [
+                "The ",
+                "width ",
+                "größe ",
+                "of ",
+                "длина ",
+                "is ",
+                "4 ",
+                "→ ",
+                "end. ",
+            ];
             Workload::new(name, one_text(&text(BYTES, &pieces)), 0)
         }
-        "text multi-byte" => Workload::new(name, one_text(&text(BYTES, &["ö", "д", "語", "→", "🐍"])), 0),
-        "texts short" => Workload::new(name, texts_short(), 0),
-        "rule" => Workload::new(name, rule(), 0),
-        "port" => Workload::new(
+        "text multi-byte" => Workload::new(
             name,
-            include_bytes!("../../samples/port.sheet").to_vec(),
+            one_text(&text(BYTES, &["ö", "д", "語", "→", "🐍"])),
             0,
         ),
+        "texts short" => Workload::new(name, texts_short(), 0),
+        "rule" => Workload::new(name, rule(), 0),
+        "port" => Workload::new(name, include_bytes!("../../samples/port.sheet").to_vec(), 0),
         "hostile levels" => Workload::new(name, levels(), REFUSED_DEPTH),
         "hostile overlap" => Workload::new(name, overlap(), 0),
         "hostile overlap halves" => Workload::new(name, overlap_halves(), 0),
+        "hostile overlap ends" => Workload::new(name, overlap_ends(), 0),
         "hostile cases" => Workload::new(name, long_cases(), 0),
         "hostile counts" => Workload::new(name, counts(), REFUSED_NODE),
         _ => panic!("no workload {name}"),
@@ -148,9 +160,7 @@ fn name(random: &mut Random) -> Vec<u8> {
         return b"currx".to_vec();
     }
     let length = random.between(3, 12);
-    (0..length)
-        .map(|_| b'a' + random.below(26) as u8)
-        .collect()
+    (0..length).map(|_| b'a' + random.below(26) as u8).collect()
 }
 
 /// Calls with names of their own: 32,768 texts, and calls of two to five arguments.
@@ -272,9 +282,17 @@ fn texts_short() -> Vec<u8> {
 fn rule() -> Vec<u8> {
     let mut draft = Draft::new();
     let port = draft.text(b"port");
-    let [open, number, name, class] = [b"open".as_slice(), b"number", b"name", b"class"].map(|name| draft.text(name));
-    let [greater, allowed, admin, limits, fallback, unequal] =
-        [b">".as_slice(), b"allowed", b"admin", b"limits", b"fallback", b"!="].map(|name| draft.text(name));
+    let [open, number, name, class] =
+        [b"open".as_slice(), b"number", b"name", b"class"].map(|name| draft.text(name));
+    let [greater, allowed, admin, limits, fallback, unequal] = [
+        b">".as_slice(),
+        b"allowed",
+        b"admin",
+        b"limits",
+        b"fallback",
+        b"!=",
+    ]
+    .map(|name| draft.text(name));
     draft.locals = vec![port, limits];
     let property = |draft: &mut Draft, name: u32| {
         draft.open(DOT, [0; 3], 1);
@@ -357,6 +375,17 @@ fn overlap_halves() -> Vec<u8> {
                 (half + 1 + from, half - 1 - from)
             }
         })
+        .collect();
+    draft.leaf(UNIT, [0; 3], 1);
+    draft.to_bytes()
+}
+
+/// 65,536 texts of two-byte characters that reach over the ends of two blocks of 2,048 bytes and hold none whole.
+fn overlap_ends() -> Vec<u8> {
+    let mut draft = Draft::new();
+    draft.bytes = "ö".as_bytes().repeat(BYTES / 2);
+    draft.texts = (0..TEXTS as u32)
+        .map(|index| (index % 510 * 2048 + 6, 4088))
         .collect();
     draft.leaf(UNIT, [0; 3], 1);
     draft.to_bytes()

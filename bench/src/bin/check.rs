@@ -86,17 +86,22 @@ fn run(workload: &Workload, limit: Duration) {
     }
     let rounds = ours.len();
     let (ours, rust) = (median(&mut ours), median(&mut rust));
-    let nodes = f64::from(workload.nodes());
+    let nodes = workload.nodes();
+    // Of a sheet with one node the time is its texts'.
+    let each = |time: f64| match nodes {
+        1 => "-".to_string(),
+        _ => format!("{:.1}", time / f64::from(nodes)),
+    };
     println!(
-        "{:<24}{:>3}{:>8}{:>9}{:>14.0}{:>12.0}{:>12.1}{:>12.1}{:>9.2}{:>8}",
+        "{:<24}{:>3}{:>8}{:>9}{:>12.0}{:>12.0}{:>12}{:>12}{:>8.2}{:>8}",
         workload.name,
         workload.number,
         nodes,
         sheet.len(),
         ours,
         rust,
-        ours / nodes,
-        rust / nodes,
+        each(ours),
+        each(rust),
         ours / rust,
         rounds,
     );
@@ -117,8 +122,17 @@ fn main() {
     }
     agree(sheets);
     println!(
-        "{:<24}{:>3}{:>8}{:>9}{:>14}{:>12}{:>12}{:>12}{:>9}{:>8}",
-        "workload", "no", "nodes", "bytes", "ours ns", "Rust ns", "ours/node", "Rust/node", "ratio", "rounds"
+        "{:<24}{:>3}{:>8}{:>9}{:>12}{:>12}{:>12}{:>12}{:>8}{:>8}",
+        "workload",
+        "no",
+        "nodes",
+        "bytes",
+        "ours ns",
+        "Rust ns",
+        "ours/node",
+        "Rust/node",
+        "ratio",
+        "rounds"
     );
     for name in workloads::NAMES {
         if names.is_empty() || names.iter().any(|part| name.contains(part.as_str())) {

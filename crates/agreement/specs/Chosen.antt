@@ -13,15 +13,15 @@ use Rattle.lowering.specs.Marks.{Marked}
 use Rattle.lowering.specs.Marks as Marks
 use Rattle.lowering.specs.Outcome.{Outcome, refused, image}
 use Rattle.lowering.specs.Compute.{answer}
-use Rattle.runs.specs.Words as Words
-use Rattle.runs.specs.Run as Run
-use Rattle.runs.specs.Guided.{Event, tried, reached, missing, events}
-use Rattle.runs.specs.Guided as Guided
-use Rattle.runs.specs.SourceRule.{sourceRule}
-use Rattle.runs.specs.SourceRule as SourceRule
-use Rattle.runs.specs.Demand3.{marksOf}
-use Rattle.runs.specs.Sweep.{allRunsRight}
-use Rattle.runs.specs.Sweep as Sweep
+use Rattle.lowering.specs.Words as Words
+use Rattle.lowering.specs.Run as Run
+use Rattle.lowering.specs.Guided.{Event, tried, reached, missing, events}
+use Rattle.lowering.specs.Guided as Guided
+use Rattle.lowering.specs.SourceRule.{sourceRule}
+use Rattle.lowering.specs.SourceRule as SourceRule
+use Rattle.lowering.specs.Demand3.{marksOf}
+use Rattle.lowering.specs.Sweep.{allRunsRight}
+use Rattle.lowering.specs.Sweep as Sweep
 use Rattle.bytecode.specs.Effect as Effect
 use Rattle.agreement.specs.Agree.{Row, digits, agrees, allAgree}
 

@@ -11,3 +11,4 @@ pub mod Table8
 pub mod Table9
 pub mod Table10
 pub mod Table11
+pub mod Table12

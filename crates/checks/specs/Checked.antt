@@ -27,15 +27,33 @@ numberOf Unsupported = 8
 -- from refusal 5 on
 unfoldable pub treeChecked : List ℕ → Verdict
 treeChecked s =
-    elim (depthOk s) [ false ↦ Depth | true ↦
-    elim (entriesOk s) [ false ↦ Entries | true ↦
-    elim (casesOk s) [ false ↦ Repeated | true ↦
-    elim (supportedOk s) [ false ↦ Unsupported | true ↦ Accepted ] ] ] ]
+    elim (depthOk s) [
+      | false ↦ Depth
+      | true ↦
+          elim (entriesOk s) [
+            | false ↦ Entries
+            | true ↦
+                elim (casesOk s) [
+                  | false ↦ Repeated
+                  | true ↦
+                      elim (supportedOk s) [ false ↦ Unsupported | true ↦ Accepted ]
+                ]
+          ]
+    ]
 
 -- the answer for any byte string
 unfoldable pub checked : List ℕ → Verdict
 checked s =
-    elim (sizesOk s) [ false ↦ Size | true ↦
-    elim (shapeOk s) [ false ↦ Node | true ↦
-    elim (textsOk s) [ false ↦ Text | true ↦
-    elim (numbersOk s) [ false ↦ Number | true ↦ treeChecked s ] ] ] ]
+    elim (sizesOk s) [
+      | false ↦ Size
+      | true ↦
+          elim (shapeOk s) [
+            | false ↦ Node
+            | true ↦
+                elim (textsOk s) [
+                  | false ↦ Text
+                  | true ↦
+                      elim (numbersOk s) [ false ↦ Number | true ↦ treeChecked s ]
+                ]
+          ]
+    ]

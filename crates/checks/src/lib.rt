@@ -1,13 +1,13 @@
 // The check of a sheet: refusals 1 to 8 in ascending number. Any bytes are answered, nothing is written, and no memory is used but locals.
 ghost use mathlib.Core.Path.{_≡_};
 ghost use Rattle.checks.specs.Checked as answers;
-
 use depth::depth_ok;
 use numbers::numbers_ok;
 use shape::shape_ok;
 use sizes::sizes_ok;
 use support::supported_ok;
-use switches::{cases_ok, entries_ok};
+use switches::cases_ok;
+use switches::entries_ok;
 use texts::texts_ok;
 
 // What a check answers: the sheet is within the format, or the first cause that fits.

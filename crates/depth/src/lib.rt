@@ -1,9 +1,10 @@
 // Refusal 5: depth of the tree above its limit. At most as many levels of calls as the limit has.
 ghost use mathlib.Core.Path.{_≡_};
 ghost use Rattle.depth.specs.Depth as depths;
-
+use sheet::child;
+use sheet::count;
 use sheet::limits::MAX_DEPTH;
-use sheet::{child, count, next};
+use sheet::next;
 
 // The subtree of node `n` has at most `left` levels.
 fn within(left: u32, s: &[u8], n: u32) -> bool

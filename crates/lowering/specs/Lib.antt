@@ -29,3 +29,9 @@ pub mod Outcome
 pub mod MakeSheet
 pub mod Compute
 pub mod Rows
+pub mod Words
+pub mod Run
+pub mod Guided
+pub mod SourceRule
+pub mod Demand3
+pub mod Sweep

@@ -1,5 +1,5 @@
 -- And, Or: operands from left to right up to the first that decides.
-use Prim.Native.Nat.{ℕ, zero, suc, _+_, _-_, max}
+use Prim.Native.Nat.{ℕ, zero, suc, _+_, _-_}
 use mathlib.Core.List.{List, [], _∷_, _++_}
 use lib.ListN.{length}
 use Rattle.sheet.specs.Node.{count, position, child, next}
@@ -45,9 +45,8 @@ jumpOn (suc n) t = JumpIfTrue t
 unfoldable pub verdict : ℕ → ℕ → ℕ → Code
 verdict stop e d = ins (Bool (1 - stop)) d noPos ∷ ins (Jump (e + 3)) (suc d) noPos ∷ ins (Bool stop) d noPos ∷ []
 
--- the check lets through no And or Or without operands; it would count as one with one
 unfoldable pub shortCircuit : ℕ → List ℕ → Rec → ℕ → ℕ → ℕ → Pools → Out
 shortCircuit stop s rec j b d p =
-    let r = fragments s rec 1 (max 1 (count s j)) (child j) b d p in
+    let r = fragments s rec 1 (count s j) (child j) b d p in
     let e = b + extent 1 (r .parts) in
     out (decided (jumpOn stop (e + 2)) d (r .parts) ++ verdict stop e d) (emits 3 (r .pools))

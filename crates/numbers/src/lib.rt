@@ -1,8 +1,14 @@
 // Refusal 4: a text or block number that does not exist.
 ghost use mathlib.Core.Path.{_≡_};
 ghost use Rattle.numbers.specs.Numbers as numbers;
-
-use sheet::{field_a, field_b, field_c, kind, local_count, local_text, node_count, text_count};
+use sheet::field_a;
+use sheet::field_b;
+use sheet::field_c;
+use sheet::kind;
+use sheet::local_count;
+use sheet::local_text;
+use sheet::node_count;
+use sheet::text_count;
 
 // The kinds whose a is a text: String, Variable, Property, MethodCall, FnCall.
 fn names_text(k: u32) -> bool

@@ -1,8 +1,8 @@
 // Replays answers of the oracle. Standard input holds the count of records, then each record: the expected number, the sheet's length in
 // bytes, and the sheet padded with zeros to a word. Prints how many answers were the same, and how many were not.
 ghost use Prim.Native.Nat.{_≤_};
-
-use libc::{STDIN_FILENO, STDOUT_FILENO};
+use libc::STDIN_FILENO;
+use libc::STDOUT_FILENO;
 
 // Reads `n` bytes to the start of `buf`, and answers whether they were there.
 fn fill(buf: &mut [u8], n: usize) -> bool {

@@ -1,5 +1,6 @@
 // Reads a sheet from standard input and prints `accepted`, or `refused` and the number. A sheet of over 65,536 bytes is refused with 1.
-use libc::{STDIN_FILENO, STDOUT_FILENO};
+use libc::STDIN_FILENO;
+use libc::STDOUT_FILENO;
 
 fn answer(number: u32) {
     if number == 0 {

@@ -1,8 +1,10 @@
 // Refusal 8: a kind that is known only to be refused; an FnCall `curry` with over one argument.
 ghost use mathlib.Core.Path.{_≡_};
 ghost use Rattle.support.specs.Support as support;
-
-use sheet::{count, field_a, kind, node_count};
+use sheet::count;
+use sheet::field_a;
+use sheet::kind;
+use sheet::node_count;
 use text::is_curry;
 
 // Map, block, DynamicConstant.

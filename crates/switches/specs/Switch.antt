@@ -39,16 +39,23 @@ countsOk s = leb (fieldA s 0) maxEntries && leb (caseCount s) maxEntries && leb 
 -- nothing of refusal 6
 unfoldable pub entriesOk : List ℕ → Bool
 entriesOk s =
-    elim (isSwitch s) [ false ↦ true | true ↦
-    elim (countsOk s) [ false ↦ false | true ↦ siblings (refsOk s) s (caseCount s) (firstCase s) ] ]
+    elim (isSwitch s) [
+      | false ↦ true
+      | true ↦
+          elim (countsOk s) [ false ↦ false | true ↦ siblings (refsOk s) s (caseCount s) (firstCase s) ]
+    ]
 
 -- nodes v and w have equal kind and value: Int by its 64 bits, Char by its number, String by its bytes
 unfoldable pub sameValue : List ℕ → ℕ → ℕ → Bool
 sameValue s v w =
-    elim (eqb (kind s v) (kind s w)) [ false ↦ false | true ↦
-    elim (eqb (kind s v) 6) [
-      true ↦ same (text s (fieldA s v)) (text s (fieldA s w))
-    | false ↦ eqb (fieldA s v) (fieldA s w) && eqb (fieldB s v) (fieldB s w) ] ]
+    elim (eqb (kind s v) (kind s w)) [
+      | false ↦ false
+      | true ↦
+          elim (eqb (kind s v) 6) [
+            | true ↦ same (text s (fieldA s v)) (text s (fieldA s w))
+            | false ↦ eqb (fieldA s v) (fieldA s w) && eqb (fieldB s v) (fieldB s w)
+          ]
+    ]
 
 -- the Cases p and q differ
 unfoldable pub apart : List ℕ → ℕ → ℕ → Bool

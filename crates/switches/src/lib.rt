@@ -3,9 +3,14 @@ ghost use mathlib.Core.Path.{_≡_};
 ghost use Prim.Native.Nat.{_+_, _≤_};
 ghost use Rattle.sheet.specs.Walk as walks;
 ghost use Rattle.switches.specs.Switch as switches;
-
+use sheet::child;
+use sheet::count;
+use sheet::field_a;
+use sheet::field_b;
+use sheet::kind;
 use sheet::limits::MAX_ENTRIES;
-use sheet::{child, count, field_a, field_b, kind, next, skip};
+use sheet::next;
+use sheet::skip;
 use text::same_bytes;
 
 // Node 0 is a Switch.

@@ -73,10 +73,11 @@ loop-less c = search needs
 -- src/lib.rt:300:5
 loop-again : tie.Need-loop-again Inv-loop μ-loop
 loop-again c = let a = c .before .before .before .before .before .before .before .before .before .before .args in
-    let l = c .before .before .before .before .loop in
-    (omega arith,
-     omega (arith, fits-end (a .s .now) (c .before .before .before .before .before .before .before .before .kind .result) (c .before .before .before .before .before .before .field-a .result) (c .before .before .before .before .before .field-b .result) (a .e) (l .i) (l .j) (cc), c .span .ensures),
-     cc (tiles-more (a .s .now) (a .n) (a .e) (c .before .before .before .before .before .before .before .count .result) (l .i) (l .j) (c .before .before .before .loop-test .taken) (cc)))
+    let l = c .before .before .before .before .loop in (
+      omega arith,
+      omega (arith, fits-end (a .s .now) (c .before .before .before .before .before .before .before .before .kind .result) (c .before .before .before .before .before .before .field-a .result) (c .before .before .before .before .before .field-b .result) (a .e) (l .i) (l .j) (cc), c .span .ensures),
+      cc (tiles-more (a .s .now) (a .n) (a .e) (c .before .before .before .before .before .before .before .count .result) (l .i) (l .j) (c .before .before .before .loop-test .taken) (cc)),
+    )
 
 -- src/lib.rt:305:13
 returns : tie.Need-returns Inv-loop μ-loop

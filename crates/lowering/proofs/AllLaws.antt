@@ -1,0 +1,35 @@
+-- Facts of all entries of a list: by lookup, and by membership.
+use Prim.Native.Nat.{ℕ, zero, suc}
+use mathlib.Core.Path.{_≡_, refl, sym, subst}
+use mathlib.Core.List.{List, [], _∷_, _++_, List·Memᴰ, List·Memᴰ·head, List·Memᴰ·tail, List·Memᴰ·not-nil, List·Memᴰ·cases-cons}
+use mathlib.Core.Logic.{_⊎_, inl, inr}
+use lib.ListN.{getD}
+use Rattle.lowering.proofs.Effect.{All}
+
+-- a fact of each entry, and of each lookup
+pub all-at : (P : ℕ → Type 0) (xs : List ℕ) (d : ℕ) → All P (xs ++ (d ∷ [])) → (n : ℕ) → P (getD (xs ++ (d ∷ [])) n d)
+all-at P [] d h zero = h .0
+all-at P [] d h (suc n) = h .0
+all-at P (x ∷ xs) d h zero = h .0
+all-at P (x ∷ xs) d h (suc n) = all-at P xs d (h .1) n
+
+pub all-from : (P : ℕ → Type 0) (xs : List ℕ) (d : ℕ) → ((n : ℕ) → P (getD xs n d)) → All P xs
+all-from P [] d h = tt
+all-from P (x ∷ xs) d h = (h zero, all-from P xs d (λ n. h (suc n)))
+
+-- members, and facts of all members
+pub all-map : (P Q : ℕ → Type 0) (xs : List ℕ) → ((q : ℕ) → P q → Q q) → All P xs → All Q xs
+all-map P Q [] f h = tt
+all-map P Q (x ∷ xs) f h = (f x (h .0), all-map P Q xs f (h .1))
+
+pub members : (xs : List ℕ) → All (λ (q : ℕ). List·Memᴰ q xs) xs
+members [] = tt
+members (x ∷ xs) = (List·Memᴰ·head refl, all-map (λ (q : ℕ). List·Memᴰ q xs) (λ (q : ℕ). List·Memᴰ q (x ∷ xs)) xs (λ q m. List·Memᴰ·tail m) (members xs))
+
+pub all-member : (P : ℕ → Type 0) (q : ℕ) (xs : List ℕ) → List·Memᴰ q xs → All P xs → P q
+all-member P q [] m h = absurd (List·Memᴰ·not-nil m)
+all-member P q (x ∷ xs) m h = by (List·Memᴰ·cases-cons m) (λ (m′ : List·Memᴰ q xs). all-member P q xs m′ (h .1))
+  where
+    by : (q ≡ x) ⊎ List·Memᴰ q xs → (List·Memᴰ q xs → P q) → P q
+    by (inl e) f = subst P (sym e) (h .0)
+    by (inr m′) f = f m′

@@ -1,0 +1,54 @@
+-- Demand 3, put together: what is shown of expressions and of switches, for every sheet whose outcome is an image.
+use Prim.Native.Nat.{ℕ, zero, suc}
+use mathlib.Core.Path.{_≡_, refl, sym, ap, subst}
+use mathlib.Core.Bool.{Bool, true, false}
+use mathlib.Core.List.{List}
+use native.Mathlib.Omega.{arith}
+use lib.Dec.{eqb}
+use borrow.Author.Tests.{eqb-true}
+use Rattle.sheet.specs.Limits.{maxDepth}
+use Rattle.sheet.specs.Node.{kind}
+use Rattle.checks.specs.Checked.{numberOf, checked}
+use Rattle.lowering.specs.Kinds.{switchKind}
+use Rattle.lowering.specs.Expression.{expression}
+use Rattle.lowering.specs.Outcome.{Outcome, refused, image, lower, outcomeAfter, outcome}
+use Rattle.lowering.specs.Demand3.{Statement}
+use Rattle.lowering.proofs.Whole.{WellTyped, AllReached}
+use Rattle.lowering.proofs.Nodes.{accepted-sizes, accepted-shape}
+use Rattle.lowering.proofs.LowerFits.{lower-switch, lower-plain}
+use Rattle.lowering.proofs.SoundExpression.{expression-meets, plain-typed}
+use Rattle.lowering.proofs.LinkedExpression.{expression-links, plain-reached}
+use Rattle.lowering.proofs.SwitchAccepted.{accepted-blocks, accepted-typed, accepted-reached}
+use Rattle.lowering.proofs.Choice.{chooses-right}
+use Rattle.lowering.proofs.Demand3From.{demand3-from}
+
+-- a refusal is no image
+not-image : (s : List ℕ) (imageLength scratchLength n : ℕ) (w : List ℕ) → outcomeAfter s imageLength scratchLength n ≡ image w → n ≡ 0
+unfolding outcomeAfter
+not-image s imageLength scratchLength zero w e = refl
+not-image s imageLength scratchLength (suc n) w e = let z : _≡_ {A = ℕ} 0 1 = cc in absurd (omega arith)
+
+module _ (s : List ℕ) (a : numberOf (checked s) ≡ 0) where
+  lower-typed : WellTyped (lower s)
+  lower-typed = by (eqb (kind s 0) switchKind) refl
+    where
+      by : (t : Bool) → eqb (kind s 0) switchKind ≡ t → WellTyped (lower s)
+      by true h = subst WellTyped (sym (lower-switch s h)) (accepted-typed s a (eqb-true (kind s 0) switchKind h) (expression maxDepth s) (expression-meets maxDepth s))
+      by false h = subst WellTyped (sym (lower-plain s h)) (plain-typed s)
+
+  lower-reached : AllReached (lower s)
+  lower-reached = by (eqb (kind s 0) switchKind) refl
+    where
+      by : (t : Bool) → eqb (kind s 0) switchKind ≡ t → AllReached (lower s)
+      by true h =
+          subst AllReached (sym (lower-switch s h))
+          (accepted-reached s a (eqb-true (kind s 0) switchKind h) (expression maxDepth s) (expression-meets maxDepth s)
+          (record { links = expression-links maxDepth s (accepted-sizes s a) (accepted-shape s a) .links }))
+      by false h = subst AllReached (sym (lower-plain s h)) (plain-reached s (accepted-sizes s a) (accepted-shape s a))
+
+pub demand3 : Statement
+unfolding outcome
+demand3 s imageLength scratchLength w e =
+    let a = not-image s imageLength scratchLength (numberOf (checked s)) w e in
+    demand3-from s imageLength scratchLength w e (lower-typed s a) (lower-reached s a)
+    (λ k. chooses-right s (expression-meets maxDepth s) (accepted-blocks s a k) k)

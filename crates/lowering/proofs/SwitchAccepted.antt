@@ -1,0 +1,51 @@
+-- The switch of a sheet that the check accepts: its program has the right depths, and every place of it is reached.
+use Prim.Native.Nat.{ℕ}
+use mathlib.Core.Path.{_≡_, refl, ap}
+use mathlib.Core.Bool.{Bool, true, false}
+use mathlib.Core.List.{List}
+use native.Mathlib.Omega.{arith}
+use Rattle.sheet.specs.Node.{kind}
+use Rattle.texts.specs.Texts.{textsOk}
+use Rattle.numbers.specs.Numbers.{numbersOk}
+use Rattle.checks.specs.Checked.{numberOf, checked}
+use Rattle.checks.specs.CheckedLaws.{says-3, says-4}
+use Rattle.lowering.specs.Kinds.{switchKind}
+use Rattle.lowering.specs.Out.{Rec}
+use Rattle.lowering.specs.Switch.{switch}
+use Rattle.lowering.proofs.Meets.{Meets}
+use Rattle.lowering.proofs.Whole.{WellTyped, AllReached}
+use Rattle.lowering.proofs.Nodes.{Valid, Right, right, accepted-sizes, accepted-shape, subject-valid, guard-valid, body-valid}
+use Rattle.lowering.proofs.SwitchBlocks.{Blocks}
+use Rattle.lowering.proofs.SwitchChecked.{checked-blocks}
+use Rattle.lowering.proofs.SwitchTyped.{switch-typed}
+use Rattle.lowering.proofs.SwitchReached.{Links}
+use Rattle.lowering.proofs.SwitchAllReached.{switch-reached}
+
+module _ (s : List ℕ) (a : numberOf (checked s) ≡ 0) where
+  accepted-texts : textsOk s ≡ true
+  accepted-texts = by (textsOk s) refl
+    where
+      by : (t : Bool) → textsOk s ≡ t → textsOk s ≡ true
+      by true e = e
+      by false e = let z = ap numberOf (says-3 s (accepted-sizes s a) (accepted-shape s a) e) in absurd (omega arith)
+
+  pub accepted-numbers : numbersOk s ≡ true
+  accepted-numbers = by (numbersOk s) refl
+    where
+      by : (t : Bool) → numbersOk s ≡ t → numbersOk s ≡ true
+      by true e = e
+      by false e = let z = ap numberOf (says-4 s (accepted-sizes s a) (accepted-shape s a) accepted-texts e) in absurd (omega arith)
+
+  accepted-right : Right s
+  accepted-right = right s (accepted-sizes s a) (accepted-shape s a)
+
+  module _ (k : kind s 0 ≡ switchKind) where
+    pub accepted-blocks : Blocks s
+    accepted-blocks = checked-blocks s accepted-right accepted-numbers k
+
+    pub accepted-typed : (rec : Rec) → Meets rec → WellTyped (switch s rec)
+    accepted-typed rec M = switch-typed s rec M accepted-blocks
+
+    pub accepted-reached : (rec : Rec) → Meets rec → Links rec (Valid s) → AllReached (switch s rec)
+    accepted-reached rec M K =
+        switch-reached s rec M accepted-blocks (Valid s) K (subject-valid s accepted-right k) (guard-valid s accepted-right k) (body-valid s accepted-right k)

@@ -1,1 +1,0 @@
-// Runs and the source rule, as definitions in specs/; there is no code here.
