@@ -19,7 +19,7 @@ use Rattle.sizes.specs.Sizes.{limitsOk, lengthOk, padOk, paddingOk, sizesOk}
 use Rattle.shape.specs.Kinds.{bound, scalar, expression, caseValue, switchChild, caseChild, childKind}
 use Rattle.shape.specs.Shape.{withinBounds, ownRule, fieldsOk, childFits, childOk, tiles, selfOk, nodeOk, rootOk, nodesOk, shapeOk}
 use Rattle.texts.specs.Texts.{textOk, textsOk}
-use Rattle.numbers.specs.Numbers.{namesText, exist, numberOk, localOk, nodeNumbersOk, localsOk, numbersOk}
+use Rattle.numbers.specs.Numbers.{namesText, exist, numberAmong, localOk, nodeNumbersOk, localsOk, numbersOk}
 use Rattle.depth.specs.Depth.{within, depthOk}
 use Rattle.switches.specs.Switch.{isSwitch, firstCase, refsOk, countsOk, entriesOk, sameValue, apart, distinct, casesOk}
 use Rattle.support.specs.Support.{refusedKind, longCurry, supported, supportedOk}
@@ -231,31 +231,31 @@ caseRows =
     ∷ []
 
 shortRows-agree : agrees shortRows ≡ true
-unfolding agrees word allBelow same isEval isFn isCall isCurry rowIn rowOf utf8Rest utf8 field position localText child next textStart textLength text siblings skip limitsOk lengthOk padOk paddingOk sizesOk bound scalar expression caseValue switchChild caseChild childKind withinBounds ownRule fieldsOk childFits childOk tiles selfOk nodeOk rootOk nodesOk shapeOk textOk textsOk namesText exist numberOk localOk nodeNumbersOk localsOk numbersOk within depthOk isSwitch firstCase refsOk countsOk entriesOk sameValue apart distinct casesOk refusedKind longCurry supported supportedOk treeChecked checked
+unfolding agrees word allBelow same isEval isFn isCall isCurry rowIn rowOf utf8Rest utf8 field position localText child next textStart textLength text siblings skip limitsOk lengthOk padOk paddingOk sizesOk bound scalar expression caseValue switchChild caseChild childKind withinBounds ownRule fieldsOk childFits childOk tiles selfOk nodeOk rootOk nodesOk shapeOk textOk textsOk namesText exist numberAmong localOk nodeNumbersOk localsOk numbersOk within depthOk isSwitch firstCase refsOk countsOk entriesOk sameValue apart distinct casesOk refusedKind longCurry supported supportedOk treeChecked checked
 shortRows-agree = refl
 
 depthRows-agree : agrees depthRows ≡ true
-unfolding agrees word allBelow same isEval isFn isCall isCurry rowIn rowOf utf8Rest utf8 field position localText child next textStart textLength text siblings skip limitsOk lengthOk padOk paddingOk sizesOk bound scalar expression caseValue switchChild caseChild childKind withinBounds ownRule fieldsOk childFits childOk tiles selfOk nodeOk rootOk nodesOk shapeOk textOk textsOk namesText exist numberOk localOk nodeNumbersOk localsOk numbersOk within depthOk isSwitch firstCase refsOk countsOk entriesOk sameValue apart distinct casesOk refusedKind longCurry supported supportedOk treeChecked checked
+unfolding agrees word allBelow same isEval isFn isCall isCurry rowIn rowOf utf8Rest utf8 field position localText child next textStart textLength text siblings skip limitsOk lengthOk padOk paddingOk sizesOk bound scalar expression caseValue switchChild caseChild childKind withinBounds ownRule fieldsOk childFits childOk tiles selfOk nodeOk rootOk nodesOk shapeOk textOk textsOk namesText exist numberAmong localOk nodeNumbersOk localsOk numbersOk within depthOk isSwitch firstCase refsOk countsOk entriesOk sameValue apart distinct casesOk refusedKind longCurry supported supportedOk treeChecked checked
 depthRows-agree = refl
 
 blockRows-agree : agrees blockRows ≡ true
-unfolding agrees word allBelow same isEval isFn isCall isCurry rowIn rowOf utf8Rest utf8 field position localText child next textStart textLength text siblings skip limitsOk lengthOk padOk paddingOk sizesOk bound scalar expression caseValue switchChild caseChild childKind withinBounds ownRule fieldsOk childFits childOk tiles selfOk nodeOk rootOk nodesOk shapeOk textOk textsOk namesText exist numberOk localOk nodeNumbersOk localsOk numbersOk within depthOk isSwitch firstCase refsOk countsOk entriesOk sameValue apart distinct casesOk refusedKind longCurry supported supportedOk treeChecked checked
+unfolding agrees word allBelow same isEval isFn isCall isCurry rowIn rowOf utf8Rest utf8 field position localText child next textStart textLength text siblings skip limitsOk lengthOk padOk paddingOk sizesOk bound scalar expression caseValue switchChild caseChild childKind withinBounds ownRule fieldsOk childFits childOk tiles selfOk nodeOk rootOk nodesOk shapeOk textOk textsOk namesText exist numberAmong localOk nodeNumbersOk localsOk numbersOk within depthOk isSwitch firstCase refsOk countsOk entriesOk sameValue apart distinct casesOk refusedKind longCurry supported supportedOk treeChecked checked
 blockRows-agree = refl
 
 rangeRows-agree : agrees rangeRows ≡ true
-unfolding agrees word allBelow same isEval isFn isCall isCurry rowIn rowOf utf8Rest utf8 field position localText child next textStart textLength text siblings skip limitsOk lengthOk padOk paddingOk sizesOk bound scalar expression caseValue switchChild caseChild childKind withinBounds ownRule fieldsOk childFits childOk tiles selfOk nodeOk rootOk nodesOk shapeOk textOk textsOk namesText exist numberOk localOk nodeNumbersOk localsOk numbersOk within depthOk isSwitch firstCase refsOk countsOk entriesOk sameValue apart distinct casesOk refusedKind longCurry supported supportedOk treeChecked checked
+unfolding agrees word allBelow same isEval isFn isCall isCurry rowIn rowOf utf8Rest utf8 field position localText child next textStart textLength text siblings skip limitsOk lengthOk padOk paddingOk sizesOk bound scalar expression caseValue switchChild caseChild childKind withinBounds ownRule fieldsOk childFits childOk tiles selfOk nodeOk rootOk nodesOk shapeOk textOk textsOk namesText exist numberAmong localOk nodeNumbersOk localsOk numbersOk within depthOk isSwitch firstCase refsOk countsOk entriesOk sameValue apart distinct casesOk refusedKind longCurry supported supportedOk treeChecked checked
 rangeRows-agree = refl
 
 rangesRows-agree : agrees rangesRows ≡ true
-unfolding agrees word allBelow same isEval isFn isCall isCurry rowIn rowOf utf8Rest utf8 field position localText child next textStart textLength text siblings skip limitsOk lengthOk padOk paddingOk sizesOk bound scalar expression caseValue switchChild caseChild childKind withinBounds ownRule fieldsOk childFits childOk tiles selfOk nodeOk rootOk nodesOk shapeOk textOk textsOk namesText exist numberOk localOk nodeNumbersOk localsOk numbersOk within depthOk isSwitch firstCase refsOk countsOk entriesOk sameValue apart distinct casesOk refusedKind longCurry supported supportedOk treeChecked checked
+unfolding agrees word allBelow same isEval isFn isCall isCurry rowIn rowOf utf8Rest utf8 field position localText child next textStart textLength text siblings skip limitsOk lengthOk padOk paddingOk sizesOk bound scalar expression caseValue switchChild caseChild childKind withinBounds ownRule fieldsOk childFits childOk tiles selfOk nodeOk rootOk nodesOk shapeOk textOk textsOk namesText exist numberAmong localOk nodeNumbersOk localsOk numbersOk within depthOk isSwitch firstCase refsOk countsOk entriesOk sameValue apart distinct casesOk refusedKind longCurry supported supportedOk treeChecked checked
 rangesRows-agree = refl
 
 refRows-agree : agrees refRows ≡ true
-unfolding agrees word allBelow same isEval isFn isCall isCurry rowIn rowOf utf8Rest utf8 field position localText child next textStart textLength text siblings skip limitsOk lengthOk padOk paddingOk sizesOk bound scalar expression caseValue switchChild caseChild childKind withinBounds ownRule fieldsOk childFits childOk tiles selfOk nodeOk rootOk nodesOk shapeOk textOk textsOk namesText exist numberOk localOk nodeNumbersOk localsOk numbersOk within depthOk isSwitch firstCase refsOk countsOk entriesOk sameValue apart distinct casesOk refusedKind longCurry supported supportedOk treeChecked checked
+unfolding agrees word allBelow same isEval isFn isCall isCurry rowIn rowOf utf8Rest utf8 field position localText child next textStart textLength text siblings skip limitsOk lengthOk padOk paddingOk sizesOk bound scalar expression caseValue switchChild caseChild childKind withinBounds ownRule fieldsOk childFits childOk tiles selfOk nodeOk rootOk nodesOk shapeOk textOk textsOk namesText exist numberAmong localOk nodeNumbersOk localsOk numbersOk within depthOk isSwitch firstCase refsOk countsOk entriesOk sameValue apart distinct casesOk refusedKind longCurry supported supportedOk treeChecked checked
 refRows-agree = refl
 
 caseRows-agree : agrees caseRows ≡ true
-unfolding agrees word allBelow same isEval isFn isCall isCurry rowIn rowOf utf8Rest utf8 field position localText child next textStart textLength text siblings skip limitsOk lengthOk padOk paddingOk sizesOk bound scalar expression caseValue switchChild caseChild childKind withinBounds ownRule fieldsOk childFits childOk tiles selfOk nodeOk rootOk nodesOk shapeOk textOk textsOk namesText exist numberOk localOk nodeNumbersOk localsOk numbersOk within depthOk isSwitch firstCase refsOk countsOk entriesOk sameValue apart distinct casesOk refusedKind longCurry supported supportedOk treeChecked checked
+unfolding agrees word allBelow same isEval isFn isCall isCurry rowIn rowOf utf8Rest utf8 field position localText child next textStart textLength text siblings skip limitsOk lengthOk padOk paddingOk sizesOk bound scalar expression caseValue switchChild caseChild childKind withinBounds ownRule fieldsOk childFits childOk tiles selfOk nodeOk rootOk nodesOk shapeOk textOk textsOk namesText exist numberAmong localOk nodeNumbersOk localsOk numbersOk within depthOk isSwitch firstCase refsOk countsOk entriesOk sameValue apart distinct casesOk refusedKind longCurry supported supportedOk treeChecked checked
 caseRows-agree = refl
 
 -- the whole table

@@ -15,7 +15,7 @@ use Rattle.sheet.specs.WalkLaws.{skip-add}
 use Rattle.shape.specs.Kinds.{switchChild, caseChild, childKind}
 use Rattle.shape.specs.Shape.{childFits, childOk, tiles}
 use Rattle.shape.specs.ShapeLaws.{self-end, node-self}
-use Rattle.numbers.specs.Numbers.{exist, numberOk, nodeNumbersOk, numbersOk}
+use Rattle.numbers.specs.Numbers.{exist, numberAmong, numberOk, nodeNumbersOk, numbersOk}
 use Rattle.cases.specs.Range.{Range}
 use Rattle.lowering.specs.Kinds.{switchKind}
 use Rattle.lowering.specs.SwitchSheet.{blockCount, subject, nodesFrom, casesOf, caseBlocks, rangeNodes, rangeOf, rangesOf}
@@ -105,7 +105,7 @@ nodes-at s (suc n) j x m = ⊎-elim (λ e. (0, omega arith, e)) (λ k. let r = n
 
 module _ (s : List ℕ) (C : Right s) (n : numbersOk s ≡ true) (e : kind s 0 ≡ switchKind) where
   number-at : (j : ℕ) → Valid s j → exist (textCount s) (blockCount s) (kind s j) (fieldA s j) (fieldB s j) (fieldC s j) ≡ true
-  unfolding numbersOk nodeNumbersOk numberOk
+  unfolding numbersOk nodeNumbersOk numberAmong
   number-at j v = all-at (numberOk s) (nodeCount s) j (simp and-eq-true-iff at n .0) v
 
   -- child i of the Switch

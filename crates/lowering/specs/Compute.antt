@@ -59,7 +59,7 @@ use Rattle.lowering.specs.Program.{Program}
 
 -- the check of 1 to 8
 unfoldable pub checkedNumber : List ℕ → ℕ
-unfolding WordsWord.word WordsCount.allBelow TextSame.same TextKeyword.isEval TextKeyword.isFn TextKeyword.isCall TextKeyword.isCurry TextUtf8.rowIn TextUtf8.rowOf TextUtf8.utf8Rest TextUtf8.utf8 SheetNode.field SheetNode.position SheetNode.localText SheetNode.child SheetNode.next SheetText.textStart SheetText.textLength SheetText.text SheetStart.startWithin SheetStart.startOf SheetWalk.siblings SheetWalk.skip SizesSizes.limitsOk SizesSizes.lengthOk SizesSizes.padOk SizesSizes.paddingOk SizesSizes.sizesOk ShapeKinds.bound ShapeKinds.scalar ShapeKinds.expression ShapeKinds.caseValue ShapeKinds.switchChild ShapeKinds.caseChild ShapeKinds.childKind ShapeShape.withinBounds ShapeShape.ownRule ShapeShape.fieldsOk ShapeShape.childFits ShapeShape.childOk ShapeShape.tiles ShapeShape.selfOk ShapeShape.nodeOk ShapeShape.rootOk ShapeShape.nodesOk ShapeShape.shapeOk TextsTexts.textOk TextsTexts.textsOk NumbersNumbers.namesText NumbersNumbers.exist NumbersNumbers.numberOk NumbersNumbers.localOk NumbersNumbers.nodeNumbersOk NumbersNumbers.localsOk NumbersNumbers.numbersOk DepthDepth.within DepthDepth.depthOk SwitchesSwitch.isSwitch SwitchesSwitch.firstCase SwitchesSwitch.refsOk SwitchesSwitch.countsOk SwitchesSwitch.entriesOk SwitchesSwitch.sameValue SwitchesSwitch.apart SwitchesSwitch.distinct SwitchesSwitch.casesOk SupportSupport.refusedKind SupportSupport.longCurry SupportSupport.supported SupportSupport.supportedOk ChecksChecked.treeChecked ChecksChecked.checked
+unfolding WordsWord.word WordsCount.allBelow TextSame.same TextKeyword.isEval TextKeyword.isFn TextKeyword.isCall TextKeyword.isCurry TextUtf8.rowIn TextUtf8.rowOf TextUtf8.utf8Rest TextUtf8.utf8 SheetNode.field SheetNode.position SheetNode.localText SheetNode.child SheetNode.next SheetText.textStart SheetText.textLength SheetText.text SheetStart.startWithin SheetStart.startOf SheetWalk.siblings SheetWalk.skip SizesSizes.limitsOk SizesSizes.lengthOk SizesSizes.padOk SizesSizes.paddingOk SizesSizes.sizesOk ShapeKinds.bound ShapeKinds.scalar ShapeKinds.expression ShapeKinds.caseValue ShapeKinds.switchChild ShapeKinds.caseChild ShapeKinds.childKind ShapeShape.withinBounds ShapeShape.ownRule ShapeShape.fieldsOk ShapeShape.childFits ShapeShape.childOk ShapeShape.tiles ShapeShape.selfOk ShapeShape.nodeOk ShapeShape.rootOk ShapeShape.nodesOk ShapeShape.shapeOk TextsTexts.textOk TextsTexts.textsOk NumbersNumbers.namesText NumbersNumbers.exist NumbersNumbers.numberAmong NumbersNumbers.localOk NumbersNumbers.nodeNumbersOk NumbersNumbers.localsOk NumbersNumbers.numbersOk DepthDepth.within DepthDepth.depthOk SwitchesSwitch.isSwitch SwitchesSwitch.firstCase SwitchesSwitch.refsOk SwitchesSwitch.countsOk SwitchesSwitch.entriesOk SwitchesSwitch.sameValue SwitchesSwitch.apart SwitchesSwitch.distinct SwitchesSwitch.casesOk SupportSupport.refusedKind SupportSupport.longCurry SupportSupport.supported SupportSupport.supportedOk ChecksChecked.treeChecked ChecksChecked.checked
 checkedNumber s = numberOf (checked s)
 
 -- expressions

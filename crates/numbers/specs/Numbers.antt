@@ -25,9 +25,13 @@ exist X K k a b c =
     && (not (eqb k 21) || ltb b K)
     && (not (eqb k 22) || ltb a K)
 
--- the numbers in node n exist
-unfoldable pub numberOk : List ℕ → ℕ → Bool
-numberOk s n = exist (textCount s) (blockCount s) (kind s n) (fieldA s n) (fieldB s n) (fieldC s n)
+-- the numbers in node n exist, among X texts and K blocks
+unfoldable pub numberAmong : List ℕ → ℕ → ℕ → ℕ → Bool
+numberAmong s X K n = exist X K (kind s n) (fieldA s n) (fieldB s n) (fieldC s n)
+
+-- among those of the sheet
+abbrev pub numberOk : List ℕ → ℕ → Bool
+numberOk s n = numberAmong s (textCount s) (blockCount s) n
 
 -- the name of local l exists
 unfoldable pub localOk : List ℕ → ℕ → Bool

@@ -29,12 +29,10 @@ fn exist(x: u32, blocks: u32, k: u32, a: u32, b: u32, c: u32) -> bool
         & ((k != 22) | (a < blocks))
 }
 
-// The numbers in node `n` exist.
-fn number_ok(s: &[u8], n: u32) -> bool
-    ensures { λ r. ⌜ r ≡ numbers.numberOk (now (s .entry)) n ⌝ }
+// The numbers in node `n` exist, among `x` texts and `blocks` blocks.
+fn number_ok(s: &[u8], x: u32, blocks: u32, n: u32) -> bool
+    ensures { λ r. ⌜ r ≡ numbers.numberAmong (now (s .entry)) x blocks n ⌝ }
 {
-    let x = text_count(s);
-    let blocks = field_a(s, 0);
     let k = kind(s, n);
     let a = field_a(s, n);
     let b = field_b(s, n);
@@ -52,10 +50,12 @@ fn local_ok(s: &[u8], l: u32) -> bool
 fn node_numbers_ok(s: &[u8]) -> bool
     ensures { λ r. ⌜ r ≡ numbers.nodeNumbersOk (now (s .entry)) ⌝ }
 {
+    let x = text_count(s);
+    let blocks = field_a(s, 0);
     let m = node_count(s);
     let mut n: u32 = 0;
     while n < m {
-        if number_ok(s, n) {
+        if number_ok(s, x, blocks, n) {
             n += 1;
         } else {
             return false;

@@ -152,12 +152,14 @@ const BOUNDS: [u32; 130] = [
 // The kinds are 1 to 25.
 const LAST_KIND: u32 = 25;
 
-// Bound `f` of kind `k`: 0 least count, 1 greatest count, 2 a, 3 b, 4 c.
-fn bound(k: u32, f: u32) -> u32
+// Bound `f` of kind `k` in the table `t`: 0 least count, 1 greatest count, 2 a, 3 b, 4 c. The table is lent, since a constant array is
+// built anew wherever it is named.
+fn bound(t: &[u32; 130], k: u32, f: u32) -> u32
+    requires { ⌜ now t ≡ kinds.bounds ⌝ }
     ensures { λ r. ⌜ r ≡ kinds.bound k f ⌝ }
 {
     let at = 5 * (k as usize) + (f as usize);
-    if at < 130 { BOUNDS[at] } else { 0 }
+    if at < 130 { t[at] } else { 0 }
 }
 
 // A Unicode scalar value.
@@ -223,14 +225,15 @@ fn child_kind(p: u32, a: u32, b: u32, i: u32, k: u32) -> bool
 }
 
 // The fields of a node of kind `k`, with `m` children, are within the kind's bounds.
-fn within_bounds(k: u32, m: u32, a: u32, b: u32, c: u32) -> bool
+fn within_bounds(t: &[u32; 130], k: u32, m: u32, a: u32, b: u32, c: u32) -> bool
+    requires { ⌜ now t ≡ kinds.bounds ⌝ }
     ensures { λ r. ⌜ r ≡ shape.withinBounds k m a b c ⌝ }
 {
-    let least = bound(k, 0);
-    let most = bound(k, 1);
-    let most_a = bound(k, 2);
-    let most_b = bound(k, 3);
-    let most_c = bound(k, 4);
+    let least = bound(t, k, 0);
+    let most = bound(t, k, 1);
+    let most_a = bound(t, k, 2);
+    let most_b = bound(t, k, 3);
+    let most_c = bound(t, k, 4);
     (1 <= k)
         & (k <= LAST_KIND)
         & (least <= m)
@@ -249,7 +252,8 @@ fn own_rule(k: u32, m: u32, a: u32, b: u32) -> bool
 }
 
 // Node `n` has a kind, and a count and fields that fit it.
-fn fields_ok(s: &[u8], n: u32) -> bool
+fn fields_ok(t: &[u32; 130], s: &[u8], n: u32) -> bool
+    requires { ⌜ now t ≡ kinds.bounds ⌝ }
     ensures { λ r. ⌜ r ≡ shape.fieldsOk (now (s .entry)) n ⌝ }
 {
     let k = kind(s, n);
@@ -257,16 +261,17 @@ fn fields_ok(s: &[u8], n: u32) -> bool
     let a = field_a(s, n);
     let b = field_b(s, n);
     let c = field_c(s, n);
-    within_bounds(k, m, a, b, c) & own_rule(k, m, a, b)
+    within_bounds(t, k, m, a, b, c) & own_rule(k, m, a, b)
 }
 
 // Node `n` is right by itself and its subtree lies within `m` nodes.
-fn self_ok(s: &[u8], n: u32, m: u32) -> bool
+fn self_ok(t: &[u32; 130], s: &[u8], n: u32, m: u32) -> bool
+    requires { ⌜ now t ≡ kinds.bounds ⌝ }
     ensures { λ r. ⌜ r ≡ shape.selfOk (now (s .entry)) n m ⌝ }
 {
     let w = span(s, n);
     let end = (n as u64) + (w as u64);
-    fields_ok(s, n) & (1 <= w) & (end <= (m as u64))
+    fields_ok(t, s, n) & (1 <= w) & (end <= (m as u64))
 }
 
 // Node 0 is an expression or a Switch, and its subtree is the whole sheet.
@@ -309,11 +314,12 @@ fn tiles(s: &[u8], n: u32, e: u32) -> bool
 }
 
 // Node `n` is right, and so are its children's places.
-fn node_ok(s: &[u8], n: u32) -> bool
+fn node_ok(t: &[u32; 130], s: &[u8], n: u32) -> bool
+    requires { ⌜ now t ≡ kinds.bounds ⌝ }
     ensures { λ r. ⌜ r ≡ shape.nodeOk (now (s .entry)) n ⌝ }
 {
     let m = node_count(s);
-    if self_ok(s, n, m) {
+    if self_ok(t, s, n, m) {
         return tiles(s, n, n + span(s, n));
     }
     false
@@ -333,10 +339,11 @@ pub fn shape_ok(s: &[u8]) -> bool
 fn nodes_ok(s: &[u8]) -> bool
     ensures { λ r. ⌜ r ≡ shape.nodesOk (now (s .entry)) ⌝ }
 {
+    let table = BOUNDS;
     let m = node_count(s);
     let mut n: u32 = 0;
     while n < m {
-        if node_ok(s, n) {
+        if node_ok(&table, s, n) {
             n += 1;
         } else {
             return false;

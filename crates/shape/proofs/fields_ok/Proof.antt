@@ -13,35 +13,35 @@ use Rattle.sheet.proofs.field_b.Reads as field-b-reads
 use Rattle.sheet.proofs.field_c.Reads as field-c-reads
 use Rattle.sheet.proofs.kind.Reads as kind-reads
 
--- src/lib.rt:254:9
+-- src/lib.rt:259:9
 kind-requires : tie.Need-kind-requires
 kind-requires c κs = search needs
 
--- src/lib.rt:255:9
+-- src/lib.rt:260:9
 count-requires : tie.Need-count-requires
 count-requires c κs = search needs
 
--- src/lib.rt:256:9
+-- src/lib.rt:261:9
 field-a-requires : tie.Need-field-a-requires
 field-a-requires c κs = search needs
 
--- src/lib.rt:257:9
+-- src/lib.rt:262:9
 field-b-requires : tie.Need-field-b-requires
 field-b-requires c κs = search needs
 
--- src/lib.rt:258:9
+-- src/lib.rt:263:9
 field-c-requires : tie.Need-field-c-requires
 field-c-requires c κs = search needs
 
--- src/lib.rt:259:5
+-- src/lib.rt:264:5
 within-bounds-requires : tie.Need-within-bounds-requires
 within-bounds-requires c κs = search needs
 
--- src/lib.rt:259:36
+-- src/lib.rt:264:39
 own-rule-requires : tie.Need-own-rule-requires
 own-rule-requires c κs = search needs
 
--- src/lib.rt:251:1
+-- src/lib.rt:255:1
 returns : tie.Need-returns
 unfolding fieldsOk
 returns c = cc

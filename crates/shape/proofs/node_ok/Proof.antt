@@ -11,31 +11,31 @@ use Rattle.shape.proofs.tiles.Reads as tiles-reads
 use Rattle.sheet.proofs.node_count.Reads as node-count-reads
 use Rattle.sheet.proofs.span.Reads as span-reads
 
--- src/lib.rt:315:9
+-- src/lib.rt:321:9
 node-count-requires : tie.Need-node-count-requires
 node-count-requires c κs = search needs
 
--- src/lib.rt:316:8
+-- src/lib.rt:322:8
 self-ok-requires : tie.Need-self-ok-requires
 self-ok-requires c κs = search needs
 
--- src/lib.rt:317:32
+-- src/lib.rt:323:32
 span-requires : tie.Need-span-requires
 span-requires c κs = search needs
 
--- src/lib.rt:317:28
+-- src/lib.rt:323:28
 add-tiles : tie.Need-add-tiles
 add-tiles c = omega (arith, self-end (c .before .before .before .before .before .args .s .now) (c .before .before .before .before .before .args .n) (c .before .before .before .node-count .result) (cc), c .span .ensures)
 
--- src/lib.rt:317:9
+-- src/lib.rt:323:9
 tiles-requires : tie.Need-tiles-requires
 tiles-requires c κs = omega (arith, self-some (c .before .before .before .before .before .args .s .now) (c .before .before .before .before .before .args .n) (c .before .before .before .node-count .result) (cc), c .span .ensures)
 
--- src/lib.rt:317:9
+-- src/lib.rt:323:9
 returns : tie.Need-returns
 returns c = cc (node-self (c .before .before .before .before .before .before .args .s .now) (c .before .before .before .before .before .before .args .n) (cc))
 
--- src/lib.rt:312:1
+-- src/lib.rt:317:1
 returns-2 : tie.Need-returns-2
 returns-2 c = cc (node-fails (c .before .before .before .before .args .s .now) (c .before .before .before .before .args .n) (cc))
 

@@ -8,23 +8,23 @@ use Rattle.shape.proofs.self_ok.Lts as lts
 use Rattle.shape.proofs.fields_ok.Reads as fields-ok-reads
 use Rattle.sheet.proofs.span.Reads as span-reads
 
--- src/lib.rt:267:9
+-- src/lib.rt:272:9
 span-requires : tie.Need-span-requires
 span-requires c κs = search needs
 
--- src/lib.rt:268:29
+-- src/lib.rt:273:29
 cast-end : tie.Need-cast-end
 cast-end c = search needs
 
--- src/lib.rt:268:15
+-- src/lib.rt:273:15
 add-end : tie.Need-add-end
 add-end c = search needs
 
--- src/lib.rt:269:5
+-- src/lib.rt:274:5
 fields-ok-requires : tie.Need-fields-ok-requires
 fields-ok-requires c κs = search needs
 
--- src/lib.rt:264:1
+-- src/lib.rt:268:1
 returns : tie.Need-returns
 unfolding selfOk
 returns c = cc
