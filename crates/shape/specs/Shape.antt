@@ -42,6 +42,10 @@ unfoldable pub tiles : ℕ → List ℕ → ℕ → ℕ → ℕ → ℕ → Bool
 tiles zero s n e i j = eqb j e
 tiles (suc m) s n e i j = elim (childOk s n e i j) [ true ↦ tiles m s n e (suc i) (j + span s j) | false ↦ false ]
 
+-- the same of a node n by its kind, span, count and fields, within `total` nodes
+unfoldable pub selfFits : ℕ → ℕ → ℕ → ℕ → ℕ → ℕ → ℕ → ℕ → Bool
+selfFits n k w m a b c total = withinBounds k m a b c && ownRule k m a b && leb 1 w && leb (n + w) total
+
 -- node n is right by itself and its subtree lies within m nodes
 unfoldable pub selfOk : List ℕ → ℕ → ℕ → Bool
 selfOk s n m = fieldsOk s n && leb 1 (span s n) && leb (n + span s n) m

@@ -8,9 +8,9 @@ use native.Mathlib.Numerals.{add-one}
 use lib.Dec.{eqb, leb}
 use borrow.Author.Tests.{leb-true}
 use Rattle.sheet.specs.Layout.{nodeCount}
-use Rattle.sheet.specs.Node.{kind, span, count, fieldA, fieldB}
+use Rattle.sheet.specs.Node.{kind, span, count, fieldA, fieldB, fieldC}
 use Rattle.shape.specs.Kinds.{childKind}
-use Rattle.shape.specs.Shape.{childFits, childOk, tiles, fieldsOk, selfOk, nodeOk, rootOk, nodesOk, shapeOk}
+use Rattle.shape.specs.Shape.{childFits, childOk, tiles, fieldsOk, selfFits, selfOk, nodeOk, rootOk, nodesOk, shapeOk}
 
 -- a child that fits ends at e or before
 pub fits-end : (s : List ℕ) (p a b e i j : ℕ) → childFits s p a b e i j ≡ true → j + span s j ≤ e
@@ -30,6 +30,11 @@ unfolding selfOk
 self-some s n m h =
     let l = and-eq-true-iff (fieldsOk s n && leb 1 (span s n)) (leb (n + span s n) m) .0 h .0 in
     leb-true _ _ (and-eq-true-iff (fieldsOk s n) (leb 1 (span s n)) .0 l .1)
+
+-- read from the sheet, it is node n that is right by itself
+pub self-is : (s : List ℕ) (n total : ℕ) → selfFits n (kind s n) (span s n) (count s n) (fieldA s n) (fieldB s n) (fieldC s n) total ≡ selfOk s n total
+unfolding selfFits selfOk fieldsOk
+self-is s n total = refl
 
 pub node-self : (s : List ℕ) (n : ℕ) → selfOk s n (nodeCount s) ≡ true → nodeOk s n ≡ tiles (count s n) s n (n + span s n) 0 (n + 1)
 unfolding nodeOk

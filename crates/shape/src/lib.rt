@@ -1,6 +1,7 @@
 // Refusal 2: node kind, shape or field wrong.
 ghost use mathlib.Core.Path.{_≡_};
 ghost use Prim.Native.Nat.{_+_, _*_, _<_, _≤_};
+ghost use Rattle.sheet.specs.Layout.{nodeCount};
 ghost use Rattle.sheet.specs.Node as nodes;
 ghost use Rattle.shape.specs.Kinds as kinds;
 ghost use Rattle.shape.specs.Shape as shape;
@@ -251,29 +252,6 @@ fn own_rule(k: u32, m: u32, a: u32, b: u32) -> bool
     ((k != 5) | scalar(a)) & ((k != 19) | (wanted <= (m as u64)))
 }
 
-// Node `n` has a kind, and a count and fields that fit it.
-fn fields_ok(t: &[u32; 130], s: &[u8], n: u32) -> bool
-    requires { ⌜ now t ≡ kinds.bounds ⌝ }
-    ensures { λ r. ⌜ r ≡ shape.fieldsOk (now (s .entry)) n ⌝ }
-{
-    let k = kind(s, n);
-    let m = count(s, n);
-    let a = field_a(s, n);
-    let b = field_b(s, n);
-    let c = field_c(s, n);
-    within_bounds(t, k, m, a, b, c) & own_rule(k, m, a, b)
-}
-
-// Node `n` is right by itself and its subtree lies within `m` nodes.
-fn self_ok(t: &[u32; 130], s: &[u8], n: u32, m: u32) -> bool
-    requires { ⌜ now t ≡ kinds.bounds ⌝ }
-    ensures { λ r. ⌜ r ≡ shape.selfOk (now (s .entry)) n m ⌝ }
-{
-    let w = span(s, n);
-    let end = (n as u64) + (w as u64);
-    fields_ok(t, s, n) & (1 <= w) & (end <= (m as u64))
-}
-
 // Node 0 is an expression or a Switch, and its subtree is the whole sheet.
 fn root_ok(s: &[u8]) -> bool
     ensures { λ r. ⌜ r ≡ shape.rootOk (now (s .entry)) ⌝ }
@@ -291,15 +269,13 @@ fn child_ok(s: &[u8], p: u32, a: u32, b: u32, e: u32, i: u32, j: u32) -> bool
     (1 <= w) & (end <= (e as u64)) & child_kind(p, a, b, i, kind(s, j))
 }
 
-// The children of node `n` tile the nodes from behind it up to `e`.
-fn tiles(s: &[u8], n: u32, e: u32) -> bool
+// The children of node `n` tile the nodes from behind it up to `e`. Its kind, count and fields a and b are handed over.
+fn tiles(s: &[u8], n: u32, p: u32, m: u32, a: u32, b: u32, e: u32) -> bool
+    requires { ⌜ (p ≡ nodes.kind (now s) n) × (m ≡ nodes.count (now s) n) ⌝ }
+    requires { ⌜ (a ≡ nodes.fieldA (now s) n) × (b ≡ nodes.fieldB (now s) n) ⌝ }
     requires { ⌜ n + 1 ≤ e ⌝ }
     ensures { λ r. ⌜ r ≡ shape.tiles (nodes.count (now (s .entry)) n) (now (s .entry)) n e 0 (n + 1) ⌝ }
 {
-    let p = kind(s, n);
-    let m = count(s, n);
-    let a = field_a(s, n);
-    let b = field_b(s, n);
     let mut i: u32 = 0;
     let mut j: u32 = n + 1;
     while i < m {
@@ -313,14 +289,39 @@ fn tiles(s: &[u8], n: u32, e: u32) -> bool
     j == e
 }
 
-// Node `n` is right, and so are its children's places.
-fn node_ok(t: &[u32; 130], s: &[u8], n: u32) -> bool
+// Node `n` is right by itself, with its span and fields as handed over, and its subtree lies within `total` nodes.
+fn self_ok(
+    t: &[u32; 130],
+    n: u32,
+    k: u32,
+    w: u32,
+    m: u32,
+    a: u32,
+    b: u32,
+    c: u32,
+    total: u32,
+) -> bool
     requires { ⌜ now t ≡ kinds.bounds ⌝ }
+    ensures { λ r. ⌜ r ≡ shape.selfFits n k w m a b c total ⌝ }
+{
+    let end = (n as u64) + (w as u64);
+    within_bounds(t, k, m, a, b, c) & own_rule(k, m, a, b) & (1 <= w) & (end <= (total as u64))
+}
+
+// Node `n` of `total` is right, and so are its children's places.
+fn node_ok(t: &[u32; 130], s: &[u8], n: u32, total: u32) -> bool
+    requires { ⌜ now t ≡ kinds.bounds ⌝ }
+    requires { ⌜ total ≡ nodeCount (now s) ⌝ }
     ensures { λ r. ⌜ r ≡ shape.nodeOk (now (s .entry)) n ⌝ }
 {
-    let m = node_count(s);
-    if self_ok(t, s, n, m) {
-        return tiles(s, n, n + span(s, n));
+    let k = kind(s, n);
+    let w = span(s, n);
+    let m = count(s, n);
+    let a = field_a(s, n);
+    let b = field_b(s, n);
+    let c = field_c(s, n);
+    if self_ok(t, n, k, w, m, a, b, c, total) {
+        return tiles(s, n, k, m, a, b, n + w);
     }
     false
 }
@@ -343,7 +344,7 @@ fn nodes_ok(s: &[u8]) -> bool
     let m = node_count(s);
     let mut n: u32 = 0;
     while n < m {
-        if node_ok(&table, s, n) {
+        if node_ok(&table, s, n, m) {
             n += 1;
         } else {
             return false;

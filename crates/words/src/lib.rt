@@ -1,4 +1,5 @@
-// Bytes and little-endian 32-bit words of a byte string. Every index is answered: what lies past the end reads as 0.
+// Bytes and little-endian 32-bit words of a byte string. Every index is answered: a byte past the end, and a word that is not
+// there whole, reads as 0.
 ghost use mathlib.Core.Path.{_≡_};
 ghost use Prim.Native.Nat.{_+_, _*_, _<_, _≤_};
 ghost use lib.ListN.{length, take, drop};
@@ -27,30 +28,12 @@ fn whole(s: &[u8], i: usize) -> u32
     from_bytes(s[at], s[at + 1], s[at + 2], s[at + 3])
 }
 
-// The word that the string ends in, with fewer than four bytes left.
-fn cut(s: &[u8], i: usize) -> u32
-    requires { ⌜ 4 * i ≤ length (now s) ⌝ }
-    ensures { λ r. ⌜ r ≡ word (now (s .entry)) i ⌝ }
-{
-    let at = 4 * i;
-    from_bytes(
-        byte(s, at),
-        byte(s, at + 1),
-        byte(s, at + 2),
-        byte(s, at + 3),
-    )
-}
-
-// Word `i` of `s`, with 0 for each byte past the end.
+// Word `i` of `s`, 0 where the string does not have it whole.
 pub fn word_at(s: &[u8], i: usize) -> u32
     ensures { λ r. ⌜ r ≡ word (now (s .entry)) i ⌝ }
 {
-    let n = s.len() / 4;
-    if i < n {
+    if i < s.len() / 4 {
         return whole(s, i);
-    }
-    if i == n {
-        return cut(s, i);
     }
     0
 }

@@ -20,36 +20,36 @@ Inv-loop s table m n₀ n = (n ≤ m) × (allBelow n (nodeOk s) ≡ true)
 abbrev μ-loop : tie.MeasureT-loop
 μ-loop s table m n₀ n = m - n
 
--- src/lib.rt:343:9
+-- src/lib.rt:334:9
 node-count-requires : tie.Need-node-count-requires Inv-loop μ-loop
 node-count-requires c κs = search needs
 
--- src/lib.rt:345:5
+-- src/lib.rt:336:5
 loop-holds : tie.Need-loop-holds Inv-loop μ-loop
 loop-holds c = (omega arith, all-none (nodeOk (c .before .before .args .s .now)))
 
--- src/lib.rt:346:12
+-- src/lib.rt:337:12
 node-ok-requires : tie.Need-node-ok-requires Inv-loop μ-loop
-node-ok-requires c κs = refl
+node-ok-requires c κs = (refl, c .before .before .before .node-count .ensures)
 
--- src/lib.rt:347:13
+-- src/lib.rt:338:13
 add-n : tie.Need-add-n Inv-loop μ-loop
 add-n c = search needs
 
--- src/lib.rt:345:5
+-- src/lib.rt:336:5
 loop-less : tie.Need-loop-less Inv-loop μ-loop
 loop-less c = search needs
 
--- src/lib.rt:345:5
+-- src/lib.rt:336:5
 loop-again : tie.Need-loop-again Inv-loop μ-loop
 loop-again c = (omega arith, all-more (nodeOk (c .before .before .before .before .before .before .before .args .s .now)) (c .before .before .before .before .loop .n) (c .before .before .before .before .loop .inv .1) (cc))
 
--- src/lib.rt:349:13
+-- src/lib.rt:340:13
 returns : tie.Need-returns Inv-loop μ-loop
 unfolding nodesOk
 returns c = cc (all-fails (nodeOk (c .before .before .before .before .before .before .before .args .s .now)) (c .before .before .before .before .before .node-count .result) (c .before .before .before .before .loop .n) (c .before .before .before .loop-test .taken) (cc))
 
--- src/lib.rt:339:1
+-- src/lib.rt:330:1
 returns-2 : tie.Need-returns-2 Inv-loop μ-loop
 unfolding nodesOk
 returns-2 c = let e : c .before .loop .n ≡ c .before .before .node-count .result = omega arith in cc

@@ -1,33 +1,29 @@
 -- `shape::self_ok` meets its contract: the tests are the definition's.
-use Rattle.shape.specs.Shape.{selfOk}
+use Rattle.shape.specs.Shape.{selfFits}
 use borrow.Author.Needs.{needs}
 use Rattle.shape.proofs.self_ok.Statement.{statement}
 use Rattle.shape.proofs.self_ok.Tie as tie
 use Rattle.shape.proofs.self_ok.Reads as reads
 use Rattle.shape.proofs.self_ok.Lts as lts
-use Rattle.shape.proofs.fields_ok.Reads as fields-ok-reads
-use Rattle.sheet.proofs.span.Reads as span-reads
+use Rattle.shape.proofs.own_rule.Reads as own-rule-reads
+use Rattle.shape.proofs.within_bounds.Reads as within-bounds-reads
 
--- src/lib.rt:272:9
-span-requires : tie.Need-span-requires
-span-requires c κs = search needs
-
--- src/lib.rt:273:29
-cast-end : tie.Need-cast-end
-cast-end c = search needs
-
--- src/lib.rt:273:15
+-- src/lib.rt:297:15
 add-end : tie.Need-add-end
 add-end c = search needs
 
--- src/lib.rt:274:5
-fields-ok-requires : tie.Need-fields-ok-requires
-fields-ok-requires c κs = search needs
+-- src/lib.rt:298:5
+within-bounds-requires : tie.Need-within-bounds-requires
+within-bounds-requires c κs = search needs
 
--- src/lib.rt:268:1
+-- src/lib.rt:298:39
+own-rule-requires : tie.Need-own-rule-requires
+own-rule-requires c κs = search needs
+
+-- src/lib.rt:293:1
 returns : tie.Need-returns
-unfolding selfOk
+unfolding selfFits
 returns c = cc
 
 pub self-ok-spec : {M : Type 1} → statement M
-self-ok-spec = tie.close (tie.spec span-requires cast-end add-end fields-ok-requires returns)
+self-ok-spec = tie.close (tie.spec add-end within-bounds-requires own-rule-requires returns)

@@ -32,7 +32,7 @@ from-bytes-requires : tie.Need-from-bytes-requires
 from-bytes-requires c κs = search needs
 
 returns : tie.Need-returns
-returns c = cc (word-bytes (c .before .before .before .before .before .before .args .s .now) (c .before .before .before .before .before .before .args .i))
+returns c = cc (word-bytes (c .before .before .before .before .before .before .args .s .now) (c .before .before .before .before .before .before .args .i) (c .before .before .before .before .before .before .pre))
 
 pub whole-spec : {M : Type 1} → statement M
 whole-spec =

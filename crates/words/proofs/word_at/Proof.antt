@@ -1,30 +1,25 @@
--- `words::word_at` meets its contract: a word that starts past the end is 0. Assumes nothing.
-use borrow.Author.Needs.{needs}
-use native.Mathlib.Omega.{arith}
-use mathlib.Core.Path.{_≡_, sym}
-use Prim.Native.Nat.{_/_}
-use lib.ListN.{length}
+-- `words::word_at` meets its contract: past the last whole word the answer is 0.
 use Rattle.words.specs.WordLaws.{word-past}
+use mathlib.Core.Path.{sym}
+use native.Mathlib.Omega.{arith}
+use borrow.Author.Needs.{needs}
 use Rattle.words.proofs.word_at.Statement.{statement}
 use Rattle.words.proofs.word_at.Tie as tie
+use Rattle.words.proofs.word_at.Reads as reads
+use Rattle.words.proofs.word_at.Lts as lts
+use Rattle.words.proofs.whole.Reads as whole-reads
 
+-- src/lib.rt:36:9
 whole-requires : tie.Need-whole-requires
 whole-requires c κs = search needs
 
+-- src/lib.rt:36:9
 returns : tie.Need-returns
 returns c = search needs
 
-cut-requires : tie.Need-cut-requires
-cut-requires c κs = search needs
-
+-- src/lib.rt:32:1
 returns-2 : tie.Need-returns-2
-returns-2 c = search needs
-
-returns-3 : tie.Need-returns-3
-returns-3 c =
-    let a = c .before .before .before .args in
-    let ne : a .i ≡ length (a .s .now) / 4 → ⊥ = c .if2 .left in
-    sym (word-past (a .s .now) (a .i) (omega arith))
+returns-2 c = sym (word-past (c .before .before .args .s .now) (c .before .before .args .i) (omega arith))
 
 pub word-at-spec : {M : Type 1} → statement M
-word-at-spec = tie.close (tie.spec whole-requires returns cut-requires returns-2 returns-3)
+word-at-spec = tie.close (tie.spec whole-requires returns returns-2)
