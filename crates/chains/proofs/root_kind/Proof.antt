@@ -1,0 +1,15 @@
+-- `chains::root_kind` meets its contract: one law for each way.
+use Rattle.chains.specs.WayLaws.{kind-own, kind-zero}
+use Rattle.chains.proofs.root_kind.Statement.{statement}
+use Rattle.chains.proofs.root_kind.Tie as tie
+use Rattle.chains.proofs.root_kind.Reads as reads
+use Rattle.chains.proofs.root_kind.Lts as lts
+
+returns : tie.Need-returns
+returns c = cc (kind-own (c .before .args .k) (cc))
+
+returns-2 : tie.Need-returns-2
+returns-2 c = cc (kind-zero (c .before .args .k) (cc))
+
+pub root-kind-spec : {M : Type 1} → statement M
+root-kind-spec = tie.close (tie.spec returns returns-2)

@@ -1,0 +1,18 @@
+-- `rules::calls::stores_token` meets its contract: the tests are those of the definition.
+use Rattle.lowering.specs.Call.{storesToken}
+use borrow.Author.Needs.{needs}
+use Rattle.rules.proofs.calls.stores_token.Statement.{statement}
+use Rattle.rules.proofs.calls.stores_token.Tie as tie
+
+count-requires : tie.Need-count-requires
+count-requires c κs = search needs
+
+field-c-requires : tie.Need-field-c-requires
+field-c-requires c κs = search needs
+
+returns : tie.Need-returns
+unfolding storesToken
+returns c = cc
+
+pub stores-token-spec : {M : Type 1} → statement M
+stores-token-spec = tie.close (tie.spec count-requires field-c-requires returns)

@@ -1,0 +1,13 @@
+-- `rules::chains::breaks` meets its contract: the flag is read off field a.
+use borrow.Author.Needs.{needs}
+use Rattle.rules.proofs.chains.breaks.Statement.{statement}
+use Rattle.rules.proofs.chains.breaks.Tie as tie
+
+field-a-requires : tie.Need-field-a-requires
+field-a-requires c κs = search needs
+
+returns : tie.Need-returns
+returns c = cc
+
+pub breaks-spec : {M : Type 1} → statement M
+breaks-spec = tie.close (tie.spec field-a-requires returns)

@@ -1,0 +1,39 @@
+-- `rules::chains::is_lowerable_method` meets its contract: the tests are those of the definition.
+use Rattle.lowering.specs.Steps.{isLowerableMethod}
+use borrow.Author.Needs.{needs}
+use Rattle.rules.proofs.chains.is_lowerable_method.Statement.{statement}
+use Rattle.rules.proofs.chains.is_lowerable_method.Tie as tie
+
+field-a-requires : tie.Need-field-a-requires
+field-a-requires c κs = search needs
+
+text-requires : tie.Need-text-requires
+text-requires c κs = search needs
+
+is-call-requires : tie.Need-is-call-requires
+is-call-requires c κs = search needs
+
+is-curry-requires : tie.Need-is-curry-requires
+is-curry-requires c κs = search needs
+
+is-lowerable-call-requires : tie.Need-is-lowerable-call-requires
+is-lowerable-call-requires c κs = search needs
+
+count-requires : tie.Need-count-requires
+count-requires c κs = search needs
+
+returns : tie.Need-returns
+unfolding isLowerableMethod
+returns c = cc
+
+pub is-lowerable-method-spec : {M : Type 1} → statement M
+is-lowerable-method-spec =
+    tie.close
+    (tie.spec
+    field-a-requires
+    text-requires
+    is-call-requires
+    is-curry-requires
+    is-lowerable-call-requires
+    count-requires
+    returns)

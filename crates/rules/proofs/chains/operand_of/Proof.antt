@@ -1,0 +1,24 @@
+-- `rules::chains::operand_of` meets its contract: one law for each way.
+use Rattle.rules.specs.RuleLaws.{operand-next, operand-rest}
+use borrow.Author.Needs.{needs}
+use Rattle.rules.proofs.chains.operand_of.Statement.{statement}
+use Rattle.rules.proofs.chains.operand_of.Tie as tie
+
+rest-of-requires : tie.Need-rest-of-requires
+rest-of-requires c κs = search needs
+
+goes-on-requires : tie.Need-goes-on-requires
+goes-on-requires c κs = search needs
+
+child-requires : tie.Need-child-requires
+child-requires c κs = search needs
+
+returns : tie.Need-returns
+returns c = let a = c .before .before .before .before .before .args in cc (operand-next (a .s .now) (a .c) (cc))
+
+returns-2 : tie.Need-returns-2
+returns-2 c = let a = c .before .before .before .before .args in cc (operand-rest (a .s .now) (a .c) (cc))
+
+pub operand-of-spec : {M : Type 1} → statement M
+operand-of-spec =
+    tie.close (tie.spec rest-of-requires goes-on-requires child-requires returns returns-2)

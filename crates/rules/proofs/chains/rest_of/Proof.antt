@@ -1,0 +1,18 @@
+-- `rules::chains::rest_of` meets its contract: the rest is the second child.
+use Rattle.lowering.specs.Flatten.{restOf}
+use borrow.Author.Needs.{needs}
+use Rattle.rules.proofs.chains.rest_of.Statement.{statement}
+use Rattle.rules.proofs.chains.rest_of.Tie as tie
+
+child-requires : tie.Need-child-requires
+child-requires c κs = search needs
+
+next-requires : tie.Need-next-requires
+next-requires c κs = search needs
+
+returns : tie.Need-returns
+unfolding restOf
+returns c = cc
+
+pub rest-of-spec : {M : Type 1} → statement M
+rest-of-spec = tie.close (tie.spec child-requires next-requires returns)

@@ -1,0 +1,133 @@
+// FnCall: which rule lowers a call, and what its receiver is.
+ghost use mathlib.Core.Path.{_≡_};
+ghost use Prim.Native.Nat.{_-_};
+ghost use Rattle.lowering.specs.Call as calls;
+ghost use Rattle.rules.specs.Answers as answers;
+use crate::kinds::THIS;
+use crate::kinds::VARIABLE;
+use sheet::child;
+use sheet::count;
+use sheet::field_a;
+use sheet::field_b;
+use sheet::field_c;
+use sheet::kind;
+use slots::Found;
+use text::is_call;
+use text::is_curry;
+use text::is_eval;
+use text::is_fn;
+
+// greatest count of arguments of a call that lowers
+pub const MAX_ARGS: u32 = 255;
+
+// Which rule lowers a call: `Fn`, `call`, generic dispatch, `eval`; or the call is kept.
+pub enum CallRule {
+    FnPtr,
+    FnPtrCall,
+    Lowerable,
+    Eval,
+    Residual,
+}
+
+// What the first argument is: a variable by slot or by name, `this`, or a value (or there is none).
+pub enum First {
+    Local(u32),
+    Named,
+    This,
+    Value,
+}
+
+// A name with a meaning of its own.
+fn syntactic(name: &[u8]) -> bool
+    ensures { λ r. ⌜ r ≡ calls.syntactic (now (name .entry)) ⌝ }
+{
+    is_eval(name) | is_fn(name) | is_call(name) | is_curry(name)
+}
+
+// Generic dispatch takes the call.
+pub fn is_lowerable_call(s: &[u8], j: u32) -> bool
+    ensures { λ r. ⌜ r ≡ calls.isLowerableCall (now (s .entry)) j ⌝ }
+{
+    let named = syntactic(sheet::text(s, field_a(s, j)));
+    (count(s, j) <= MAX_ARGS) & !named
+}
+
+// `Fn(name)`.
+fn is_fn_ptr(s: &[u8], j: u32) -> bool
+    ensures { λ r. ⌜ r ≡ calls.isFnPtr (now (s .entry)) j ⌝ }
+{
+    is_fn(sheet::text(s, field_a(s, j))) & (count(s, j) == 1)
+}
+
+// `call(f, ..)`.
+fn is_fn_ptr_call(s: &[u8], j: u32) -> bool
+    ensures { λ r. ⌜ r ≡ calls.isFnPtrCall (now (s .entry)) j ⌝ }
+{
+    let n = count(s, j);
+    is_call(sheet::text(s, field_a(s, j))) & (1 <= n) & (n <= MAX_ARGS + 1)
+}
+
+// The rule of call `j`.
+pub fn call_rule(s: &[u8], j: u32) -> CallRule
+    ensures { λ r. ⌜ r ≡ answers.callRuleOf (calls.callRule (now (s .entry)) j) ⌝ }
+{
+    if is_fn_ptr(s, j) {
+        return CallRule::FnPtr;
+    }
+    if is_fn_ptr_call(s, j) {
+        return CallRule::FnPtrCall;
+    }
+    if is_lowerable_call(s, j) {
+        return CallRule::Lowerable;
+    }
+    if is_eval(sheet::text(s, field_a(s, j))) {
+        return CallRule::Eval;
+    }
+    CallRule::Residual
+}
+
+// A variable as a first argument.
+fn variable_first(s: &[u8], v: u32) -> First
+    ensures { λ r. ⌜ r ≡ answers.firstOf (calls.variableFirst (now (s .entry)) v) ⌝ }
+{
+    let found = slots::resolve(s, sheet::text(s, field_a(s, v)));
+    match found {
+        Found::At(slot) => First::Local(slot),
+        Found::Nothing => First::Named,
+    }
+}
+
+// Node `v` as a first argument.
+fn first_of(s: &[u8], v: u32) -> First
+    ensures { λ r. ⌜ r ≡ answers.firstOf (calls.firstOf (now (s .entry)) v) ⌝ }
+{
+    let k = kind(s, v);
+    if k == THIS {
+        return First::This;
+    }
+    if k == VARIABLE {
+        return variable_first(s, v);
+    }
+    First::Value
+}
+
+// The receiver of call `j`. A call with an operator, with capture or with no argument has none.
+pub fn receiver(s: &[u8], j: u32) -> First
+    ensures { λ r. ⌜ r ≡ answers.firstOf (calls.receiver (now (s .entry)) j) ⌝ }
+{
+    let c = field_c(s, j);
+    let b = field_b(s, j);
+    let n = count(s, j);
+    if (c == 0) & (b == 0) & (1 <= n) {
+        return first_of(s, child(j));
+    }
+    First::Value
+}
+
+// An operator is stored with 1 or 2 arguments.
+pub fn stores_token(s: &[u8], j: u32) -> bool
+    ensures { λ r. ⌜ r ≡ calls.storesToken (now (s .entry)) j ⌝ }
+{
+    let n = count(s, j);
+    (!(field_c(s, j) == 0)) & ((n == 1) | (n == 2))
+}
