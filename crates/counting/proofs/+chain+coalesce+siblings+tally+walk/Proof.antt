@@ -1,0 +1,410 @@
+-- The cycle of calls of the count. The measure: four for each level left, and a step for each member between a node and its operands. Invariant of both loops: what is passed and what is left make the whole, cut off.
+use borrow.Author.Needs.{needs}
+use native.Mathlib.Omega.{arith}
+use Prim.Native.Nat.{_+_, _*_, _-_, _≤_}
+use mathlib.Core.Path.{_≡_, sym, _∙_}
+use Rattle.sheet.specs.Limits.{maxDepth}
+use Rattle.lowering.specs.Flatten.{links}
+use Rattle.counting.specs.TallyLaws.{capped-capped, nothing-plus}
+use Rattle.counting.specs.CodeLaws.{nothing-capped, sum-starts, sum-more, sum-done, walk-more, walk-last, walk-fails, walk-nowhere, walk-done, chain-stays, chain-fails, chain-lowers, coalesce-counts, tally-none, tally-parts, tally-coalesce, tally-chain}
+use Rattle.counting.specs.Tally.{capped, plus}
+use Rattle.counting.specs.Count as counts
+use Prim.Native.Nat.{ℕ, _<_}
+use borrow.Fn.Kinds.{In}
+use borrow.Fn.PlainCycle.{Measures, is, falls, and}
+use Rattle.counting.proofs.chain.Reads as chain
+use Rattle.counting.proofs.chain.Kinds as chain-kinds
+use Rattle.counting.proofs.+chain+coalesce+siblings+tally+walk.Lts-chain as chain-lts
+use Rattle.counting.proofs.coalesce.Reads as coalesce
+use Rattle.counting.proofs.coalesce.Kinds as coalesce-kinds
+use Rattle.counting.proofs.+chain+coalesce+siblings+tally+walk.Lts-coalesce as coalesce-lts
+use Rattle.counting.proofs.siblings.Reads as siblings
+use Rattle.counting.proofs.siblings.Kinds as siblings-kinds
+use Rattle.counting.proofs.+chain+coalesce+siblings+tally+walk.Lts-siblings as siblings-lts
+use Rattle.counting.proofs.tally.Reads as tally
+use Rattle.counting.proofs.tally.Kinds as tally-kinds
+use Rattle.counting.proofs.+chain+coalesce+siblings+tally+walk.Lts-tally as tally-lts
+use Rattle.counting.proofs.walk.Reads as walk
+use Rattle.counting.proofs.walk.Kinds as walk-kinds
+use Rattle.counting.proofs.+chain+coalesce+siblings+tally+walk.Lts-walk as walk-lts
+use Rattle.counting.proofs.links.link_of.Reads as link-of-reads
+use Rattle.counting.proofs.links.reach.Reads as reach-reads
+use Rattle.counting.proofs.links.temporary.Reads as temporary-reads
+use Rattle.counting.proofs.plans.one_less.Reads as one-less-reads
+use Rattle.counting.proofs.plans.plan_of.Reads as plan-of-reads
+use Rattle.counting.proofs.tallies.instructions.Reads as instructions-reads
+use Rattle.counting.proofs.tallies.nothing.Reads as nothing-reads
+use Rattle.counting.proofs.tallies.plus.Reads as plus-reads
+use Rattle.counting.proofs.tallies.taken_back.Reads as taken-back-reads
+use Rattle.rules.proofs.chains.goes_on.Reads as goes-on-reads
+use Rattle.rules.proofs.chains.rest_of.Reads as rest-of-reads
+use Rattle.sheet.proofs.child.Reads as child-reads
+use Rattle.sheet.proofs.count.Reads as count-reads
+use Rattle.sheet.proofs.next.Reads as next-reads
+use Rattle.sheet.proofs.skip.Reads as skip-reads
+use Rattle.counting.proofs.+chain+coalesce+siblings+tally+walk.{statement}
+use Rattle.counting.proofs.+chain+coalesce+siblings+tally+walk.Tie.{close}
+
+abbrev μ-chain : Measures 1 chain-kinds.ps ℕ
+μ-chain κs a = 4 * a .0 + 3
+
+abbrev μ-coalesce : Measures 1 coalesce-kinds.ps ℕ
+μ-coalesce κs a = 4 * a .0 + 2
+
+abbrev μ-siblings : Measures 1 siblings-kinds.ps ℕ
+μ-siblings κs a = 4 * a .0 + 1
+
+abbrev μ-tally : Measures 1 tally-kinds.ps ℕ
+μ-tally κs a = 4 * a .0
+
+abbrev μ-walk : Measures 1 walk-kinds.ps ℕ
+μ-walk κs a = 4 * a .0 + 2
+
+abbrev chain-at : ℕ → In 1 chain-kinds.ps
+chain-at t = and 1 chain-kinds.ps (is 1 chain-kinds.ps μ-chain t) chain.Pre
+
+abbrev chain-below : ℕ → In 1 chain-kinds.ps
+chain-below t = and 1 chain-kinds.ps (falls 1 chain-kinds.ps _<_ μ-chain t) chain.Pre
+
+abbrev coalesce-at : ℕ → In 1 coalesce-kinds.ps
+coalesce-at t = and 1 coalesce-kinds.ps (is 1 coalesce-kinds.ps μ-coalesce t) coalesce.Pre
+
+abbrev coalesce-below : ℕ → In 1 coalesce-kinds.ps
+coalesce-below t =
+    and 1 coalesce-kinds.ps (falls 1 coalesce-kinds.ps _<_ μ-coalesce t) coalesce.Pre
+
+abbrev siblings-at : ℕ → In 1 siblings-kinds.ps
+siblings-at t = and 1 siblings-kinds.ps (is 1 siblings-kinds.ps μ-siblings t) siblings.Pre
+
+abbrev siblings-below : ℕ → In 1 siblings-kinds.ps
+siblings-below t =
+    and 1 siblings-kinds.ps (falls 1 siblings-kinds.ps _<_ μ-siblings t) siblings.Pre
+
+abbrev tally-at : ℕ → In 1 tally-kinds.ps
+tally-at t = and 1 tally-kinds.ps (is 1 tally-kinds.ps μ-tally t) tally.Pre
+
+abbrev tally-below : ℕ → In 1 tally-kinds.ps
+tally-below t = and 1 tally-kinds.ps (falls 1 tally-kinds.ps _<_ μ-tally t) tally.Pre
+
+abbrev walk-at : ℕ → In 1 walk-kinds.ps
+walk-at t = and 1 walk-kinds.ps (is 1 walk-kinds.ps μ-walk t) walk.Pre
+
+abbrev walk-below : ℕ → In 1 walk-kinds.ps
+walk-below t = and 1 walk-kinds.ps (falls 1 walk-kinds.ps _<_ μ-walk t) walk.Pre
+
+abbrev chain-claims : ℕ → chain-lts.Claims
+chain-claims t = (reach-reads.Asked, reach-reads.Learnt, instructions-reads.Asked, instructions-reads.Learnt, walk-below t, walk.Post, taken-back-reads.Asked, taken-back-reads.Learnt, plus-reads.Asked, plus-reads.Learnt, child-reads.Asked, child-reads.Learnt, temporary-reads.Asked, temporary-reads.Learnt, siblings-below t, siblings.Post)
+
+abbrev coalesce-claims : ℕ → coalesce-lts.Claims
+coalesce-claims t = (count-reads.Asked, count-reads.Learnt, one-less-reads.Asked, one-less-reads.Learnt, child-reads.Asked, child-reads.Learnt, siblings-below t, siblings.Post, skip-reads.Asked, skip-reads.Learnt, tally-below t, tally.Post, plus-reads.Asked, plus-reads.Learnt)
+
+abbrev siblings-claims : ℕ → siblings-lts.Claims
+siblings-claims t = (nothing-reads.Asked, nothing-reads.Learnt, tally-below t, tally.Post, instructions-reads.Asked, instructions-reads.Learnt, plus-reads.Asked, plus-reads.Learnt, next-reads.Asked, next-reads.Learnt)
+
+abbrev tally-claims : ℕ → tally-lts.Claims
+tally-claims t = (instructions-reads.Asked, instructions-reads.Learnt, plan-of-reads.Asked, plan-of-reads.Learnt, siblings-below t, siblings.Post, plus-reads.Asked, plus-reads.Learnt, coalesce-below t, coalesce.Post, chain-below t, chain.Post)
+
+abbrev walk-claims : ℕ → walk-lts.Claims
+walk-claims t = (nothing-reads.Asked, nothing-reads.Learnt, link-of-reads.Asked, link-of-reads.Learnt, siblings-below t, siblings.Post, plus-reads.Asked, plus-reads.Learnt, goes-on-reads.Asked, goes-on-reads.Learnt, rest-of-reads.Asked, rest-of-reads.Learnt)
+
+chain-reach-requires : (t : ℕ) → chain-lts.Need-reach-requires (chain-claims t) (chain-at t) chain.Post
+chain-reach-requires t c κs = search needs
+
+chain-instructions-requires : (t : ℕ) → chain-lts.Need-instructions-requires (chain-claims t) (chain-at t) chain.Post
+chain-instructions-requires t c κs = search needs
+
+chain-returns : (t : ℕ) → chain-lts.Need-returns (chain-claims t) (chain-at t) chain.Post
+chain-returns t c = let a = c .before .before .before .before .args in cc (chain-stays (a .s .now) (counts.tally (a .levels) (a .s .now)) (a .j) (cc))
+
+chain-walk-requires : (t : ℕ) → chain-lts.Need-walk-requires (chain-claims t) (chain-at t) chain.Post
+chain-walk-requires t c κs = omega arith
+
+chain-taken-back-requires : (t : ℕ) → chain-lts.Need-taken-back-requires (chain-claims t) (chain-at t) chain.Post
+chain-taken-back-requires t c κs = search needs
+
+chain-instructions-requires-2 : (t : ℕ) → chain-lts.Need-instructions-requires-2 (chain-claims t) (chain-at t) chain.Post
+chain-instructions-requires-2 t c κs = search needs
+
+chain-plus-requires : (t : ℕ) → chain-lts.Need-plus-requires (chain-claims t) (chain-at t) chain.Post
+chain-plus-requires t c κs = search needs
+
+chain-returns-2 : (t : ℕ) → chain-lts.Need-returns-2 (chain-claims t) (chain-at t) chain.Post
+chain-returns-2 t c = let a = c .before .before .before .before .before .before .before .before .args in cc (chain-fails (a .s .now) (counts.tally (a .levels) (a .s .now)) (a .j) (cc))
+
+chain-child-requires : (t : ℕ) → chain-lts.Need-child-requires (chain-claims t) (chain-at t) chain.Post
+chain-child-requires t c κs = search needs
+
+chain-temporary-requires : (t : ℕ) → chain-lts.Need-temporary-requires (chain-claims t) (chain-at t) chain.Post
+chain-temporary-requires t c κs = search needs
+
+chain-siblings-requires : (t : ℕ) → chain-lts.Need-siblings-requires (chain-claims t) (chain-at t) chain.Post
+chain-siblings-requires t c κs = omega arith
+
+chain-plus-requires-2 : (t : ℕ) → chain-lts.Need-plus-requires-2 (chain-claims t) (chain-at t) chain.Post
+chain-plus-requires-2 t c κs = search needs
+
+chain-instructions-requires-3 : (t : ℕ) → chain-lts.Need-instructions-requires-3 (chain-claims t) (chain-at t) chain.Post
+chain-instructions-requires-3 t c κs = search needs
+
+chain-plus-requires-3 : (t : ℕ) → chain-lts.Need-plus-requires-3 (chain-claims t) (chain-at t) chain.Post
+chain-plus-requires-3 t c κs = search needs
+
+chain-returns-3 : (t : ℕ) → chain-lts.Need-returns-3 (chain-claims t) (chain-at t) chain.Post
+chain-returns-3 t c = let a = c .before .before .before .before .before .before .before .before .before .before .before .args in cc (chain-lowers (a .s .now) (counts.tally (a .levels) (a .s .now)) (a .j) (λ e. c .before .before .before .before .before .before .before .before .if1 .left (c .before .before .before .before .before .before .before .before .before .reach .ensures ∙ e)) (λ e. c .before .before .before .before .before .before .if2 .left (c .before .before .before .before .before .before .before .before .before .reach .ensures ∙ e)))
+
+coalesce-count-requires : (t : ℕ) → coalesce-lts.Need-count-requires (coalesce-claims t) (coalesce-at t) coalesce.Post
+coalesce-count-requires t c κs = search needs
+
+coalesce-one-less-requires : (t : ℕ) → coalesce-lts.Need-one-less-requires (coalesce-claims t) (coalesce-at t) coalesce.Post
+coalesce-one-less-requires t c κs = search needs
+
+coalesce-child-requires : (t : ℕ) → coalesce-lts.Need-child-requires (coalesce-claims t) (coalesce-at t) coalesce.Post
+coalesce-child-requires t c κs = search needs
+
+coalesce-siblings-requires : (t : ℕ) → coalesce-lts.Need-siblings-requires (coalesce-claims t) (coalesce-at t) coalesce.Post
+coalesce-siblings-requires t c κs = omega arith
+
+coalesce-skip-requires : (t : ℕ) → coalesce-lts.Need-skip-requires (coalesce-claims t) (coalesce-at t) coalesce.Post
+coalesce-skip-requires t c κs = search needs
+
+coalesce-tally-requires : (t : ℕ) → coalesce-lts.Need-tally-requires (coalesce-claims t) (coalesce-at t) coalesce.Post
+coalesce-tally-requires t c κs = omega arith
+
+coalesce-plus-requires : (t : ℕ) → coalesce-lts.Need-plus-requires (coalesce-claims t) (coalesce-at t) coalesce.Post
+coalesce-plus-requires t c κs = search needs
+
+coalesce-returns : (t : ℕ) → coalesce-lts.Need-returns (coalesce-claims t) (coalesce-at t) coalesce.Post
+coalesce-returns t c = let a = c .before .before .before .before .before .before .before .before .args in cc (coalesce-counts (a .s .now) (counts.tally (a .levels) (a .s .now)) (a .j))
+
+abbrev siblings-Inv-loop : siblings-lts.InvT-loop
+siblings-Inv-loop levels s gap n from sum₀ i₀ j₀ sum i j = (i ≤ n) × (capped sum ≡ sum) × (capped (plus sum (counts.siblings s (counts.tally levels s) gap (n - i) j)) ≡ capped (counts.siblings s (counts.tally levels s) gap n from))
+
+abbrev siblings-μ-loop : siblings-lts.MeasureT-loop
+siblings-μ-loop levels s gap n from sum₀ i₀ j₀ sum i j = n - i
+
+siblings-nothing-requires : (t : ℕ) → siblings-lts.Need-nothing-requires (siblings-claims t) (siblings-at t) siblings.Post siblings-Inv-loop siblings-μ-loop
+siblings-nothing-requires t c κs = search needs
+
+siblings-loop-holds : (t : ℕ) → siblings-lts.Need-loop-holds (siblings-claims t) (siblings-at t) siblings.Post siblings-Inv-loop siblings-μ-loop
+siblings-loop-holds t c = let a = c .before .before .args in (omega arith, cc nothing-capped, cc (sum-starts (a .s .now) (counts.tally (a .levels) (a .s .now)) (a .gap) (a .n) (a .from)))
+
+siblings-tally-requires : (t : ℕ) → siblings-lts.Need-tally-requires (siblings-claims t) (siblings-at t) siblings.Post siblings-Inv-loop siblings-μ-loop
+siblings-tally-requires t c κs = omega arith
+
+siblings-instructions-requires : (t : ℕ) → siblings-lts.Need-instructions-requires (siblings-claims t) (siblings-at t) siblings.Post siblings-Inv-loop siblings-μ-loop
+siblings-instructions-requires t c κs = search needs
+
+siblings-plus-requires : (t : ℕ) → siblings-lts.Need-plus-requires (siblings-claims t) (siblings-at t) siblings.Post siblings-Inv-loop siblings-μ-loop
+siblings-plus-requires t c κs = search needs
+
+siblings-plus-requires-2 : (t : ℕ) → siblings-lts.Need-plus-requires-2 (siblings-claims t) (siblings-at t) siblings.Post siblings-Inv-loop siblings-μ-loop
+siblings-plus-requires-2 t c κs = search needs
+
+siblings-next-requires : (t : ℕ) → siblings-lts.Need-next-requires (siblings-claims t) (siblings-at t) siblings.Post siblings-Inv-loop siblings-μ-loop
+siblings-next-requires t c κs = search needs
+
+siblings-add-i : (t : ℕ) → siblings-lts.Need-add-i (siblings-claims t) (siblings-at t) siblings.Post siblings-Inv-loop siblings-μ-loop
+siblings-add-i t c = search needs
+
+siblings-loop-less : (t : ℕ) → siblings-lts.Need-loop-less (siblings-claims t) (siblings-at t) siblings.Post siblings-Inv-loop siblings-μ-loop
+siblings-loop-less t c = search needs
+
+siblings-loop-again : (t : ℕ) → siblings-lts.Need-loop-again (siblings-claims t) (siblings-at t) siblings.Post siblings-Inv-loop siblings-μ-loop
+siblings-loop-again t c = let a = c .before .before .before .before .before .before .before .before .before .args in let l = c .before .before .before .before .before .before .loop in (omega arith, cc (capped-capped (plus (l .sum) (c .before .before .plus .result))), cc (sum-more (a .s .now) (counts.tally (a .levels) (a .s .now)) (a .gap) (a .n) (l .i) (l .j) (l .sum) (c .before .before .before .before .before .loop-test .taken)))
+
+siblings-returns : (t : ℕ) → siblings-lts.Need-returns (siblings-claims t) (siblings-at t) siblings.Post siblings-Inv-loop siblings-μ-loop
+siblings-returns t c = let a = c .before .before .before .before .args in let l = c .before .loop in cc (sum-done (a .s .now) (counts.tally (a .levels) (a .s .now)) (a .gap) (a .n) (l .i) (l .j) (l .sum) (c .loop-test .left) (cc))
+
+tally-instructions-requires : (t : ℕ) → tally-lts.Need-instructions-requires (tally-claims t) (tally-at t) tally.Post
+tally-instructions-requires t c κs = search needs
+
+tally-returns : (t : ℕ) → tally-lts.Need-returns (tally-claims t) (tally-at t) tally.Post
+tally-returns t c = let a = c .before .before .before .args in cc (tally-none (a .levels) (a .s .now) (a .j) (cc))
+
+tally-plan-of-requires : (t : ℕ) → tally-lts.Need-plan-of-requires (tally-claims t) (tally-at t) tally.Post
+tally-plan-of-requires t c κs = search needs
+
+tally-enum-known-by : (t : ℕ) → tally-lts.Need-enum-known-by (tally-claims t) (tally-at t) tally.Post
+tally-enum-known-by t c = search needs
+
+tally-sub-siblings : (t : ℕ) → tally-lts.Need-sub-siblings (tally-claims t) (tally-at t) tally.Post
+tally-sub-siblings t c = omega arith
+
+tally-siblings-requires : (t : ℕ) → tally-lts.Need-siblings-requires (tally-claims t) (tally-at t) tally.Post
+tally-siblings-requires t c κs = omega arith
+
+tally-plus-requires : (t : ℕ) → tally-lts.Need-plus-requires (tally-claims t) (tally-at t) tally.Post
+tally-plus-requires t c κs = search needs
+
+tally-enum-told : (t : ℕ) → tally-lts.Need-enum-told (tally-claims t) (tally-at t) tally.Post
+tally-enum-told t c = search needs
+
+tally-sub-coalesce : (t : ℕ) → tally-lts.Need-sub-coalesce (tally-claims t) (tally-at t) tally.Post
+tally-sub-coalesce t c = omega arith
+
+tally-coalesce-requires : (t : ℕ) → tally-lts.Need-coalesce-requires (tally-claims t) (tally-at t) tally.Post
+tally-coalesce-requires t c κs = omega arith
+
+tally-enum-told-2 : (t : ℕ) → tally-lts.Need-enum-told-2 (tally-claims t) (tally-at t) tally.Post
+tally-enum-told-2 t c = search needs
+
+tally-sub-chain : (t : ℕ) → tally-lts.Need-sub-chain (tally-claims t) (tally-at t) tally.Post
+tally-sub-chain t c = omega arith
+
+tally-chain-requires : (t : ℕ) → tally-lts.Need-chain-requires (tally-claims t) (tally-at t) tally.Post
+tally-chain-requires t c κs = omega arith
+
+tally-returns-2 : (t : ℕ) → tally-lts.Need-returns-2 (tally-claims t) (tally-at t) tally.Post
+tally-returns-2 t c = let a = c .before .before .before .before .before .before .before .before .args in cc (tally-parts (a .levels) (a .s .now) (a .j) _ _ _ _ (c .before .before .before .before .before .before .if1 .left) (sym (c .before .before .before .before .before .plan-of .ensures) ∙ c .before .before .before .by .given .1))
+
+tally-returns-3 : (t : ℕ) → tally-lts.Need-returns-3 (tally-claims t) (tally-at t) tally.Post
+tally-returns-3 t c = let a = c .before .before .before .before .before .before .args in cc (tally-coalesce (a .levels) (a .s .now) (a .j) (c .before .before .before .before .if1 .left) (sym (c .before .before .before .plan-of .ensures) ∙ c .before .enum-told .given .1))
+
+tally-returns-4 : (t : ℕ) → tally-lts.Need-returns-4 (tally-claims t) (tally-at t) tally.Post
+tally-returns-4 t c = let a = c .before .before .before .before .before .before .args in cc (tally-chain (a .levels) (a .s .now) (a .j) (c .before .before .before .before .if1 .left) (sym (c .before .before .before .plan-of .ensures) ∙ c .before .enum-told2 .given .1))
+
+abbrev walk-Inv-loop : walk-lts.InvT-loop
+walk-Inv-loop levels s j sum₀ left₀ c₀ sum left c = (left ≤ maxDepth) × (capped sum ≡ sum) × (capped (plus sum (counts.walk s (counts.tally levels s) (links left s c))) ≡ capped (counts.walk s (counts.tally levels s) (links maxDepth s j)))
+
+abbrev walk-μ-loop : walk-lts.MeasureT-loop
+walk-μ-loop levels s j sum₀ left₀ c₀ sum left c = left
+
+walk-nothing-requires : (t : ℕ) → walk-lts.Need-nothing-requires (walk-claims t) (walk-at t) walk.Post walk-Inv-loop walk-μ-loop
+walk-nothing-requires t c κs = search needs
+
+walk-loop-holds : (t : ℕ) → walk-lts.Need-loop-holds (walk-claims t) (walk-at t) walk.Post walk-Inv-loop walk-μ-loop
+walk-loop-holds t c = let a = c .before .before .args in (omega arith, cc nothing-capped, cc (nothing-plus (counts.walk (a .s .now) (counts.tally (a .levels) (a .s .now)) (links maxDepth (a .s .now) (a .j)))))
+
+walk-link-of-requires : (t : ℕ) → walk-lts.Need-link-of-requires (walk-claims t) (walk-at t) walk.Post walk-Inv-loop walk-μ-loop
+walk-link-of-requires t c κs = search needs
+
+walk-enum-known-l : (t : ℕ) → walk-lts.Need-enum-known-l (walk-claims t) (walk-at t) walk.Post walk-Inv-loop walk-μ-loop
+walk-enum-known-l t c = search needs
+
+walk-siblings-requires : (t : ℕ) → walk-lts.Need-siblings-requires (walk-claims t) (walk-at t) walk.Post walk-Inv-loop walk-μ-loop
+walk-siblings-requires t c κs = omega arith
+
+walk-plus-requires : (t : ℕ) → walk-lts.Need-plus-requires (walk-claims t) (walk-at t) walk.Post walk-Inv-loop walk-μ-loop
+walk-plus-requires t c κs = search needs
+
+walk-goes-on-requires : (t : ℕ) → walk-lts.Need-goes-on-requires (walk-claims t) (walk-at t) walk.Post walk-Inv-loop walk-μ-loop
+walk-goes-on-requires t c κs = search needs
+
+walk-rest-of-requires : (t : ℕ) → walk-lts.Need-rest-of-requires (walk-claims t) (walk-at t) walk.Post walk-Inv-loop walk-μ-loop
+walk-rest-of-requires t c κs = search needs
+
+walk-sub-left : (t : ℕ) → walk-lts.Need-sub-left (walk-claims t) (walk-at t) walk.Post walk-Inv-loop walk-μ-loop
+walk-sub-left t c = search needs
+
+walk-loop-less : (t : ℕ) → walk-lts.Need-loop-less (walk-claims t) (walk-at t) walk.Post walk-Inv-loop walk-μ-loop
+walk-loop-less t c = search needs
+
+walk-loop-again : (t : ℕ) → walk-lts.Need-loop-again (walk-claims t) (walk-at t) walk.Post walk-Inv-loop walk-μ-loop
+walk-loop-again t c = let a = c .before .before .before .before .before .before .before .before .before .before .before .before .before .args in let l = c .before .before .before .before .before .before .before .before .before .before .loop in (omega arith, cc (capped-capped (plus (l .sum) (c .before .before .before .before .siblings .result))), cc (walk-more (a .s .now) (counts.tally (a .levels) (a .s .now)) (l .left) (l .c) (l .sum) _ _ (c .before .before .before .before .before .before .before .before .before .loop-test .taken) (sym (c .before .before .before .before .before .before .before .before .link-of .ensures) ∙ c .before .before .before .before .before .before .l .given .1) (cc)))
+
+walk-returns : (t : ℕ) → walk-lts.Need-returns (walk-claims t) (walk-at t) walk.Post walk-Inv-loop walk-μ-loop
+walk-returns t c = let a = c .before .before .before .before .before .before .before .before .before .before .before .before .args in let l = c .before .before .before .before .before .before .before .before .before .loop in cc (walk-last (a .s .now) (counts.tally (a .levels) (a .s .now)) (l .left) (l .c) (l .sum) _ _ (c .before .before .before .before .before .before .before .before .loop-test .taken) (sym (c .before .before .before .before .before .before .before .link-of .ensures) ∙ c .before .before .before .before .before .l .given .1) (cc))
+
+walk-enum-told : (t : ℕ) → walk-lts.Need-enum-told (walk-claims t) (walk-at t) walk.Post walk-Inv-loop walk-μ-loop
+walk-enum-told t c = search needs
+
+walk-returns-2 : (t : ℕ) → walk-lts.Need-returns-2 (walk-claims t) (walk-at t) walk.Post walk-Inv-loop walk-μ-loop
+walk-returns-2 t c = let a = c .before .before .before .before .before .before .before .args in let l = c .before .before .before .before .loop in cc (walk-fails (a .s .now) (counts.tally (a .levels) (a .s .now)) (l .left) (l .c) (l .sum) (c .before .before .before .loop-test .taken) (sym (c .before .before .link-of .ensures) ∙ c .enum-told .given .1) (cc))
+
+walk-enum-told-2 : (t : ℕ) → walk-lts.Need-enum-told-2 (walk-claims t) (walk-at t) walk.Post walk-Inv-loop walk-μ-loop
+walk-enum-told-2 t c = search needs
+
+walk-returns-3 : (t : ℕ) → walk-lts.Need-returns-3 (walk-claims t) (walk-at t) walk.Post walk-Inv-loop walk-μ-loop
+walk-returns-3 t c = let a = c .before .before .before .before .before .before .before .args in let l = c .before .before .before .before .loop in cc (walk-nowhere (a .s .now) (counts.tally (a .levels) (a .s .now)) (l .left) (l .c) (l .sum) (c .before .before .before .loop-test .taken) (sym (c .before .before .link-of .ensures) ∙ c .enum-told2 .given .1) (cc))
+
+walk-returns-4 : (t : ℕ) → walk-lts.Need-returns-4 (walk-claims t) (walk-at t) walk.Post walk-Inv-loop walk-μ-loop
+walk-returns-4 t c = let a = c .before .before .before .before .args in let l = c .before .loop in cc (walk-done (a .s .now) (counts.tally (a .levels) (a .s .now)) (l .left) (l .c) (l .sum) (c .loop-test .left) (cc))
+
+pub +chain+coalesce+siblings+tally+walk-spec : {M : Type 1} → statement M
++chain+coalesce+siblings+tally+walk-spec =
+    close μ-chain μ-coalesce μ-siblings μ-tally μ-walk (λ t. chain-lts.spec (chain-claims t)
+    (chain-at t)
+    chain.Post
+    (chain-reach-requires t)
+    (chain-instructions-requires t)
+    (chain-returns t)
+    (chain-walk-requires t)
+    (chain-taken-back-requires t)
+    (chain-instructions-requires-2 t)
+    (chain-plus-requires t)
+    (chain-returns-2 t)
+    (chain-child-requires t)
+    (chain-temporary-requires t)
+    (chain-siblings-requires t)
+    (chain-plus-requires-2 t)
+    (chain-instructions-requires-3 t)
+    (chain-plus-requires-3 t)
+    (chain-returns-3 t))
+    (λ t. coalesce-lts.spec (coalesce-claims t)
+    (coalesce-at t)
+    coalesce.Post
+    (coalesce-count-requires t)
+    (coalesce-one-less-requires t)
+    (coalesce-child-requires t)
+    (coalesce-siblings-requires t)
+    (coalesce-skip-requires t)
+    (coalesce-tally-requires t)
+    (coalesce-plus-requires t)
+    (coalesce-returns t))
+    (λ t. siblings-lts.spec (siblings-claims t)
+    (siblings-at t)
+    siblings.Post
+    siblings-Inv-loop
+    siblings-μ-loop
+    (siblings-nothing-requires t)
+    (siblings-loop-holds t)
+    (siblings-tally-requires t)
+    (siblings-instructions-requires t)
+    (siblings-plus-requires t)
+    (siblings-plus-requires-2 t)
+    (siblings-next-requires t)
+    (siblings-add-i t)
+    (siblings-loop-less t)
+    (siblings-loop-again t)
+    (siblings-returns t))
+    (λ t. tally-lts.spec (tally-claims t)
+    (tally-at t)
+    tally.Post
+    (tally-instructions-requires t)
+    (tally-returns t)
+    (tally-plan-of-requires t)
+    (tally-enum-known-by t)
+    (tally-sub-siblings t)
+    (tally-siblings-requires t)
+    (tally-plus-requires t)
+    (tally-enum-told t)
+    (tally-sub-coalesce t)
+    (tally-coalesce-requires t)
+    (tally-enum-told-2 t)
+    (tally-sub-chain t)
+    (tally-chain-requires t)
+    (tally-returns-2 t)
+    (tally-returns-3 t)
+    (tally-returns-4 t))
+    λ t. walk-lts.spec (walk-claims t)
+    (walk-at t)
+    walk.Post
+    walk-Inv-loop
+    walk-μ-loop
+    (walk-nothing-requires t)
+    (walk-loop-holds t)
+    (walk-link-of-requires t)
+    (walk-enum-known-l t)
+    (walk-siblings-requires t)
+    (walk-plus-requires t)
+    (walk-goes-on-requires t)
+    (walk-rest-of-requires t)
+    (walk-sub-left t)
+    (walk-loop-less t)
+    (walk-loop-again t)
+    (walk-returns t)
+    (walk-enum-told t)
+    (walk-returns-2 t)
+    (walk-enum-told-2 t)
+    (walk-returns-3 t)
+    (walk-returns-4 t)

@@ -1,0 +1,25 @@
+-- `counting::links::method` meets its contract: one law for each way.
+use Rattle.counting.specs.PlanLaws.{method-lowers, method-fails}
+use borrow.Author.Needs.{needs}
+use Rattle.counting.proofs.links.method.Statement.{statement}
+use Rattle.counting.proofs.links.method.Tie as tie
+
+is-lowerable-method-requires : tie.Need-is-lowerable-method-requires
+is-lowerable-method-requires c κs = search needs
+
+count-requires : tie.Need-count-requires
+count-requires c κs = search needs
+
+child-requires : tie.Need-child-requires
+child-requires c κs = search needs
+
+returns : tie.Need-returns
+returns c = let a = c .before .before .before .before .before .args in cc (method-lowers (a .s .now) (a .x) (cc))
+
+returns-2 : tie.Need-returns-2
+returns-2 c = let a = c .before .before .before .args in cc (method-fails (a .s .now) (a .x) (cc))
+
+pub method-spec : {M : Type 1} → statement M
+method-spec =
+    tie.close
+    (tie.spec is-lowerable-method-requires count-requires child-requires returns returns-2)

@@ -1,0 +1,17 @@
+-- `counting::links::temporary` meets its contract: one law for each way.
+use Rattle.counting.specs.PlanLaws.{root-named, root-other}
+use borrow.Author.Needs.{needs}
+use Rattle.counting.proofs.links.temporary.Statement.{statement}
+use Rattle.counting.proofs.links.temporary.Tie as tie
+
+kind-requires : tie.Need-kind-requires
+kind-requires c κs = search needs
+
+returns : tie.Need-returns
+returns c = let a = c .before .before .before .args in root-named (a .s .now) (a .v) (cc)
+
+returns-2 : tie.Need-returns-2
+returns-2 c = let a = c .before .before .before .args in root-other (a .s .now) (a .v) (cc)
+
+pub temporary-spec : {M : Type 1} → statement M
+temporary-spec = tie.close (tie.spec kind-requires returns returns-2)

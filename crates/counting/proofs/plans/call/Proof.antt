@@ -1,0 +1,89 @@
+-- `counting::plans::call` meets its contract, receiver by receiver.
+use mathlib.Core.Path.{_≡_, sym, _∙_}
+use native.Mathlib.Omega.{arith}
+use Prim.Native.Nat.{_+_, _-_}
+use Rattle.sheet.specs.Node.{count}
+use Rattle.lowering.specs.Call.{receiver}
+use Rattle.rules.specs.Inverse.{firstFrom}
+use Rattle.counting.specs.PlanLaws.{call-at, rotates-least}
+use Rattle.counting.specs.Plan.{otherArgs, rotates, callBy}
+use borrow.Author.Needs.{needs}
+use Rattle.counting.proofs.plans.call.Statement.{statement}
+use Rattle.counting.proofs.plans.call.Tie as tie
+
+receiver-requires : tie.Need-receiver-requires
+receiver-requires c κs = search needs
+
+enum-told : tie.Need-enum-told
+enum-told c = search needs
+
+other-args-requires : tie.Need-other-args-requires
+other-args-requires c κs = search needs
+
+enum-told-2 : tie.Need-enum-told-2
+enum-told-2 c = search needs
+
+count-requires : tie.Need-count-requires
+count-requires c κs = search needs
+
+one-less-requires : tie.Need-one-less-requires
+one-less-requires c κs = search needs
+
+rotates-requires : tie.Need-rotates-requires
+rotates-requires c κs = search needs
+
+add-other-args : tie.Need-add-other-args
+add-other-args c = omega (arith, c .rotates .ensures, rotates-least (c .before .one-less .result))
+
+other-args-requires-2 : tie.Need-other-args-requires-2
+other-args-requires-2 c κs = search needs
+
+enum-told-3 : tie.Need-enum-told-3
+enum-told-3 c = search needs
+
+other-args-requires-3 : tie.Need-other-args-requires-3
+other-args-requires-3 c κs = search needs
+
+enum-told-4 : tie.Need-enum-told-4
+enum-told-4 c = search needs
+
+all-args-requires : tie.Need-all-args-requires
+all-args-requires c κs = search needs
+
+returns : tie.Need-returns
+unfolding callBy firstFrom
+returns c = let a = c .before .before .before .before .before .args in c .other-args .ensures ∙ call-at (a .s .now) (a .j) _ (sym (c .before .before .before .receiver .ensures) ∙ c .before .enum-told .given .1)
+
+returns-2 : tie.Need-returns-2
+unfolding callBy firstFrom
+returns-2 c = let a = c .before .before .before .before .before .before .before .before .args in let h : otherArgs (a .s .now) (a .j) (2 + rotates (count (a .s .now) (a .j) - 1)) ≡ callBy (receiver (a .s .now) (a .j)) (a .s .now) (a .j) = call-at (a .s .now) (a .j) _ (sym (c .before .before .before .before .before .before .receiver .ensures) ∙ c .before .before .before .before .enum-told2 .given .1) in cc
+
+returns-3 : tie.Need-returns-3
+unfolding callBy firstFrom
+returns-3 c = let a = c .before .before .before .before .before .args in c .other-args3 .ensures ∙ call-at (a .s .now) (a .j) _ (sym (c .before .before .before .receiver .ensures) ∙ c .before .enum-told3 .given .1)
+
+returns-4 : tie.Need-returns-4
+unfolding callBy firstFrom
+returns-4 c = let a = c .before .before .before .before .before .args in c .all-args .ensures ∙ call-at (a .s .now) (a .j) _ (sym (c .before .before .before .receiver .ensures) ∙ c .before .enum-told4 .given .1)
+
+pub call-spec : {M : Type 1} → statement M
+call-spec =
+    tie.close
+    (tie.spec
+    receiver-requires
+    enum-told
+    other-args-requires
+    enum-told-2
+    count-requires
+    one-less-requires
+    rotates-requires
+    add-other-args
+    other-args-requires-2
+    enum-told-3
+    other-args-requires-3
+    enum-told-4
+    all-args-requires
+    returns
+    returns-2
+    returns-3
+    returns-4)

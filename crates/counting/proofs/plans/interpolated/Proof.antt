@@ -1,0 +1,22 @@
+-- `counting::plans::interpolated` meets its contract: the parts are those of the definition.
+use Rattle.counting.specs.Plan.{interpolated}
+use borrow.Author.Needs.{needs}
+use Rattle.counting.proofs.plans.interpolated.Statement.{statement}
+use Rattle.counting.proofs.plans.interpolated.Tie as tie
+
+count-requires : tie.Need-count-requires
+count-requires c κs = search needs
+
+child-requires : tie.Need-child-requires
+child-requires c κs = search needs
+
+instructions-requires : tie.Need-instructions-requires
+instructions-requires c κs = search needs
+
+returns : tie.Need-returns
+unfolding interpolated
+returns c = cc
+
+pub interpolated-spec : {M : Type 1} → statement M
+interpolated-spec =
+    tie.close (tie.spec count-requires child-requires instructions-requires returns)

@@ -1,0 +1,15 @@
+pub mod Limits
+pub mod Tally
+pub mod TallyLaws
+pub mod Plan
+pub mod Link
+pub mod PlanLaws
+pub mod LinkLaws
+pub mod Count
+pub mod CodeLaws
+pub mod Adds
+pub mod SiblingsAdd
+pub mod PlanAdds
+pub mod CallAdds
+pub mod ChainAdds
+pub mod CountLaws

@@ -1,0 +1,87 @@
+-- What of a node is counted, construct by construct: siblings with a gap behind each of them, and instructions besides. Each plan stands
+-- beside the lowering's definition of the same construct. A plan goes by the node alone, and not down into its operands.
+use Prim.Native.Nat.{ℕ, _+_, _-_}
+use mathlib.Core.Bool.{true, false}
+use mathlib.Core.List.{List}
+use lib.Dec.{leb, eqb}
+use Rattle.sheet.specs.Node.{count, child, next}
+use Rattle.lowering.specs.Limits.{maxElements}
+use Rattle.lowering.specs.Call.{CallRule, fnPtr, fnPtrCall, lowerable, eval, callRule, First, local, named, receiver}
+use Rattle.lowering.specs.Call as Call
+use Rattle.lowering.specs.Expression as Expression
+use Rattle.lowering.specs.Expression.{Rule, rule}
+use Rattle.counting.specs.declared.tallies.Tally.{Tally}
+use Rattle.counting.specs.declared.plans.Plan.{Plan}
+use Rattle.counting.specs.declared.plans.Plan.the-variants.{Parts, Coalesce, Chain}
+use Rattle.counting.specs.Tally.{instructions, evaluation}
+
+-- a node without operands: its value is one instruction, and so is a residual
+abbrev pub alone : Tally → Plan
+alone t = Parts 0 0 0 t
+
+abbrev pub one : Plan
+one = alone (instructions 1)
+
+-- CheckSize behind each element; MakeArray
+unfoldable pub array : List ℕ → ℕ → Plan
+array s j =
+    elim (leb (count s j) maxElements) [ true ↦ Parts 1 (count s j) (child j) (instructions 1) | false ↦ one ]
+
+-- InterpolateAppend behind each segment; InterpolateStart and InterpolateEnd
+unfoldable pub interpolated : List ℕ → ℕ → Plan
+interpolated s j = Parts 1 (count s j) (child j) (instructions 2)
+
+-- a jump behind each operand; the verdict's three
+unfoldable pub shortCircuit : List ℕ → ℕ → Plan
+shortCircuit s j = Parts 1 (count s j) (child j) (instructions 3)
+
+-- the argument; MakeFnPtr
+unfoldable pub makeFnPtr : ℕ → Plan
+makeFnPtr j = Parts 0 1 (child j) (instructions 1)
+
+-- all arguments; CallFnPtr or Call
+unfoldable pub allArgs : List ℕ → ℕ → Plan
+allArgs s j = Parts 0 (count s j) (child j) (instructions 1)
+
+-- the arguments after the first, and n instructions
+unfoldable pub otherArgs : List ℕ → ℕ → ℕ → Plan
+otherArgs s j n = Parts 0 (count s j - 1) (next s (child j)) (instructions n)
+
+-- 1 where the receiver's value is moved under others
+unfoldable pub rotates : ℕ → ℕ
+rotates others = elim (eqb others 0) [ true ↦ 0 | false ↦ 1 ]
+
+-- CallRef; LoadNamed, Rotate, CallRef; LoadThis, CallRef; Call
+unfoldable pub callBy : First → List ℕ → ℕ → Plan
+callBy (local slot) s j = otherArgs s j 1
+callBy named s j = otherArgs s j (2 + rotates (count s j - 1))
+callBy Call.this s j = otherArgs s j 2
+callBy Call.value s j = allArgs s j
+
+unfoldable pub fnCallBy : CallRule → List ℕ → ℕ → Plan
+fnCallBy fnPtr s j = makeFnPtr j
+fnCallBy fnPtrCall s j = allArgs s j
+fnCallBy lowerable s j = callBy (receiver s j) s j
+fnCallBy eval s j = alone evaluation
+fnCallBy Call.residual s j = one
+
+unfoldable pub fnCall : List ℕ → ℕ → Plan
+fnCall s j = fnCallBy (callRule s j) s j
+
+unfoldable pub planBy : Rule → List ℕ → ℕ → Plan
+planBy Expression.boolean s j = one
+planBy Expression.unit s j = one
+planBy Expression.constant s j = one
+planBy Expression.interpolated s j = interpolated s j
+planBy Expression.array s j = array s j
+planBy Expression.variable s j = one
+planBy Expression.this s j = one
+planBy Expression.fnCall s j = fnCall s j
+planBy Expression.chain s j = Chain
+planBy Expression.and s j = shortCircuit s j
+planBy Expression.or s j = shortCircuit s j
+planBy Expression.coalesce s j = Coalesce
+planBy Expression.residual s j = one
+
+unfoldable pub plan : List ℕ → ℕ → Plan
+plan s j = planBy (rule s j) s j

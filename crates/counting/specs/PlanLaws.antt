@@ -1,0 +1,93 @@
+-- Laws of plans and links, in the shapes of the code: what is counted, by the code's name of the rule.
+use Prim.Native.Nat.{ℕ, _≤_, _<_}
+use mathlib.Core.Path.{_≡_, refl, ap}
+use mathlib.Core.Bool.{Bool, true, false, _||_}
+use mathlib.Core.List.{List}
+use native.Mathlib.Omega.{arith}
+use lib.Dec.{eqb}
+use borrow.Author.Tests.{eq-eqb, ne-eqb, le-leb, lt-leb}
+use Rattle.sheet.specs.Node.{kind, count, child}
+use Rattle.lowering.specs.Limits.{maxElements}
+use Rattle.lowering.specs.Call.{callRule, receiver}
+use Rattle.lowering.specs.Expression.{rule}
+use Rattle.lowering.specs.Flatten as Flatten
+use Rattle.lowering.specs.Flatten.{operandOf, stepRule}
+use Rattle.lowering.specs.Steps.{isLowerableMethod}
+use Rattle.rules.specs.declared.kinds.Rule as Kinds
+use Rattle.rules.specs.declared.calls.CallRule as Calls
+use Rattle.rules.specs.declared.calls.First as Firsts
+use Rattle.rules.specs.declared.chains.StepRule as StepRules
+use Rattle.rules.specs.Answers.{ruleOf, callRuleOf, firstOf, stepRuleOf}
+use Rattle.rules.specs.Inverse.{ruleFrom, callRuleFrom, firstFrom, stepRuleFrom, rule-is, call-is, first-is, step-is}
+use Rattle.counting.specs.declared.plans.Plan.the-variants.{Parts}
+use Rattle.counting.specs.declared.links.Link.the-variants.{Lowers, Fails}
+use Rattle.counting.specs.Tally.{instructions}
+use Rattle.counting.specs.Plan.{one, array, rotates, callBy, fnCallBy, fnCall, planBy, plan}
+use Rattle.counting.specs.Link.{linkBy, link, temporary}
+
+module _ (s : List ℕ) (j : ℕ) where
+  pub plan-at : (k : Kinds.Rule) → ruleOf (rule s j) ≡ k → planBy (ruleFrom k) s j ≡ plan s j
+  unfolding plan
+  plan-at k h = ap (λ r. planBy r s j) (rule-is (rule s j) k h)
+
+  pub fn-call-at : (k : Calls.CallRule) → callRuleOf (callRule s j) ≡ k → fnCallBy (callRuleFrom k) s j ≡ fnCall s j
+  unfolding fnCall
+  fn-call-at k h = ap (λ r. fnCallBy r s j) (call-is (callRule s j) k h)
+
+  pub call-at : (k : Firsts.First) → firstOf (receiver s j) ≡ k → callBy (firstFrom k) s j ≡ callBy (receiver s j) s j
+  call-at k h = ap (λ f. callBy f s j) (first-is (receiver s j) k h)
+
+  pub array-few : count s j ≤ maxElements → Parts 1 (count s j) (child j) (instructions 1) ≡ array s j
+  unfolding array
+  array-few h = rw (le-leb (count s j) maxElements h, array)
+
+  pub array-many : maxElements < count s j → one ≡ array s j
+  unfolding array
+  array-many h = rw (lt-leb (count s j) maxElements h, array)
+
+  pub link-at : (k : StepRules.StepRule) → stepRuleOf (stepRule s j) ≡ k → linkBy (stepRuleFrom k) s (operandOf s j) ≡ link s j
+  unfolding link
+  link-at k h = ap (λ r. linkBy r s (operandOf s j)) (step-is (stepRule s j) k h)
+
+  pub method-lowers : isLowerableMethod s j ≡ true → Lowers (count s j) (child j) ≡ linkBy Flatten.method s j
+  unfolding linkBy
+  method-lowers h = rw (h, linkBy)
+
+  pub method-fails : isLowerableMethod s j ≡ false → Fails ≡ linkBy Flatten.method s j
+  unfolding linkBy
+  method-fails h = rw (h, linkBy)
+
+  pub root-named : (eqb (kind s j) 9 || eqb (kind s j) 10) ≡ true → 0 ≡ temporary s j
+  unfolding temporary
+  root-named h = by (eqb (kind s j) 9) (eqb (kind s j) 10) refl refl h
+    where
+      by : (a b : Bool) → eqb (kind s j) 9 ≡ a → eqb (kind s j) 10 ≡ b → (eqb (kind s j) 9 || eqb (kind s j) 10) ≡ true → 0 ≡ temporary s j
+      by true b e f h = rw (e, temporary)
+      by false true e f h = rw (e, f, temporary)
+      by false false e f h = cc
+
+  pub root-other : (eqb (kind s j) 9 || eqb (kind s j) 10) ≡ false → 1 ≡ temporary s j
+  unfolding temporary
+  root-other h = by (eqb (kind s j) 9) (eqb (kind s j) 10) refl refl h
+    where
+      by : (a b : Bool) → eqb (kind s j) 9 ≡ a → eqb (kind s j) 10 ≡ b → (eqb (kind s j) 9 || eqb (kind s j) 10) ≡ false → 1 ≡ temporary s j
+      by true b e f h = cc
+      by false true e f h = cc
+      by false false e f h = rw (e, f, temporary)
+
+pub rotates-none : (others : ℕ) → others ≡ 0 → 0 ≡ rotates others
+unfolding rotates
+rotates-none others h = rw (eq-eqb others 0 h, rotates)
+
+pub rotates-some : (others : ℕ) → (others ≡ 0 → ⊥) → 1 ≡ rotates others
+unfolding rotates
+rotates-some others h = rw (ne-eqb others 0 h, rotates)
+
+-- at most one
+pub rotates-least : (others : ℕ) → rotates others ≤ 1
+unfolding rotates
+rotates-least others = by (eqb others 0) refl
+  where
+    by : (t : Bool) → eqb others 0 ≡ t → rotates others ≤ 1
+    by true e = rw (e, rotates) (omega arith)
+    by false e = rw (e, rotates) (omega arith)

@@ -1,0 +1,97 @@
+// What of a chain's links is counted.
+ghost use mathlib.Core.Path.{_≡_};
+ghost use Prim.Native.Nat.{min};
+ghost use Rattle.sheet.specs.Limits.{maxDepth};
+ghost use Rattle.lowering.specs.Flatten as chains;
+ghost use Rattle.counting.specs.Link as linked;
+use rules::chains::StepRule;
+use rules::chains::goes_on;
+use rules::chains::is_lowerable_method;
+use rules::chains::operand_of;
+use rules::chains::rest_of;
+use rules::chains::step_rule;
+use rules::kinds::THIS;
+use rules::kinds::VARIABLE;
+use sheet::child;
+use sheet::count;
+use sheet::kind;
+use sheet::limits::MAX_DEPTH;
+
+// The `n` operands from node `from` on of a link's step; a method that does not lower; no step at all.
+pub enum Link {
+    Lowers { n: u32, from: u32 },
+    Fails,
+    Nowhere,
+}
+
+// A method call as a step.
+fn method(s: &[u8], x: u32) -> Link
+    ensures { λ r. ⌜ r ≡ linked.linkBy chains.method (now (s .entry)) x ⌝ }
+{
+    if is_lowerable_method(s, x) {
+        return Link::Lowers {
+            n: count(s, x),
+            from: child(x),
+        };
+    }
+    Link::Fails
+}
+
+// What of link `c` is counted.
+pub fn link_of(s: &[u8], c: u32) -> Link
+    ensures { λ r. ⌜ r ≡ linked.link (now (s .entry)) c ⌝ }
+{
+    let x = operand_of(s, c);
+    let by = step_rule(s, c);
+    match by {
+        StepRule::Index => Link::Lowers { n: 1, from: x },
+        StepRule::Property => Link::Lowers { n: 0, from: x },
+        StepRule::Method => method(s, x),
+        StepRule::Nothing => Link::Nowhere,
+    }
+}
+
+// How far a chain comes with a link.
+fn grade(l: Link) -> u32
+    ensures { λ r. ⌜ r ≡ linked.grade l ⌝ }
+{
+    match l {
+        Link::Lowers { n: _, from: _ } => 2,
+        Link::Fails => 1,
+        Link::Nowhere => 0,
+    }
+}
+
+// The lesser number.
+fn lesser(a: u32, b: u32) -> u32
+    ensures { λ r. ⌜ r ≡ min a b ⌝ }
+{
+    if a < b { a } else { b }
+}
+
+// How far chain `j` comes with all its links.
+pub fn reach(s: &[u8], j: u32) -> u32
+    ensures { λ r. ⌜ r ≡ linked.least (now (s .entry)) (chains.links maxDepth (now (s .entry)) j) ⌝ }
+{
+    let mut least: u32 = 2;
+    let mut left = MAX_DEPTH;
+    let mut c = j;
+    while 0 < left {
+        least = lesser(least, grade(link_of(s, c)));
+        if goes_on(s, c) {
+            c = rest_of(s, c);
+            left -= 1;
+        } else {
+            return least;
+        }
+    }
+    least
+}
+
+// 1 for a root that is lowered.
+pub fn temporary(s: &[u8], v: u32) -> u32
+    ensures { λ r. ⌜ r ≡ linked.temporary (now (s .entry)) v ⌝ }
+{
+    let k = kind(s, v);
+    if (k == VARIABLE) | (k == THIS) { 0 } else { 1 }
+}

@@ -1,0 +1,190 @@
+// What of a node is counted, construct by construct.
+ghost use mathlib.Core.Path.{_≡_};
+ghost use Prim.Native.Nat.{_-_};
+ghost use Rattle.lowering.specs.Call as calls;
+ghost use Rattle.counting.specs.Plan as plans;
+use crate::tallies::Tally;
+use crate::tallies::evaluation;
+use crate::tallies::instructions;
+use rules::calls::CallRule;
+use rules::calls::First;
+use rules::calls::call_rule;
+use rules::calls::receiver;
+use rules::kinds::Rule;
+use rules::rule;
+use sheet::child;
+use sheet::count;
+use sheet::next;
+
+// greatest count of elements of an array that lowers
+const MAX_ELEMENTS: u32 = 65535;
+
+// `n` siblings from node `from` on, each with `gap` instructions behind it, and `rest` besides; or a construct with a rule of its own.
+pub enum Plan {
+    Parts {
+        gap: u32,
+        n: u32,
+        from: u32,
+        rest: Tally,
+    },
+    Coalesce,
+    Chain,
+}
+
+// A node without operands.
+fn alone(rest: Tally) -> Plan
+    ensures { λ r. ⌜ r ≡ plans.alone rest ⌝ }
+{
+    Plan::Parts {
+        gap: 0,
+        n: 0,
+        from: 0,
+        rest,
+    }
+}
+
+// One instruction.
+fn one() -> Plan
+    ensures { λ r. ⌜ r ≡ plans.one ⌝ }
+{
+    alone(instructions(1))
+}
+
+// One less, and not below 0.
+pub fn one_less(n: u32) -> u32
+    ensures { λ r. ⌜ r ≡ n - 1 ⌝ }
+{
+    if n == 0 { 0 } else { n - 1 }
+}
+
+// Array: CheckSize behind each element; MakeArray.
+fn array(s: &[u8], j: u32) -> Plan
+    ensures { λ r. ⌜ r ≡ plans.array (now (s .entry)) j ⌝ }
+{
+    let n = count(s, j);
+    if n <= MAX_ELEMENTS {
+        return Plan::Parts {
+            gap: 1,
+            n,
+            from: child(j),
+            rest: instructions(1),
+        };
+    }
+    one()
+}
+
+// Interpolated string: InterpolateAppend behind each segment; InterpolateStart and InterpolateEnd.
+fn interpolated(s: &[u8], j: u32) -> Plan
+    ensures { λ r. ⌜ r ≡ plans.interpolated (now (s .entry)) j ⌝ }
+{
+    Plan::Parts {
+        gap: 1,
+        n: count(s, j),
+        from: child(j),
+        rest: instructions(2),
+    }
+}
+
+// And, Or: a jump behind each operand; the verdict's three.
+fn short_circuit(s: &[u8], j: u32) -> Plan
+    ensures { λ r. ⌜ r ≡ plans.shortCircuit (now (s .entry)) j ⌝ }
+{
+    Plan::Parts {
+        gap: 1,
+        n: count(s, j),
+        from: child(j),
+        rest: instructions(3),
+    }
+}
+
+// `Fn(name)`: the argument; MakeFnPtr.
+fn make_fn_ptr(j: u32) -> Plan
+    ensures { λ r. ⌜ r ≡ plans.makeFnPtr j ⌝ }
+{
+    Plan::Parts {
+        gap: 0,
+        n: 1,
+        from: child(j),
+        rest: instructions(1),
+    }
+}
+
+// All arguments; CallFnPtr or Call.
+fn all_args(s: &[u8], j: u32) -> Plan
+    ensures { λ r. ⌜ r ≡ plans.allArgs (now (s .entry)) j ⌝ }
+{
+    Plan::Parts {
+        gap: 0,
+        n: count(s, j),
+        from: child(j),
+        rest: instructions(1),
+    }
+}
+
+// The arguments after the first, and `n` instructions.
+fn other_args(s: &[u8], j: u32, n: u32) -> Plan
+    ensures { λ r. ⌜ r ≡ plans.otherArgs (now (s .entry)) j n ⌝ }
+{
+    Plan::Parts {
+        gap: 0,
+        n: one_less(count(s, j)),
+        from: next(s, child(j)),
+        rest: instructions(n),
+    }
+}
+
+// 1 where the receiver's value is moved under others.
+fn rotates(others: u32) -> u32
+    ensures { λ r. ⌜ r ≡ plans.rotates others ⌝ }
+{
+    if others == 0 { 0 } else { 1 }
+}
+
+// A call through its receiver: CallRef; LoadNamed, Rotate, CallRef; LoadThis, CallRef; or Call.
+fn call(s: &[u8], j: u32) -> Plan
+    ensures { λ r. ⌜ r ≡ plans.callBy (calls.receiver (now (s .entry)) j) (now (s .entry)) j ⌝ }
+{
+    let first = receiver(s, j);
+    match first {
+        First::Local(_) => other_args(s, j, 1),
+        First::Named => other_args(s, j, 2 + rotates(one_less(count(s, j)))),
+        First::This => other_args(s, j, 2),
+        First::Value => all_args(s, j),
+    }
+}
+
+// FnCall.
+fn fn_call(s: &[u8], j: u32) -> Plan
+    ensures { λ r. ⌜ r ≡ plans.fnCall (now (s .entry)) j ⌝ }
+{
+    let by = call_rule(s, j);
+    match by {
+        CallRule::FnPtr => make_fn_ptr(j),
+        CallRule::FnPtrCall => all_args(s, j),
+        CallRule::Lowerable => call(s, j),
+        CallRule::Eval => alone(evaluation()),
+        CallRule::Residual => one(),
+    }
+}
+
+// What of node `j` is counted.
+pub fn plan_of(s: &[u8], j: u32) -> Plan
+    ensures { λ r. ⌜ r ≡ plans.plan (now (s .entry)) j ⌝ }
+{
+    let by = rule(s, j);
+    match by {
+        Rule::Boolean => one(),
+        Rule::Unit => one(),
+        Rule::Constant => one(),
+        Rule::Interpolated => interpolated(s, j),
+        Rule::Array => array(s, j),
+        Rule::Variable => one(),
+        Rule::This => one(),
+        Rule::FnCall => fn_call(s, j),
+        Rule::Chain => Plan::Chain,
+        Rule::And => short_circuit(s, j),
+        Rule::Or => short_circuit(s, j),
+        Rule::Coalesce => Plan::Coalesce,
+        Rule::Residual => one(),
+    }
+}
