@@ -12,3 +12,5 @@ pub mod Table9
 pub mod Table10
 pub mod Table11
 pub mod Table12
+pub mod Refused10
+pub mod Refused11

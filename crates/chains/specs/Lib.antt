@@ -1,4 +1,3 @@
-pub mod Rule
 pub mod Variable
 pub mod Grow
 pub mod FindLaws
@@ -14,6 +13,7 @@ pub mod SameLaws
 pub mod RootLaws
 pub mod Kept
 pub mod KeptLaws
+pub mod FieldLaws
 pub mod LinkLaws
 pub mod LoopLaws
 pub mod TestLaws

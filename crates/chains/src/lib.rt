@@ -5,10 +5,8 @@ ghost use Prim.Native.Nat.{min};
 ghost use Rattle.sheet.specs.Limits.{maxDepth};
 ghost use Rattle.bytecode.specs.Chain.{stepWords, chainWords};
 ghost use Rattle.lowering.specs.Limits.{maxArgs};
-ghost use Rattle.lowering.specs.Call as calls;
 ghost use Rattle.lowering.specs.Flatten as flatten;
-ghost use Rattle.lowering.specs.Steps as methods;
-ghost use Rattle.chains.specs.Rule as rules;
+ghost use Rattle.rules.specs.Inverse as answers;
 ghost use Rattle.chains.specs.Variable as roots;
 ghost use Rattle.chains.specs.Steps as chains;
 ghost use Rattle.chains.specs.Same as sames;
@@ -16,6 +14,16 @@ ghost use Rattle.chains.specs.Lowers as lowering;
 use bytecode::Chain;
 use bytecode::Root;
 use bytecode::Step;
+use rules::calls::MAX_ARGS;
+use rules::chains::StepRule;
+use rules::chains::goes_on;
+use rules::chains::is_lowerable_method;
+use rules::chains::negated;
+use rules::chains::operand_of;
+use rules::chains::rest_of;
+use rules::chains::step_rule;
+use rules::kinds::THIS;
+use rules::kinds::VARIABLE;
 use sheet::child;
 use sheet::count;
 use sheet::field_a;
@@ -23,105 +31,10 @@ use sheet::field_b;
 use sheet::field_c;
 use sheet::kind;
 use sheet::limits::MAX_DEPTH;
-use sheet::next;
 use sheet::position;
 use sheet::start_of;
 use slots::Found;
-use text::is_call;
-use text::is_curry;
-use text::is_eval;
-use text::is_fn;
 use text::same_bytes;
-
-// The greatest count of arguments that lower.
-pub const MAX_ARGS: u32 = 255;
-
-// The node kinds that are asked for by name.
-const VARIABLE: u32 = 9;
-
-const THIS: u32 = 10;
-
-const PROPERTY: u32 = 11;
-
-const METHOD_CALL: u32 = 12;
-
-const DOT: u32 = 14;
-
-const INDEX: u32 = 15;
-
-// What step a link has.
-pub enum Rule {
-    Index,
-    Property,
-    Method,
-    Nothing,
-}
-
-// The rest behind link `c`.
-pub fn rest_of(s: &[u8], c: u32) -> u32
-    ensures { λ r. ⌜ r ≡ flatten.restOf (now (s .entry)) c ⌝ }
-{
-    next(s, child(c))
-}
-
-// The rest is a link too.
-pub fn goes_on(s: &[u8], c: u32) -> bool
-    ensures { λ r. ⌜ r ≡ flatten.goesOn (now (s .entry)) c ⌝ }
-{
-    let flags = field_a(s, c);
-    let k = kind(s, rest_of(s, c));
-    (flags / 2 % 2 != 1) & ((k == DOT) | (k == INDEX))
-}
-
-// The node that the step of link `c` is taken with.
-pub fn operand_of(s: &[u8], c: u32) -> u32
-    ensures { λ r. ⌜ r ≡ flatten.operandOf (now (s .entry)) c ⌝ }
-{
-    let rest = rest_of(s, c);
-    if goes_on(s, c) {
-        return child(rest);
-    }
-    rest
-}
-
-// What step link `c` has.
-pub fn step_rule(s: &[u8], c: u32) -> Rule
-    ensures { λ r. ⌜ r ≡ rules.ruleOf (flatten.stepRule (now (s .entry)) c) ⌝ }
-{
-    if kind(s, c) == INDEX {
-        return Rule::Index;
-    }
-    let k = kind(s, operand_of(s, c));
-    if k == PROPERTY {
-        return Rule::Property;
-    }
-    if k == METHOD_CALL {
-        return Rule::Method;
-    }
-    Rule::Nothing
-}
-
-// `name` is one of the four keywords.
-fn syntactic(name: &[u8]) -> bool
-    ensures { λ r. ⌜ r ≡ calls.syntactic (now (name .entry)) ⌝ }
-{
-    is_eval(name) | is_fn(name) | is_call(name) | is_curry(name)
-}
-
-// Generic dispatch takes call `j`.
-pub fn is_lowerable_call(s: &[u8], j: u32) -> bool
-    ensures { λ r. ⌜ r ≡ calls.isLowerableCall (now (s .entry)) j ⌝ }
-{
-    (count(s, j) <= MAX_ARGS) & !syntactic(sheet::text(s, field_a(s, j)))
-}
-
-// Method `x` lowers.
-pub fn is_lowerable_method(s: &[u8], x: u32) -> bool
-    ensures { λ r. ⌜ r ≡ methods.isLowerableMethod (now (s .entry)) x ⌝ }
-{
-    let name = sheet::text(s, field_a(s, x));
-    (is_call(name) | is_curry(name) | is_lowerable_call(s, x)) & (count(s, x) <= MAX_ARGS)
-}
 
 // Texts `a` and `b` have the same bytes.
 fn same_text(s: &[u8], a: u32, b: u32) -> bool
@@ -167,26 +80,26 @@ fn same_method(s: &[u8], x: u32, y: u32) -> bool
 }
 
 // A rule's number.
-fn rule_number(r: Rule) -> u32
-    ensures { λ n. ⌜ n ≡ sames.ruleNumber (rules.ruleFrom r) ⌝ }
+fn rule_number(r: StepRule) -> u32
+    ensures { λ n. ⌜ n ≡ sames.ruleNumber (answers.stepRuleFrom r) ⌝ }
 {
     match r {
-        Rule::Index => 0,
-        Rule::Property => 1,
-        Rule::Method => 2,
-        Rule::Nothing => 3,
+        StepRule::Index => 0,
+        StepRule::Property => 1,
+        StepRule::Method => 2,
+        StepRule::Nothing => 3,
     }
 }
 
 // The steps of links `c` and `d`, both by rule `r`, are the same.
-fn same_as(r: Rule, s: &[u8], c: u32, d: u32) -> bool
-    ensures { λ b. ⌜ b ≡ sames.sameAs (rules.ruleFrom r) (now (s .entry)) c d ⌝ }
+fn same_as(r: StepRule, s: &[u8], c: u32, d: u32) -> bool
+    ensures { λ b. ⌜ b ≡ sames.sameAs (answers.stepRuleFrom r) (now (s .entry)) c d ⌝ }
 {
     match r {
-        Rule::Index => same_index(s, c, d),
-        Rule::Property => same_property(s, operand_of(s, c), operand_of(s, d)),
-        Rule::Method => same_method(s, operand_of(s, c), operand_of(s, d)),
-        Rule::Nothing => false,
+        StepRule::Index => same_index(s, c, d),
+        StepRule::Property => same_property(s, operand_of(s, c), operand_of(s, d)),
+        StepRule::Method => same_method(s, operand_of(s, c), operand_of(s, d)),
+        StepRule::Nothing => false,
     }
 }
 
@@ -196,7 +109,7 @@ fn same_step(s: &[u8], c: u32, d: u32) -> bool
 {
     let r = step_rule(s, c);
     let one = rule_number(r) == rule_number(step_rule(s, d));
-    if one & (field_a(s, c) % 2 == field_a(s, d) % 2) {
+    if one & (negated(s, c) == negated(s, d)) {
         return same_as(r, s, c, d);
     }
     false
@@ -326,10 +239,10 @@ pub fn width(s: &[u8], c: u32) -> u32
 {
     let r = step_rule(s, c);
     match r {
-        Rule::Index => 1,
-        Rule::Property => 0,
-        Rule::Method => few(count(s, operand_of(s, c))),
-        Rule::Nothing => 0,
+        StepRule::Index => 1,
+        StepRule::Property => 0,
+        StepRule::Method => few(count(s, operand_of(s, c))),
+        StepRule::Nothing => 0,
     }
 }
 
@@ -387,10 +300,10 @@ fn has_step(s: &[u8], c: u32) -> bool
 {
     let r = step_rule(s, c);
     match r {
-        Rule::Index => true,
-        Rule::Property => true,
-        Rule::Method => true,
-        Rule::Nothing => false,
+        StepRule::Index => true,
+        StepRule::Property => true,
+        StepRule::Method => true,
+        StepRule::Nothing => false,
     }
 }
 
@@ -421,10 +334,10 @@ fn step_lowers(s: &[u8], c: u32) -> bool
 {
     let r = step_rule(s, c);
     match r {
-        Rule::Index => true,
-        Rule::Property => true,
-        Rule::Method => is_lowerable_method(s, operand_of(s, c)),
-        Rule::Nothing => false,
+        StepRule::Index => true,
+        StepRule::Property => true,
+        StepRule::Method => is_lowerable_method(s, operand_of(s, c)),
+        StepRule::Nothing => false,
     }
 }
 
@@ -468,29 +381,29 @@ pub fn step_of(s: &[u8], c: u32, n: u32, name: u32, getter: u32, setter: u32) ->
 {
     let r = step_rule(s, c);
     let x = operand_of(s, c);
-    let flags = field_a(s, c) % 2;
+    let flags = negated(s, c);
     match r {
-        Rule::Index => Step::Index {
+        StepRule::Index => Step::Index {
             operand: n,
             flags,
             pos: start_of(s, x),
             bracket: position(s, c),
         },
-        Rule::Property => Step::Property {
+        StepRule::Property => Step::Property {
             name,
             getter,
             setter,
             flags,
             pos: position(s, x),
         },
-        Rule::Method => Step::Method {
+        StepRule::Method => Step::Method {
             name,
             argc: count(s, x),
             operand: n,
             flags,
             pos: position(s, x),
         },
-        Rule::Nothing => Step::Index {
+        StepRule::Nothing => Step::Index {
             operand: n,
             flags: 0,
             pos: 0,

@@ -4,7 +4,7 @@ use mathlib.Core.Path.{_≡_, refl, sym, subst}
 use mathlib.Core.List.{List, [], _∷_, _++_, List·Memᴰ, List·Memᴰ·head, List·Memᴰ·tail, List·Memᴰ·not-nil, List·Memᴰ·cases-cons}
 use mathlib.Core.Logic.{_⊎_, inl, inr}
 use lib.ListN.{getD}
-use Rattle.lowering.proofs.Effect.{All}
+use Rattle.lowering.specs.All.{All}
 
 -- a fact of each entry, and of each lookup
 pub all-at : (P : ℕ → Type 0) (xs : List ℕ) (d : ℕ) → All P (xs ++ (d ∷ [])) → (n : ℕ) → P (getD (xs ++ (d ∷ [])) n d)

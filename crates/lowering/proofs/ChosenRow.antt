@@ -37,8 +37,9 @@ use Rattle.lowering.proofs.Whole.{noSwitch}
 use Rattle.lowering.proofs.Decode.{const-word, switch-word, case-word, range-word}
 use Rattle.lowering.proofs.Tables.{table-target}
 use Rattle.lowering.proofs.LowerFits.{switch-fits}
+use Rattle.lowering.proofs.RowCounts.{case-rows-length, range-rows-length}
 use Rattle.lowering.proofs.CaseConsts.{first-yes, first-no, same-int, case-const}
-use Rattle.lowering.proofs.SwitchTargets.{caseTarget, rangeTarget, case-rows-length, range-rows-length, case-targets, range-targets}
+use Rattle.lowering.proofs.SwitchTargets.{caseTarget, rangeTarget, case-targets, range-targets}
 
 -- the target of the first entry that passes, or the fallback
 abbrev pub pick : {A : Type 0} → (A → Bool) → (A → ℕ) → ℕ → List A → ℕ
@@ -172,7 +173,7 @@ module _ (s : List ℕ) (def : ℕ) (l : Layout) (e₀ : Split.Entry) (es : List
   range-words i f h g =
       let r = switchOf s def l in
       ap (λ (n : ℕ). rangeWord (words r) n f) (zero-add i)
-      ∙ range-word r (rangeRow def l e₀) i f (omega (arith, range-rows-length s l (defaultAt def l) (l .splits))) g
+      ∙ range-word r (rangeRow def l e₀) i f (omega (arith, range-rows-length l (defaultAt def l) (l .splits))) g
       ∙ ap (λ (c : SwitchRange). getD (rangeWords c) f 0) (range-row-at i)
 
   -- row i is one for x just where entry i contains x

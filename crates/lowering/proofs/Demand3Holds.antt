@@ -14,7 +14,7 @@ use Rattle.lowering.specs.Expression.{expression}
 use Rattle.lowering.specs.Outcome.{Outcome, refused, image, lower, outcomeAfter, outcome}
 use Rattle.lowering.specs.Demand3.{Statement}
 use Rattle.lowering.proofs.Whole.{WellTyped, AllReached}
-use Rattle.lowering.proofs.Nodes.{accepted-sizes, accepted-shape}
+use Rattle.lowering.specs.Nodes.{accepted-sizes, accepted-shape}
 use Rattle.lowering.proofs.LowerFits.{lower-switch, lower-plain}
 use Rattle.lowering.proofs.SoundExpression.{expression-meets, plain-typed}
 use Rattle.lowering.proofs.LinkedExpression.{expression-links, plain-reached}

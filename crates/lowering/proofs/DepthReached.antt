@@ -14,7 +14,8 @@ use Rattle.lowering.specs.Image.{words}
 use Rattle.lowering.specs.Words.{instructions}
 use Rattle.lowering.specs.Run.{State, step, stepOn, run, next}
 use Rattle.lowering.specs.Demand3.{DepthReached}
-use Rattle.lowering.proofs.Effect.{Context, nexts, All}
+use Rattle.lowering.specs.All.{All}
+use Rattle.lowering.proofs.Effect.{Context, nexts}
 use Rattle.lowering.proofs.Linked.{Closed, Reached}
 use Rattle.lowering.proofs.Whole.{contextOf, depthAt, WellTyped, AllReached}
 use Rattle.lowering.proofs.Tables.{TablesFit}

@@ -165,8 +165,3 @@ Narrow X (MakeArray n) = Prim.Unit {0}
 Narrow X (CheckSize i) = Prim.Unit {0}
 Narrow X (Chain i) = i < length (X .chains)
 Narrow X (EvalAst i) = Prim.Unit {0}
-
--- a fact of each member of a list
-abbrev pub All : (ℕ → Type 0) → List ℕ → Type 0
-All P [] = Prim.Unit {0}
-All P (x ∷ xs) = P x × All P xs

@@ -24,7 +24,8 @@ use Rattle.lowering.specs.Program.{Program}
 use Rattle.lowering.specs.Image.{words}
 use Rattle.lowering.specs.Words.{kindAt, aAt, chainWord}
 use Rattle.lowering.specs.Run as Run
-use Rattle.lowering.proofs.Effect.{Context, noChain, chainPops, refPops, pops, pushes, needs, nexts, Narrow, All}
+use Rattle.lowering.specs.All.{All}
+use Rattle.lowering.proofs.Effect.{Context, noChain, chainPops, refPops, pops, pushes, needs, nexts, Narrow}
 use Rattle.lowering.proofs.AllLaws.{members, all-member}
 use Rattle.lowering.proofs.Whole.{contextOf}
 use Rattle.lowering.proofs.Tables.{TablesFit, table-all, all-table}

@@ -18,7 +18,8 @@ use Rattle.lowering.specs.Marks.{Marked, markAt}
 use Rattle.lowering.specs.Words.{instructions, kindAt, aAt}
 use Rattle.lowering.specs.Run.{next}
 use Rattle.lowering.specs.Guided.{Fed, Event, isAnswered, wayAt, eventOf}
-use Rattle.lowering.proofs.Effect.{after, nexts, Narrow, All}
+use Rattle.lowering.specs.All.{All}
+use Rattle.lowering.proofs.Effect.{after, nexts, Narrow}
 use Rattle.lowering.proofs.AllLaws.{all-map}
 use Rattle.lowering.proofs.Typed.{Goes, Typed, Agree, Nothing, Sound}
 use Rattle.lowering.proofs.Whole.{contextOf, WellTyped}

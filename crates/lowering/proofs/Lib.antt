@@ -15,7 +15,6 @@ pub mod SoundLeaf
 pub mod SoundOperands
 pub mod SoundShortCircuit
 pub mod WholeLaws
-pub mod ChainNodes
 pub mod LinkedArray
 pub mod LinkedCall
 pub mod LinkedChain
@@ -27,12 +26,12 @@ pub mod LinkedLeaf
 pub mod LinkedOperands
 pub mod LinkedShortCircuit
 pub mod LinksAll
-pub mod Nodes
 pub mod AllLaws
 pub mod Decode
 pub mod Demand3From
 pub mod DepthReached
 pub mod EffectWords
+pub mod RowCounts
 pub mod LowerFits
 pub mod Parts
 pub mod RunsRight

@@ -6,7 +6,8 @@ use native.Mathlib.Nat.{add-zero, add-suc, suc-add}
 use native.Mathlib.Numerals.{add-one}
 use lib.ListN.{length}
 use Rattle.lowering.specs.Code.{Ins, Code}
-use Rattle.lowering.proofs.Effect.{Context, nexts, All}
+use Rattle.lowering.specs.All.{All}
+use Rattle.lowering.proofs.Effect.{Context, nexts}
 use Rattle.lowering.proofs.Typed.{end-append}
 
 abbrev pub Closed : Context → (ℕ → Type 0) → ℕ → Code → Type 0

@@ -14,7 +14,7 @@ use Rattle.lowering.specs.Out.{Rec, andThen, residualExpr}
 use Rattle.lowering.specs.Array.{elements, array}
 use Rattle.lowering.proofs.Effect.{Context}
 use Rattle.lowering.proofs.Linked.{Linked, link, link-none}
-use Rattle.lowering.proofs.Nodes.{Row, row-first, row-rest}
+use Rattle.lowering.specs.Nodes.{Row, row-first, row-rest}
 use Rattle.lowering.proofs.LinksAll.{LinksAll, link-cons, link-residual, link-then}
 
 module _ (s : List ℕ) (rec : Rec) where

@@ -19,7 +19,7 @@ use Rattle.lowering.specs.Operands.{operands}
 use Rattle.lowering.specs.Call.{callee, CallRule, fnPtr, fnPtrCall, lowerable, eval, residual, isFnPtr, isFnPtrCall, isLowerableCall, callRule, makeFnPtr, callFnPtr, First, receiver, otherArgs, callRef, callLocal, callThis, rotate, callNamed, storesToken, callAs, callToken, callValues, lowerCallBy, fnCallBy, fnCall}
 use Rattle.lowering.proofs.Effect.{Context}
 use Rattle.lowering.proofs.Linked.{Linked, link, link-one, link-none}
-use Rattle.lowering.proofs.Nodes.{Row, row-first, row-less, row-others}
+use Rattle.lowering.specs.Nodes.{Row, row-first, row-less, row-others}
 use Rattle.lowering.proofs.LinksAll.{LinksAll, link-cons, link-residual, link-then}
 use Rattle.lowering.proofs.LinkedOperands.{operands-link}
 

@@ -18,10 +18,11 @@ use Rattle.lowering.specs.Operands.{operands}
 use Rattle.lowering.specs.Flatten.{operandOf, StepRule, index, property, method, none, stepRule, links, flattens}
 use Rattle.lowering.specs.Steps.{Stepped, stepped, failed, indexStep, propertyStep, isLowerableMethod, methodAfter, methodStep, stepBy, Walked, walked, stopped, onto, steps}
 use Rattle.lowering.specs.Chain.{rootOf, rootPools, onStack, rootCode, closeChain, chainOf, chain}
-use Rattle.lowering.proofs.Effect.{Context, All}
+use Rattle.lowering.specs.All.{All}
+use Rattle.lowering.proofs.Effect.{Context}
 use Rattle.lowering.proofs.Linked.{Linked, link, link-one, link-none}
-use Rattle.lowering.proofs.Nodes.{Valid, Right, children, child-valid}
-use Rattle.lowering.proofs.ChainNodes.{Link, operand-valid, links-valid}
+use Rattle.lowering.specs.Nodes.{Valid, Right, children, child-valid}
+use Rattle.lowering.specs.ChainNodes.{Link, operand-valid, links-valid}
 use Rattle.lowering.proofs.LinksAll.{LinksAll, link-residual}
 use Rattle.lowering.proofs.LinkedOperands.{operands-link}
 

@@ -14,7 +14,7 @@ use Rattle.lowering.specs.ShortCircuit.{Fragment, fragments, extent}
 use Rattle.lowering.specs.Coalesce.{skipped, coalesce}
 use Rattle.lowering.proofs.Effect.{Context}
 use Rattle.lowering.proofs.Linked.{Linked, link, link-none}
-use Rattle.lowering.proofs.Nodes.{Row, row-less}
+use Rattle.lowering.specs.Nodes.{Row, row-less}
 use Rattle.lowering.proofs.LinksAll.{LinksAll, link-cons, link-branch}
 use Rattle.lowering.proofs.LinkedShortCircuit.{Parts, fragments-link}
 

@@ -21,7 +21,7 @@ use Rattle.lowering.specs.Program.{plain}
 use Rattle.lowering.proofs.Effect.{Context}
 use Rattle.lowering.proofs.Linked.{Linked}
 use Rattle.lowering.proofs.Whole.{contextOf, AllReached}
-use Rattle.lowering.proofs.Nodes.{Valid, Right, right, node-bounds, children, root-valid}
+use Rattle.lowering.specs.Nodes.{Valid, Right, right, node-bounds, children, root-valid}
 use Rattle.lowering.proofs.LinksAll.{LinksAll, link-residual}
 use Rattle.lowering.proofs.LinkedLeaf.{boolean-links, unit-links, constant-links, variable-links, this-links}
 use Rattle.lowering.proofs.LinkedArray.{array-links}

@@ -4,7 +4,8 @@ use mathlib.Core.Path.{_≡_, sym, subst}
 use mathlib.Core.List.{[], _∷_, _++_}
 use lib.ListN.{length}
 use Rattle.lowering.specs.Code.{Ins, Code}
-use Rattle.lowering.proofs.Effect.{Context, nexts, All}
+use Rattle.lowering.specs.All.{All}
+use Rattle.lowering.proofs.Effect.{Context, nexts}
 use Rattle.lowering.proofs.Typed.{end-append}
 use Rattle.lowering.proofs.Linked.{Closed, Reached, Linked, closed-left, closed-right, reached-append}
 

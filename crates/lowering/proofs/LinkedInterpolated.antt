@@ -11,7 +11,7 @@ use Rattle.lowering.specs.Out.{out, Rec}
 use Rattle.lowering.specs.Interpolated.{segments, interpolated}
 use Rattle.lowering.proofs.Effect.{Context}
 use Rattle.lowering.proofs.Linked.{Linked, link, link-none}
-use Rattle.lowering.proofs.Nodes.{Row, row-first, row-rest}
+use Rattle.lowering.specs.Nodes.{Row, row-first, row-rest}
 use Rattle.lowering.proofs.LinksAll.{LinksAll, link-cons, link-then}
 
 module _ (s : List ℕ) (rec : Rec) (L : LinksAll s rec) where

@@ -13,7 +13,7 @@ use Rattle.lowering.specs.ShortCircuit.{Fragment, fragments, extent, dec
 use Rattle.lowering.proofs.Effect.{Context, nexts}
 use Rattle.lowering.proofs.Linked.{Linked, link, link-none}
 use Rattle.lowering.proofs.LinkedFrom.{Comes, LinkedFrom, comes-one, comes-behind, link-comes}
-use Rattle.lowering.proofs.Nodes.{Row, row-first, row-rest}
+use Rattle.lowering.specs.Nodes.{Row, row-first, row-rest}
 use Rattle.lowering.proofs.LinksAll.{LinksAll, link-branch}
 
 -- fragments from place b on, each with `gap` instructions behind it: all of their code is reached

@@ -10,9 +10,10 @@ use Rattle.bytecode.specs.declared.Op.the-variants.{EvalAst}
 use Rattle.lowering.specs.Code.{Ins, Code, ins, noPos}
 use Rattle.lowering.specs.Pools.{Pools}
 use Rattle.lowering.specs.Out.{Out, Rec, andThen, emitAt, residualExpr}
-use Rattle.lowering.proofs.Effect.{Context, nexts, All}
+use Rattle.lowering.specs.All.{All}
+use Rattle.lowering.proofs.Effect.{Context, nexts}
 use Rattle.lowering.proofs.Linked.{Linked, link, link-one}
-use Rattle.lowering.proofs.Nodes.{Valid}
+use Rattle.lowering.specs.Nodes.{Valid}
 
 pub record LinksAll (s : List ℕ) (rec : Rec) : Type 1 where
   pub links : (X : Context) (j b d : ℕ) (p : Pools) → Valid s j → Linked X b (rec j b d p .code)

@@ -1,6 +1,6 @@
 -- The tables of a lowered sheet have all their rows, and an accepted image is the words of the lowered sheet.
 use Prim.Native.Nat.{ℕ, zero, suc, _<_}
-use mathlib.Core.Path.{_≡_, refl, sym, ap, subst}
+use mathlib.Core.Path.{_≡_, refl, sym, subst}
 use mathlib.Core.Bool.{Bool, true, false}
 use mathlib.Core.List.{List, [], _∷_}
 use native.Mathlib.Omega.{arith}
@@ -26,17 +26,8 @@ use Rattle.lowering.specs.SwitchTables.{casePools, caseRows, rangeRows, 
 use Rattle.lowering.specs.Switch.{switchOf, switch}
 use Rattle.lowering.specs.Image.{words}
 use Rattle.lowering.specs.Outcome.{Outcome, refused, image, lower, scratchNeeded, lowered, outcomeAfter, outcome}
+use Rattle.lowering.proofs.RowCounts.{case-rows-length, range-rows-length}
 use Rattle.lowering.proofs.Tables.{Fits, TablesFit}
-
-case-rows-length : (s : List ℕ) (l : Layout) (fallback : ℕ) (cs : List ℕ) (p : Pools) → length (caseRows s l fallback cs p) ≡ length cs
-unfolding caseRows
-case-rows-length s l fallback [] p = refl
-case-rows-length s l fallback (c ∷ cs) p = ap suc (case-rows-length s l fallback cs _)
-
-range-rows-length : (l : Layout) (fallback : ℕ) (es : List Split.Entry) → length (rangeRows l fallback es) ≡ length es
-unfolding rangeRows
-range-rows-length l fallback [] = refl
-range-rows-length l fallback (e ∷ es) = ap suc (range-rows-length l fallback es)
 
 plain-fits : (o : Out) → TablesFit (plain o)
 unfolding plain

@@ -14,7 +14,7 @@ use Rattle.lowering.specs.Out.{Rec}
 use Rattle.lowering.specs.Switch.{switch}
 use Rattle.lowering.proofs.Meets.{Meets}
 use Rattle.lowering.proofs.Whole.{WellTyped, AllReached}
-use Rattle.lowering.proofs.Nodes.{Valid, Right, right, accepted-sizes, accepted-shape, subject-valid, guard-valid, body-valid}
+use Rattle.lowering.specs.Nodes.{Valid, Right, right, accepted-sizes, accepted-shape, subject-valid, guard-valid, body-valid}
 use Rattle.lowering.proofs.SwitchBlocks.{Blocks}
 use Rattle.lowering.proofs.SwitchChecked.{checked-blocks}
 use Rattle.lowering.proofs.SwitchTyped.{switch-typed}

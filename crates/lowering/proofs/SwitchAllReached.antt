@@ -19,7 +19,8 @@ use Rattle.lowering.specs.SwitchLayout.{Layout, layout}
 use Rattle.lowering.specs.SwitchCode.{defaultAt, endAt, fallbackAt, armsCode, rangesCode, defaultCode, switchCode}
 use Rattle.lowering.specs.SwitchTables.{entryOf, target}
 use Rattle.lowering.specs.Switch.{switchOf, switch}
-use Rattle.lowering.proofs.Effect.{Context, All}
+use Rattle.lowering.specs.All.{All}
+use Rattle.lowering.proofs.Effect.{Context}
 use Rattle.lowering.proofs.Linked.{Closed, Reached, Linked, reached-append}
 use Rattle.lowering.proofs.Meets.{Meets}
 use Rattle.lowering.proofs.Whole.{contextOf, AllReached}

@@ -19,7 +19,7 @@ use Rattle.numbers.specs.Numbers.{exist, numberAmong, numberOk, nodeNumbersOk, 
 use Rattle.cases.specs.Range.{Range}
 use Rattle.lowering.specs.Kinds.{switchKind}
 use Rattle.lowering.specs.SwitchSheet.{blockCount, subject, nodesFrom, casesOf, caseBlocks, rangeNodes, rangeOf, rangesOf}
-use Rattle.lowering.proofs.Nodes.{Valid, Right, node-own, next-is, child-is, children, root-valid, switch-count, cases-row, ranges-row}
+use Rattle.lowering.specs.Nodes.{Valid, Right, node-own, next-is, child-is, children, root-valid, switch-count, cases-row, ranges-row}
 use Rattle.lowering.proofs.SwitchBlocks.{Blocks}
 
 -- ---- the kinds of children

@@ -1,5 +1,5 @@
 -- The targets of a switch's tables: where the entry of each row's list goes, then the default.
-use Prim.Native.Nat.{ℕ, suc}
+use Prim.Native.Nat.{ℕ}
 use mathlib.Core.Path.{_≡_, refl, sym, ap, _∙_}
 use mathlib.Core.List.{List, [], _∷_, _++_, map}
 use lib.ListN.{length, take, getD}
@@ -15,6 +15,7 @@ use Rattle.lowering.specs.SwitchCode.{defaultAt, fallbackAt, lastEmits}
 use Rattle.lowering.specs.SwitchTables.{entryOf, target, caseRows, rangeRows, caseTable, rangeTable}
 use Rattle.lowering.specs.Switch.{switchOf}
 use Rattle.sheet.specs.Node.{child}
+use Rattle.lowering.proofs.RowCounts.{case-rows-length, range-rows-length}
 use Rattle.lowering.proofs.Whole.{noSwitch, rowTargets, targetsOf}
 
 -- where Case c goes, and where split range e goes
@@ -31,21 +32,11 @@ module _ (s : List ℕ) (l : Layout) (fb : ℕ) where
   case-rows [] p = refl
   case-rows (c ∷ cs) p = ap (λ (x : List ℕ). target (l .bodies) fb (entryOf (caseBlocks s c) (l .caseArms)) ∷ x) (case-rows cs (pushConst s (constOf s (child c)) p))
 
-  pub case-rows-length : (cs : List ℕ) (p : Pools) → length (caseRows s l fb cs p) ≡ length cs
-  unfolding caseRows
-  case-rows-length [] p = refl
-  case-rows-length (c ∷ cs) p = ap suc (case-rows-length cs (pushConst s (constOf s (child c)) p))
-
   range-rows : (es : List Split.Entry)
       → map (λ (c : SwitchRange). c .target) (rangeRows l fb es) ≡ map (λ (e : Split.Entry). target (l .bodies) fb (entryOf (e .blocks) (l .rangeArms))) es
   unfolding rangeRows
   range-rows [] = refl
   range-rows (e ∷ es) = ap (λ (x : List ℕ). target (l .bodies) fb (entryOf (e .blocks) (l .rangeArms)) ∷ x) (range-rows es)
-
-  pub range-rows-length : (es : List Split.Entry) → length (rangeRows l fb es) ≡ length es
-  unfolding rangeRows
-  range-rows-length [] = refl
-  range-rows-length (e ∷ es) = ap suc (range-rows-length es)
 
 pub case-targets : (s : List ℕ) (def : ℕ) (l : Layout)
     → targetsOf (switchOf s def l) 0 ≡ map (caseTarget s def l) (casesOf s) ++ (fallbackAt def (l .splits) l ∷ [])
@@ -72,7 +63,7 @@ unfolding targetsOf rowTargets switchOf
 range-targets s def l e es q =
     let fb = defaultAt def l in
     let rows = rangeRows l fb (l .splits) in
-    let n : length rows ≡ length (l .splits) = range-rows-length s l fb (l .splits) in
+    let n : length rows ≡ length (l .splits) = range-rows-length l fb (l .splits) in
     let all : take (length (l .splits)) rows ≡ rows = ap (λ (k : ℕ). take k rows) (sym n) ∙ take-length rows in
     ap (λ (t : Switch). rowTargets (switchOf s def l) t ++ (t .default ∷ [])) (second-is fb (l .splits) e es q)
     ∙ ap (λ (x : List ℕ). x ++ (fb ∷ [])) (ap (λ (x : List SwitchRange). map (λ (c : SwitchRange). c .target) x) all ∙ range-rows s l fb (l .splits))

@@ -19,7 +19,8 @@ use Rattle.lowering.specs.SwitchLayout.{Layout, layout, rangesExtent}
 use Rattle.lowering.specs.SwitchCode.{overSubject, defaultAt, endAt, fallbackAt, entryCode, armsCode, rangesCode, defaultCode, switchCode, lastEmits}
 use Rattle.lowering.specs.SwitchTables.{entryOf, target, casePools, rangeTable}
 use Rattle.lowering.specs.Switch.{switchOf, switch}
-use Rattle.lowering.proofs.Effect.{Context, All}
+use Rattle.lowering.specs.All.{All}
+use Rattle.lowering.proofs.Effect.{Context}
 use Rattle.lowering.proofs.Typed.{Outside, Nothing, Goes, Exit, Agree, Starts, Sound, seq, none, one, weaken}
 use Rattle.lowering.proofs.Meets.{Meets, Grows, grows-refl}
 use Rattle.lowering.proofs.Whole.{targetsOf, contextOf, depthAt, WellTyped}

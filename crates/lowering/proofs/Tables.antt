@@ -16,7 +16,7 @@ use Rattle.lowering.specs.Program.{Program}
 use Rattle.lowering.specs.Image.{words}
 use Rattle.lowering.specs.Words.{switchWord, caseWord, rangeWord}
 use Rattle.lowering.specs.Run.{rowTarget, tableTarget}
-use Rattle.lowering.proofs.Effect.{All}
+use Rattle.lowering.specs.All.{All}
 use Rattle.lowering.proofs.AllLaws.{all-at, all-from}
 use Rattle.lowering.proofs.Whole.{noSwitch, rowTargets, targetsOf}
 use Rattle.lowering.proofs.Decode.{switch-word, case-word, range-word}

@@ -7,7 +7,8 @@ use native.Mathlib.Omega.{arith}
 use native.Mathlib.Nat.{add-zero, add-suc, suc-add, zero-add, add-assoc}
 use lib.ListN.{length, length-append}
 use Rattle.lowering.specs.Code.{Ins, Code}
-use Rattle.lowering.proofs.Effect.{Context, needs, after, nexts, Narrow, All}
+use Rattle.lowering.specs.All.{All}
+use Rattle.lowering.proofs.Effect.{Context, needs, after, nexts, Narrow}
 
 -- place q may follow place p, with this depth
 abbrev pub Goes : (ℕ → ℕ) → ℕ → ℕ → ℕ → ℕ → Type 0

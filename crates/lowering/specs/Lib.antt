@@ -35,3 +35,6 @@ pub mod Guided
 pub mod SourceRule
 pub mod Demand3
 pub mod Sweep
+pub mod All
+pub mod Nodes
+pub mod ChainNodes

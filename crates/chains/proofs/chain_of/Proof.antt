@@ -1,14 +1,10 @@
 -- `chains::chain_of` meets its contract: the record is the definition's.
-use Rattle.chains.specs.Steps.{chainWith}
+use mathlib.Core.Path.{ap, _∙_}
+use Rattle.chains.specs.Steps.{rootWith, chainWith}
+use Rattle.chains.specs.FieldLaws.{chain-by}
 use borrow.Author.Needs.{needs}
 use Rattle.chains.proofs.chain_of.Statement.{statement}
 use Rattle.chains.proofs.chain_of.Tie as tie
-use Rattle.chains.proofs.chain_of.Reads as reads
-use Rattle.chains.proofs.chain_of.Lts as lts
-use Rattle.chains.proofs.link_count.Reads as link-count-reads
-use Rattle.chains.proofs.operands.Reads as operands-reads
-use Rattle.chains.proofs.root_of.Reads as root-of-reads
-use Rattle.sheet.proofs.child.Reads as child-reads
 
 child-requires : tie.Need-child-requires
 child-requires c κs = search needs
@@ -24,7 +20,12 @@ operands-requires c κs = search needs
 
 returns : tie.Need-returns
 unfolding chainWith
-returns c = cc
+returns c =
+    let a = c .before .before .before .before .before .args in
+    let s = a .s .now in
+    let child-is = c .before .before .before .child .ensures in
+    let root-of-is = c .before .before .root-of .ensures in
+    chain-by (a .first) (root-of-is ∙ ap (λ v. rootWith s v (a .name)) child-is) (c .before .link-count .ensures) (c .operands .ensures)
 
 pub chain-of-spec : {M : Type 1} → statement M
 chain-of-spec =

@@ -6,8 +6,6 @@ use Rattle.bytecode.specs.Chain.{rootWords, chainWords}
 use borrow.Author.Needs.{needs}
 use Rattle.chains.proofs.chain_words.Statement.{statement}
 use Rattle.chains.proofs.chain_words.Tie as tie
-use Rattle.chains.proofs.chain_words.Reads as reads
-use Rattle.chains.proofs.chain_words.Lts as lts
 
 enum-known-root : tie.Need-enum-known-root
 enum-known-root c = search needs
@@ -23,19 +21,27 @@ enum-told c = search needs
 
 returns : tie.Need-returns
 unfolding chainWords rootWords
-returns c = sym (ap (λ r. rootWords r ++ (c .before .before .before .args .c .first ∷ c .before .before .before .args .c .steps ∷ c .before .before .before .args .c .operands ∷ [])) (c .before .root .given .1))
+returns c =
+    let x = c .before .before .before .args .c in
+    sym (ap (λ r. rootWords r ++ (x .first ∷ x .steps ∷ x .operands ∷ [])) (c .before .root .given .1))
 
 returns-2 : tie.Need-returns-2
 unfolding chainWords rootWords
-returns-2 c = sym (ap (λ r. rootWords r ++ (c .before .before .before .args .c .first ∷ c .before .before .before .args .c .steps ∷ c .before .before .before .args .c .operands ∷ [])) (c .before .root2 .given .1))
+returns-2 c =
+    let x = c .before .before .before .args .c in
+    sym (ap (λ r. rootWords r ++ (x .first ∷ x .steps ∷ x .operands ∷ [])) (c .before .root2 .given .1))
 
 returns-3 : tie.Need-returns-3
 unfolding chainWords rootWords
-returns-3 c = sym (ap (λ r. rootWords r ++ (c .before .before .before .args .c .first ∷ c .before .before .before .args .c .steps ∷ c .before .before .before .args .c .operands ∷ [])) (c .before .root3 .given .1))
+returns-3 c =
+    let x = c .before .before .before .args .c in
+    sym (ap (λ r. rootWords r ++ (x .first ∷ x .steps ∷ x .operands ∷ [])) (c .before .root3 .given .1))
 
 returns-4 : tie.Need-returns-4
 unfolding chainWords rootWords
-returns-4 c = sym (ap (λ r. rootWords r ++ (c .before .before .args .c .first ∷ c .before .before .args .c .steps ∷ c .before .before .args .c .operands ∷ [])) (c .enum-told .given .1))
+returns-4 c =
+    let x = c .before .before .args .c in
+    sym (ap (λ r. rootWords r ++ (x .first ∷ x .steps ∷ x .operands ∷ [])) (c .enum-told .given .1))
 
 pub chain-words-spec : {M : Type 1} → statement M
 chain-words-spec =

@@ -1,15 +1,11 @@
 -- `chains::has_step` meets its contract: each arm is the definition's, by the rule that the code answers.
+use mathlib.Core.Path.{ap, sym, _∙_}
+use Rattle.rules.specs.Inverse.{stepRuleFrom, step-is}
 use Rattle.lowering.specs.Flatten.{hasStep}
-use mathlib.Core.Path.{ap, sym}
 use Rattle.lowering.specs.Flatten.{stepRule}
-use Rattle.chains.specs.declared.Rule.the-variants.{Index, Property, Method, Nothing}
-use Rattle.chains.specs.Rule.{ruleFrom, rule-back}
 use borrow.Author.Needs.{needs}
 use Rattle.chains.proofs.has_step.Statement.{statement}
 use Rattle.chains.proofs.has_step.Tie as tie
-use Rattle.chains.proofs.has_step.Reads as reads
-use Rattle.chains.proofs.has_step.Lts as lts
-use Rattle.chains.proofs.step_rule.Reads as step-rule-reads
 
 step-rule-requires : tie.Need-step-rule-requires
 step-rule-requires c κs = search needs
@@ -27,20 +23,32 @@ enum-told-4 : tie.Need-enum-told-4
 enum-told-4 c = search needs
 
 returns : tie.Need-returns
-unfolding ruleFrom hasStep
-returns c = sym (ap hasStep (rule-back (stepRule (c .before .before .before .before .args .s .now) (c .before .before .before .before .args .c)) (c .before .before .step-rule .result) Index (c .before .before .step-rule .ensures) (c .enum-told .given .1)))
+unfolding stepRuleFrom hasStep
+returns c =
+    let a = c .before .before .before .before .args in
+    let s = a .s .now in
+    ap hasStep (step-is (stepRule s (a .c)) _ (sym (c .before .before .step-rule .ensures) ∙ c .enum-told .given .1))
 
 returns-2 : tie.Need-returns-2
-unfolding ruleFrom hasStep
-returns-2 c = sym (ap hasStep (rule-back (stepRule (c .before .before .before .before .args .s .now) (c .before .before .before .before .args .c)) (c .before .before .step-rule .result) Property (c .before .before .step-rule .ensures) (c .enum-told2 .given .1)))
+unfolding stepRuleFrom hasStep
+returns-2 c =
+    let a = c .before .before .before .before .args in
+    let s = a .s .now in
+    ap hasStep (step-is (stepRule s (a .c)) _ (sym (c .before .before .step-rule .ensures) ∙ c .enum-told2 .given .1))
 
 returns-3 : tie.Need-returns-3
-unfolding ruleFrom hasStep
-returns-3 c = sym (ap hasStep (rule-back (stepRule (c .before .before .before .before .args .s .now) (c .before .before .before .before .args .c)) (c .before .before .step-rule .result) Method (c .before .before .step-rule .ensures) (c .enum-told3 .given .1)))
+unfolding stepRuleFrom hasStep
+returns-3 c =
+    let a = c .before .before .before .before .args in
+    let s = a .s .now in
+    ap hasStep (step-is (stepRule s (a .c)) _ (sym (c .before .before .step-rule .ensures) ∙ c .enum-told3 .given .1))
 
 returns-4 : tie.Need-returns-4
-unfolding ruleFrom hasStep
-returns-4 c = sym (ap hasStep (rule-back (stepRule (c .before .before .before .before .args .s .now) (c .before .before .before .before .args .c)) (c .before .before .step-rule .result) Nothing (c .before .before .step-rule .ensures) (c .enum-told4 .given .1)))
+unfolding stepRuleFrom hasStep
+returns-4 c =
+    let a = c .before .before .before .before .args in
+    let s = a .s .now in
+    ap hasStep (step-is (stepRule s (a .c)) _ (sym (c .before .before .step-rule .ensures) ∙ c .enum-told4 .given .1))
 
 pub has-step-spec : {M : Type 1} → statement M
 has-step-spec =

@@ -1,13 +1,12 @@
 -- `chains::is_local` meets its contract: one law for each answer.
+use mathlib.Core.Path.{ap, sym, _∙_}
+use Rattle.sheet.specs.Text.{text}
+use Rattle.lowering.specs.Slots.{resolve}
+use Rattle.slots.specs.Found.{found}
 use Rattle.chains.specs.WayLaws.{local-at, local-nowhere}
 use borrow.Author.Needs.{needs}
 use Rattle.chains.proofs.is_local.Statement.{statement}
 use Rattle.chains.proofs.is_local.Tie as tie
-use Rattle.chains.proofs.is_local.Reads as reads
-use Rattle.chains.proofs.is_local.Lts as lts
-use Rattle.sheet.proofs.field_a.Reads as field-a-reads
-use Rattle.sheet.proofs.text.Reads as text-reads
-use Rattle.slots.proofs.resolve.Reads as resolve-reads
 
 field-a-requires : tie.Need-field-a-requires
 field-a-requires c κs = search needs
@@ -25,10 +24,24 @@ enum-told-2 : tie.Need-enum-told-2
 enum-told-2 c = search needs
 
 returns : tie.Need-returns
-returns c = cc (local-at (c .before .before .before .before .before .before .args .s .now) (c .before .before .before .before .before .before .args .v) (c .before .before .resolve .result) (c .enum-told .given .0 .0) (cc) (c .enum-told .given .1))
+returns c =
+    let a = c .before .before .before .before .before .before .args in
+    let s = a .s .now in
+    let field-a-is = c .before .before .before .before .field-a .ensures in
+    let text-is = c .before .before .before .text .ensures in
+    let resolve-is = c .before .before .resolve .ensures in
+    let told = c .enum-told .given .1 in
+    sym (local-at s (a .v) _ (c .enum-told .given .0 .0) (resolve-is ∙ ap (λ b. found (resolve s b)) (text-is ∙ ap (text s) field-a-is)) told)
 
 returns-2 : tie.Need-returns-2
-returns-2 c = cc (local-nowhere (c .before .before .before .before .before .before .args .s .now) (c .before .before .before .before .before .before .args .v) (c .before .before .resolve .result) (cc) (c .enum-told2 .given .1))
+returns-2 c =
+    let a = c .before .before .before .before .before .before .args in
+    let s = a .s .now in
+    let field-a-is = c .before .before .before .before .field-a .ensures in
+    let text-is = c .before .before .before .text .ensures in
+    let resolve-is = c .before .before .resolve .ensures in
+    let told = c .enum-told2 .given .1 in
+    sym (local-nowhere s (a .v) _ (resolve-is ∙ ap (λ b. found (resolve s b)) (text-is ∙ ap (text s) field-a-is)) told)
 
 pub is-local-spec : {M : Type 1} → statement M
 is-local-spec =

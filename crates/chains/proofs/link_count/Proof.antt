@@ -1,19 +1,15 @@
 -- `chains::link_count` meets its contract. Invariant: the links passed and those left from link c on are all.
+use mathlib.Core.Path.{_≡_, ap, sym, _∙_}
 use Rattle.sheet.specs.Limits.{maxDepth}
 use borrow.Author.Needs.{needs}
 use native.Mathlib.Omega.{arith}
 use Prim.Native.Nat.{_+_, _*_, _-_, _≤_}
-use mathlib.Core.Path.{_≡_}
 use lib.ListN.{length}
 use Rattle.lowering.specs.Flatten as flatten
 use Rattle.chains.specs.Steps as chains
 use Rattle.chains.specs.LoopLaws.{count-starts, count-more, count-last, count-done}
 use Rattle.chains.proofs.link_count.Statement.{statement}
 use Rattle.chains.proofs.link_count.Tie as tie
-use Rattle.chains.proofs.link_count.Reads as reads
-use Rattle.chains.proofs.link_count.Lts as lts
-use Rattle.chains.proofs.goes_on.Reads as goes-on-reads
-use Rattle.chains.proofs.rest_of.Reads as rest-of-reads
 
 abbrev Inv-loop : tie.InvT-loop
 Inv-loop s j left₀ n₀ c₀ left n c = (n + left ≤ maxDepth) × (n + length (flatten.links left s c) ≡ chains.linkCount s j)
@@ -40,13 +36,34 @@ loop-less : tie.Need-loop-less Inv-loop μ-loop
 loop-less c = omega arith
 
 loop-again : tie.Need-loop-again Inv-loop μ-loop
-loop-again c = (omega arith, cc (count-more (c .before .before .before .before .before .before .args .s .now) (c .before .before .before .before .loop .n) (c .before .before .before .before .loop .left) (c .before .before .before .before .loop .c) (c .before .before .before .loop-test .taken) (cc)))
+loop-again c =
+    let a = c .before .before .before .before .before .before .args in
+    let s = a .s .now in
+    let w = c .before .before .before .before .loop in
+    let h = c .before .before .before .loop-test .taken in
+    let goes-on-is = c .before .before .goes-on .ensures in
+    let test1 = c .before .if1 .taken in
+    let rest-of-is = c .rest-of .ensures in (
+      omega arith,
+      ap (λ x. w .n + 1 + length (flatten.links (w .left - 1) s x)) rest-of-is
+          ∙ sym (count-more s (w .n) (w .left) (w .c) h (sym goes-on-is ∙ test1))
+          ∙ w .inv .1,
+    )
 
 returns : tie.Need-returns Inv-loop μ-loop
-returns c = cc (count-last (c .before .before .before .before .before .args .s .now) (c .before .before .before .loop .n) (c .before .before .before .loop .left) (c .before .before .before .loop .c) (c .before .before .loop-test .taken) (cc))
+returns c =
+    let a = c .before .before .before .before .before .args in
+    let s = a .s .now in
+    let w = c .before .before .before .loop in
+    let h = c .before .before .loop-test .taken in
+    sym (count-last s (w .n) (w .left) (w .c) h (sym (c .before .goes-on .ensures) ∙ c .if1 .left)) ∙ w .inv .1
 
 returns-2 : tie.Need-returns-2 Inv-loop μ-loop
-returns-2 c = cc (count-done (c .before .before .before .args .s .now) (c .before .loop .n) (c .before .loop .left) (c .before .loop .c) (c .loop-test .left))
+returns-2 c =
+    let a = c .before .before .before .args in
+    let s = a .s .now in
+    let w = c .before .loop in
+    sym (count-done s (w .n) (w .left) (w .c) (c .loop-test .left)) ∙ w .inv .1
 
 pub link-count-spec : {M : Type 1} → statement M
 link-count-spec =

@@ -1,19 +1,14 @@
 -- `chains::lowers` meets its contract. Invariant: what is left to test from link c on equals the whole.
+use mathlib.Core.Path.{_≡_, ap, sym, _∙_}
 use Rattle.sheet.specs.Limits.{maxDepth}
 use borrow.Author.Needs.{needs}
 use native.Mathlib.Omega.{arith}
 use Prim.Native.Nat.{_+_, _*_, _-_, _≤_}
-use mathlib.Core.Path.{_≡_}
 use Rattle.lowering.specs.Flatten as flatten
 use Rattle.chains.specs.Lowers as lowering
 use Rattle.chains.specs.LoopLaws.{lower-starts, lower-more, lower-last, lower-fails, lower-done}
 use Rattle.chains.proofs.lowers.Statement.{statement}
 use Rattle.chains.proofs.lowers.Tie as tie
-use Rattle.chains.proofs.lowers.Reads as reads
-use Rattle.chains.proofs.lowers.Lts as lts
-use Rattle.chains.proofs.goes_on.Reads as goes-on-reads
-use Rattle.chains.proofs.rest_of.Reads as rest-of-reads
-use Rattle.chains.proofs.step_lowers.Reads as step-lowers-reads
 
 abbrev Inv-loop : tie.InvT-loop
 Inv-loop s j left₀ c₀ left c = lowering.allLower s (flatten.links left s c) ≡ lowering.lowers s j
@@ -40,16 +35,47 @@ loop-less : tie.Need-loop-less Inv-loop μ-loop
 loop-less c = omega arith
 
 loop-again : tie.Need-loop-again Inv-loop μ-loop
-loop-again c = cc (lower-more (c .before .before .before .before .before .before .before .before .args .s .now) (c .before .before .before .before .before .before .loop .left) (c .before .before .before .before .before .before .loop .c) (c .before .before .before .before .before .loop-test .taken) (cc) (cc))
+loop-again c =
+    let a = c .before .before .before .before .before .before .before .before .args in
+    let s = a .s .now in
+    let w = c .before .before .before .before .before .before .loop in
+    let h = c .before .before .before .before .before .loop-test .taken in
+    let step-lowers-is = c .before .before .before .before .step-lowers .ensures in
+    let test1 = c .before .before .before .if1 .taken in
+    let goes-on-is = c .before .before .goes-on .ensures in
+    let test2 = c .before .if2 .taken in
+    let rest-of-is = c .rest-of .ensures in
+    ap (λ x. lowering.allLower s (flatten.links (w .left - 1) s x)) rest-of-is
+    ∙ sym (lower-more s (w .left) (w .c) h (sym step-lowers-is ∙ test1) (sym goes-on-is ∙ test2))
+    ∙ w .inv
 
 returns : tie.Need-returns Inv-loop μ-loop
-returns c = cc (lower-last (c .before .before .before .before .before .before .before .args .s .now) (c .before .before .before .before .before .loop .left) (c .before .before .before .before .before .loop .c) (c .before .before .before .before .loop-test .taken) (cc) (cc))
+returns c =
+    let a = c .before .before .before .before .before .before .before .args in
+    let s = a .s .now in
+    let w = c .before .before .before .before .before .loop in
+    let h = c .before .before .before .before .loop-test .taken in
+    let step-lowers-is = c .before .before .before .step-lowers .ensures in
+    let test1 = c .before .before .if1 .taken in
+    let goes-on-is = c .before .goes-on .ensures in
+    let test2 = c .if2 .left in
+    sym (lower-last s (w .left) (w .c) h (sym step-lowers-is ∙ test1) (sym goes-on-is ∙ test2))
+    ∙ w .inv
 
 returns-2 : tie.Need-returns-2 Inv-loop μ-loop
-returns-2 c = cc (lower-fails (c .before .before .before .before .before .args .s .now) (c .before .before .before .loop .left) (c .before .before .before .loop .c) (c .before .before .loop-test .taken) (cc))
+returns-2 c =
+    let a = c .before .before .before .before .before .args in
+    let s = a .s .now in
+    let w = c .before .before .before .loop in
+    let h = c .before .before .loop-test .taken in
+    sym (lower-fails s (w .left) (w .c) h (sym (c .before .step-lowers .ensures) ∙ c .if1 .left)) ∙ w .inv
 
 returns-3 : tie.Need-returns-3 Inv-loop μ-loop
-returns-3 c = cc (lower-done (c .before .before .before .args .s .now) (c .before .loop .left) (c .before .loop .c) (c .loop-test .left))
+returns-3 c =
+    let a = c .before .before .before .args in
+    let s = a .s .now in
+    let w = c .before .loop in
+    sym (lower-done s (w .left) (w .c) (c .loop-test .left)) ∙ w .inv
 
 pub lowers-spec : {M : Type 1} → statement M
 lowers-spec =

@@ -1,22 +1,20 @@
 -- `chains::operands` meets its contract. Invariant: the operands of the links passed and of those left from link c on are all; each link has few.
+use mathlib.Core.Path.{_≡_, ap, ap₂, sym, _∙_}
 use Rattle.sheet.specs.Limits.{maxDepth}
 use borrow.Author.Needs.{needs}
 use native.Mathlib.Omega.{arith}
 use Prim.Native.Nat.{_+_, _*_, _-_, _≤_}
-use mathlib.Core.Path.{_≡_}
 use Rattle.lowering.specs.Flatten as flatten
 use Rattle.chains.specs.Steps as chains
 use Rattle.chains.specs.LoopLaws.{width-few, operands-starts, operands-more, operands-last, operands-done}
 use Rattle.chains.proofs.operands.Statement.{statement}
 use Rattle.chains.proofs.operands.Tie as tie
-use Rattle.chains.proofs.operands.Reads as reads
-use Rattle.chains.proofs.operands.Lts as lts
-use Rattle.chains.proofs.goes_on.Reads as goes-on-reads
-use Rattle.chains.proofs.rest_of.Reads as rest-of-reads
-use Rattle.chains.proofs.width.Reads as width-reads
 
 abbrev Inv-loop : tie.InvT-loop
-Inv-loop s j left₀ n₀ c₀ left n c = (left ≤ maxDepth) × (n + 255 * left ≤ 255 * maxDepth) × (n + chains.operandsOf s (flatten.links left s c) ≡ chains.chainOperands s j)
+Inv-loop s j left₀ n₀ c₀ left n c =
+    (left ≤ maxDepth)
+    × (n + 255 * left ≤ 255 * maxDepth)
+    × (n + chains.operandsOf s (flatten.links left s c) ≡ chains.chainOperands s j)
 
 abbrev μ-loop : tie.MeasureT-loop
 μ-loop s j left₀ n₀ c₀ left n c = left
@@ -43,13 +41,38 @@ loop-less : tie.Need-loop-less Inv-loop μ-loop
 loop-less c = omega arith
 
 loop-again : tie.Need-loop-again Inv-loop μ-loop
-loop-again c = (omega arith, omega (arith, width-few (c .before .before .before .before .before .before .before .args .s .now) (c .before .before .before .before .before .loop .c)), cc (operands-more (c .before .before .before .before .before .before .before .args .s .now) (c .before .before .before .before .before .loop .n) (c .before .before .before .before .before .loop .left) (c .before .before .before .before .before .loop .c) (c .before .before .before .before .loop-test .taken) (cc)))
+loop-again c =
+    let a = c .before .before .before .before .before .before .before .args in
+    let s = a .s .now in
+    let w = c .before .before .before .before .before .loop in
+    let h = c .before .before .before .before .loop-test .taken in
+    let width-is = c .before .before .before .width .ensures in
+    let goes-on-is = c .before .before .goes-on .ensures in
+    let test1 = c .before .if1 .taken in
+    let rest-of-is = c .rest-of .ensures in (
+      omega arith,
+      omega (arith, width-few s (w .c)),
+      ap₂ (λ k x. w .n + k + chains.operandsOf s (flatten.links (w .left - 1) s x)) width-is rest-of-is
+          ∙ sym (operands-more s (w .n) (w .left) (w .c) h (sym goes-on-is ∙ test1))
+          ∙ w .inv .2,
+    )
 
 returns : tie.Need-returns Inv-loop μ-loop
-returns c = cc (operands-last (c .before .before .before .before .before .before .args .s .now) (c .before .before .before .before .loop .n) (c .before .before .before .before .loop .left) (c .before .before .before .before .loop .c) (c .before .before .before .loop-test .taken) (cc))
+returns c =
+    let a = c .before .before .before .before .before .before .args in
+    let s = a .s .now in
+    let w = c .before .before .before .before .loop in
+    let h = c .before .before .before .loop-test .taken in
+    ap (λ k. w .n + k) (c .before .before .width .ensures)
+    ∙ sym (operands-last s (w .n) (w .left) (w .c) h (sym (c .before .goes-on .ensures) ∙ c .if1 .left))
+    ∙ w .inv .2
 
 returns-2 : tie.Need-returns-2 Inv-loop μ-loop
-returns-2 c = cc (operands-done (c .before .before .before .args .s .now) (c .before .loop .n) (c .before .loop .left) (c .before .loop .c) (c .loop-test .left))
+returns-2 c =
+    let a = c .before .before .before .args in
+    let s = a .s .now in
+    let w = c .before .loop in
+    sym (operands-done s (w .n) (w .left) (w .c) (c .loop-test .left)) ∙ w .inv .2
 
 pub operands-spec : {M : Type 1} → statement M
 operands-spec =

@@ -2,8 +2,6 @@
 use Rattle.chains.specs.WayLaws.{kind-own, kind-zero}
 use Rattle.chains.proofs.root_kind.Statement.{statement}
 use Rattle.chains.proofs.root_kind.Tie as tie
-use Rattle.chains.proofs.root_kind.Reads as reads
-use Rattle.chains.proofs.root_kind.Lts as lts
 
 returns : tie.Need-returns
 returns c = cc (kind-own (c .before .args .k) (cc))

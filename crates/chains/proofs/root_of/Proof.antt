@@ -1,19 +1,15 @@
 -- `chains::root_of` meets its contract: one law for each way.
-use mathlib.Core.Path.{_≡_}
-use Rattle.sheet.specs.Node.{kind}
+use mathlib.Core.Path.{ap, ap₂, sym, _∙_}
+use Rattle.sheet.specs.Text.{text}
+use Rattle.lowering.specs.Slots.{resolve}
+use Rattle.slots.specs.Found.{found}
+use Rattle.bytecode.specs.declared.Root.the-variants.{This}
+use Rattle.chains.specs.Variable.{variableBy}
 use Rattle.chains.specs.RootLaws.{root-this, root-other}
 use Rattle.chains.specs.WayLaws.{root-variable}
 use borrow.Author.Needs.{needs}
 use Rattle.chains.proofs.root_of.Statement.{statement}
 use Rattle.chains.proofs.root_of.Tie as tie
-use Rattle.chains.proofs.root_of.Reads as reads
-use Rattle.chains.proofs.root_of.Lts as lts
-use Rattle.chains.proofs.variable_root.Reads as variable-root-reads
-use Rattle.sheet.proofs.field_a.Reads as field-a-reads
-use Rattle.sheet.proofs.kind.Reads as kind-reads
-use Rattle.sheet.proofs.position.Reads as position-reads
-use Rattle.sheet.proofs.text.Reads as text-reads
-use Rattle.slots.proofs.resolve.Reads as resolve-reads
 
 kind-requires : tie.Need-kind-requires
 kind-requires c κs = search needs
@@ -34,19 +30,38 @@ variable-root-requires : tie.Need-variable-root-requires
 variable-root-requires c κs = search needs
 
 returns : tie.Need-returns
-returns c = cc (root-variable (c .before .before .before .before .before .before .before .before .args .s .now) (c .before .before .before .before .before .before .before .before .args .v) (c .before .before .before .before .before .before .before .before .args .name) (cc))
+returns c =
+    let a = c .before .before .before .before .before .before .before .before .args in
+    let s = a .s .now in
+    let kind-is = c .before .before .before .before .before .before .kind .ensures in
+    let test1 = c .before .before .before .before .before .if1 .taken in
+    let field-a-is = c .before .before .before .before .field-a .ensures in
+    let text-is = c .before .before .before .text .ensures in
+    let resolve-is = c .before .before .resolve .ensures in
+    let position-is = c .before .position .ensures in
+    let variable-root-is = c .variable-root .ensures in
+    variable-root-is
+    ∙ ap₂ (λ f p. variableBy f (a .name) p) (resolve-is ∙ ap (λ b. found (resolve s b)) (text-is ∙ ap (text s) field-a-is)) position-is
+    ∙ sym (root-variable s (a .v) (a .name) (sym kind-is ∙ test1))
 
 position-requires-2 : tie.Need-position-requires-2
 position-requires-2 c κs = search needs
 
 returns-2 : tie.Need-returns-2
-returns-2 c = cc (root-this (c .before .before .before .before .before .args .s .now) (c .before .before .before .before .before .args .v) (c .before .before .before .before .before .args .name) (cc))
+returns-2 c =
+    let a = c .before .before .before .before .before .args in
+    let s = a .s .now in
+    ap This (c .position2 .ensures)
+    ∙ sym (root-this s (a .v) (a .name) (sym (c .before .before .before .kind .ensures) ∙ c .before .if2 .taken))
 
 returns-3 : tie.Need-returns-3
-returns-3 c = let a = c .before .before .before .before .args in
-    let n : kind (a .s .now) (a .v) ≡ 9 → ⊥ = λ e. c .before .if1 .left (cc) in
-    let m : kind (a .s .now) (a .v) ≡ 10 → ⊥ = λ e. c .if2 .left (cc) in
-    cc (root-other (a .s .now) (a .v) (a .name) n m)
+returns-3 c =
+    let a = c .before .before .before .before .args in
+    let s = a .s .now in
+    let kind-is = c .before .before .kind .ensures in
+    let test1 = c .before .if1 .left in
+    let test2 = c .if2 .left in
+    sym (root-other s (a .v) (a .name) (λ e. test1 (kind-is ∙ e)) (λ e. test2 (kind-is ∙ e)))
 
 pub root-of-spec : {M : Type 1} → statement M
 root-of-spec =

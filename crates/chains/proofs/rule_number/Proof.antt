@@ -1,12 +1,10 @@
 -- `chains::rule_number` meets its contract: each arm is the definition's.
 use mathlib.Core.Path.{ap, sym}
+use Rattle.rules.specs.Inverse.{stepRuleFrom}
 use Rattle.chains.specs.Same.{ruleNumber}
-use Rattle.chains.specs.Rule.{ruleFrom}
 use borrow.Author.Needs.{needs}
 use Rattle.chains.proofs.rule_number.Statement.{statement}
 use Rattle.chains.proofs.rule_number.Tie as tie
-use Rattle.chains.proofs.rule_number.Reads as reads
-use Rattle.chains.proofs.rule_number.Lts as lts
 
 enum-told : tie.Need-enum-told
 enum-told c = search needs
@@ -21,20 +19,20 @@ enum-told-4 : tie.Need-enum-told-4
 enum-told-4 c = search needs
 
 returns : tie.Need-returns
-unfolding ruleFrom ruleNumber
-returns c = sym (ap (λ r. ruleNumber (ruleFrom r)) (c .enum-told .given .1))
+unfolding stepRuleFrom ruleNumber
+returns c = sym (ap (λ r. ruleNumber (stepRuleFrom r)) (c .enum-told .given .1))
 
 returns-2 : tie.Need-returns-2
-unfolding ruleFrom ruleNumber
-returns-2 c = sym (ap (λ r. ruleNumber (ruleFrom r)) (c .enum-told2 .given .1))
+unfolding stepRuleFrom ruleNumber
+returns-2 c = sym (ap (λ r. ruleNumber (stepRuleFrom r)) (c .enum-told2 .given .1))
 
 returns-3 : tie.Need-returns-3
-unfolding ruleFrom ruleNumber
-returns-3 c = sym (ap (λ r. ruleNumber (ruleFrom r)) (c .enum-told3 .given .1))
+unfolding stepRuleFrom ruleNumber
+returns-3 c = sym (ap (λ r. ruleNumber (stepRuleFrom r)) (c .enum-told3 .given .1))
 
 returns-4 : tie.Need-returns-4
-unfolding ruleFrom ruleNumber
-returns-4 c = sym (ap (λ r. ruleNumber (ruleFrom r)) (c .enum-told4 .given .1))
+unfolding stepRuleFrom ruleNumber
+returns-4 c = sym (ap (λ r. ruleNumber (stepRuleFrom r)) (c .enum-told4 .given .1))
 
 pub rule-number-spec : {M : Type 1} → statement M
 rule-number-spec =

@@ -1,15 +1,10 @@
 -- `chains::same_as` meets its contract: each arm is the definition's.
-use Rattle.chains.specs.Same.{sameAs}
-use Rattle.chains.specs.Rule.{ruleFrom}
+use mathlib.Core.Path.{ap, ap₂, sym, _∙_}
+use Rattle.rules.specs.Inverse.{stepRuleFrom}
+use Rattle.chains.specs.Same.{sameProperty, sameMethod, sameAs}
 use borrow.Author.Needs.{needs}
 use Rattle.chains.proofs.same_as.Statement.{statement}
 use Rattle.chains.proofs.same_as.Tie as tie
-use Rattle.chains.proofs.same_as.Reads as reads
-use Rattle.chains.proofs.same_as.Lts as lts
-use Rattle.chains.proofs.operand_of.Reads as operand-of-reads
-use Rattle.chains.proofs.same_index.Reads as same-index-reads
-use Rattle.chains.proofs.same_method.Reads as same-method-reads
-use Rattle.chains.proofs.same_property.Reads as same-property-reads
 
 enum-told : tie.Need-enum-told
 enum-told c = search needs
@@ -45,20 +40,37 @@ enum-told-4 : tie.Need-enum-told-4
 enum-told-4 c = search needs
 
 returns : tie.Need-returns
-unfolding ruleFrom sameAs
-returns c = cc
+unfolding stepRuleFrom sameAs
+returns c =
+    let a = c .before .before .before .before .args in
+    let s = a .s .now in
+    c .same-index .ensures
+    ∙ sym (ap (λ r. sameAs (stepRuleFrom r) s (a .c) (a .d)) (c .before .enum-told .given .1))
 
 returns-2 : tie.Need-returns-2
-unfolding ruleFrom sameAs
-returns-2 c = cc
+unfolding stepRuleFrom sameAs
+returns-2 c =
+    let a = c .before .before .before .before .before .before .args in
+    let s = a .s .now in
+    c .same-property .ensures
+    ∙ ap₂ (sameProperty s) (c .before .before .operand-of .ensures) (c .before .operand-of2 .ensures)
+    ∙ sym (ap (λ r. sameAs (stepRuleFrom r) s (a .c) (a .d)) (c .before .before .before .enum-told2 .given .1))
 
 returns-3 : tie.Need-returns-3
-unfolding ruleFrom sameAs
-returns-3 c = cc
+unfolding stepRuleFrom sameAs
+returns-3 c =
+    let a = c .before .before .before .before .before .before .args in
+    let s = a .s .now in
+    c .same-method .ensures
+    ∙ ap₂ (sameMethod s) (c .before .before .operand-of3 .ensures) (c .before .operand-of4 .ensures)
+    ∙ sym (ap (λ r. sameAs (stepRuleFrom r) s (a .c) (a .d)) (c .before .before .before .enum-told3 .given .1))
 
 returns-4 : tie.Need-returns-4
-unfolding ruleFrom sameAs
-returns-4 c = cc
+unfolding stepRuleFrom sameAs
+returns-4 c =
+    let a = c .before .before .before .args in
+    let s = a .s .now in
+    sym (ap (λ r. sameAs (stepRuleFrom r) s (a .c) (a .d)) (c .enum-told4 .given .1))
 
 pub same-as-spec : {M : Type 1} → statement M
 same-as-spec =

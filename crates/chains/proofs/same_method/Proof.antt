@@ -1,14 +1,12 @@
 -- `chains::same_method` meets its contract: one law for each way.
+use mathlib.Core.Path.{ap₂, sym, _∙_}
+use mathlib.Core.Bool.{_&&_}
+use lib.Dec.{eqb}
+use Rattle.chains.specs.Same.{sameText}
 use Rattle.chains.specs.TestLaws.{method-here, method-apart}
 use borrow.Author.Needs.{needs}
 use Rattle.chains.proofs.same_method.Statement.{statement}
 use Rattle.chains.proofs.same_method.Tie as tie
-use Rattle.chains.proofs.same_method.Reads as reads
-use Rattle.chains.proofs.same_method.Lts as lts
-use Rattle.chains.proofs.same_text.Reads as same-text-reads
-use Rattle.sheet.proofs.count.Reads as count-reads
-use Rattle.sheet.proofs.field_a.Reads as field-a-reads
-use Rattle.sheet.proofs.position.Reads as position-reads
 
 position-requires : tie.Need-position-requires
 position-requires c κs = search needs
@@ -32,10 +30,31 @@ same-text-requires : tie.Need-same-text-requires
 same-text-requires c κs = search needs
 
 returns : tie.Need-returns
-returns c = cc (method-here (c .before .before .before .before .before .before .before .before .before .args .s .now) (c .before .before .before .before .before .before .before .before .before .args .x) (c .before .before .before .before .before .before .before .before .before .args .y) (cc))
+returns c =
+    let a = c .before .before .before .before .before .before .before .before .before .args in
+    let s = a .s .now in
+    let position-is = c .before .before .before .before .before .before .before .position .ensures in
+    let position2-is = c .before .before .before .before .before .before .position2 .ensures in
+    let count-is = c .before .before .before .before .before .count .ensures in
+    let count2-is = c .before .before .before .before .count2 .ensures in
+    let test1 = c .before .before .before .if1 .taken in
+    let field-a-is = c .before .before .field-a .ensures in
+    let field-a2-is = c .before .field-a2 .ensures in
+    let same-text-is = c .same-text .ensures in
+    same-text-is
+    ∙ ap₂ (sameText s) field-a-is field-a2-is
+    ∙ sym (method-here s (a .x) (a .y) (ap₂ _&&_ (ap₂ eqb (sym position-is) (sym position2-is)) (ap₂ eqb (sym count-is) (sym count2-is)) ∙ test1))
 
 returns-2 : tie.Need-returns-2
-returns-2 c = cc (method-apart (c .before .before .before .before .before .before .args .s .now) (c .before .before .before .before .before .before .args .x) (c .before .before .before .before .before .before .args .y) (cc))
+returns-2 c =
+    let a = c .before .before .before .before .before .before .args in
+    let s = a .s .now in
+    let position-is = c .before .before .before .before .position .ensures in
+    let position2-is = c .before .before .before .position2 .ensures in
+    let count-is = c .before .before .count .ensures in
+    let count2-is = c .before .count2 .ensures in
+    let test1 = c .if1 .left in
+    sym (method-apart s (a .x) (a .y) (ap₂ _&&_ (ap₂ eqb (sym position-is) (sym position2-is)) (ap₂ eqb (sym count-is) (sym count2-is)) ∙ test1))
 
 pub same-method-spec : {M : Type 1} → statement M
 same-method-spec =

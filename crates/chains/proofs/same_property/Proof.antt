@@ -1,17 +1,11 @@
 -- `chains::same_property` meets its contract: one law for each way.
-use mathlib.Core.Path.{_≡_}
-use Rattle.sheet.specs.Node.{position}
+use mathlib.Core.Path.{ap₂, sym, _∙_}
+use mathlib.Core.Bool.{_&&_}
+use Rattle.chains.specs.Same.{sameText}
 use Rattle.chains.specs.TestLaws.{property-here, property-apart}
 use borrow.Author.Needs.{needs}
 use Rattle.chains.proofs.same_property.Statement.{statement}
 use Rattle.chains.proofs.same_property.Tie as tie
-use Rattle.chains.proofs.same_property.Reads as reads
-use Rattle.chains.proofs.same_property.Lts as lts
-use Rattle.chains.proofs.same_text.Reads as same-text-reads
-use Rattle.sheet.proofs.field_a.Reads as field-a-reads
-use Rattle.sheet.proofs.field_b.Reads as field-b-reads
-use Rattle.sheet.proofs.field_c.Reads as field-c-reads
-use Rattle.sheet.proofs.position.Reads as position-reads
 
 position-requires : tie.Need-position-requires
 position-requires c κs = search needs
@@ -47,12 +41,32 @@ same-text-requires-3 : tie.Need-same-text-requires-3
 same-text-requires-3 c κs = search needs
 
 returns : tie.Need-returns
-returns c = cc (property-here (c .before .before .before .before .before .before .before .before .before .before .before .before .before .args .s .now) (c .before .before .before .before .before .before .before .before .before .before .before .before .before .args .x) (c .before .before .before .before .before .before .before .before .before .before .before .before .before .args .y) (cc))
+returns c =
+    let a = c .before .before .before .before .before .before .before .before .before .before .before .before .before .args in
+    let s = a .s .now in
+    let position-is = c .before .before .before .before .before .before .before .before .before .before .before .position .ensures in
+    let position2-is = c .before .before .before .before .before .before .before .before .before .before .position2 .ensures in
+    let test1 = c .before .before .before .before .before .before .before .before .before .if1 .taken in
+    let field-a-is = c .before .before .before .before .before .before .before .before .field-a .ensures in
+    let field-a2-is = c .before .before .before .before .before .before .before .field-a2 .ensures in
+    let same-text-is = c .before .before .before .before .before .before .same-text .ensures in
+    let field-b-is = c .before .before .before .before .before .field-b .ensures in
+    let field-b2-is = c .before .before .before .before .field-b2 .ensures in
+    let same-text2-is = c .before .before .before .same-text2 .ensures in
+    let field-c-is = c .before .before .field-c .ensures in
+    let field-c2-is = c .before .field-c2 .ensures in
+    let same-text3-is = c .same-text3 .ensures in
+    let name = same-text-is ∙ ap₂ (sameText s) field-a-is field-a2-is in
+    let getter = same-text2-is ∙ ap₂ (sameText s) field-b-is field-b2-is in
+    let setter = same-text3-is ∙ ap₂ (sameText s) field-c-is field-c2-is in
+    ap₂ _&&_ (ap₂ _&&_ name getter) setter
+    ∙ sym (property-here s (a .x) (a .y) (sym position-is ∙ test1 ∙ position2-is))
 
 returns-2 : tie.Need-returns-2
-returns-2 c = let a = c .before .before .before .before .args in
-    let n : position (a .s .now) (a .x) ≡ position (a .s .now) (a .y) → ⊥ = λ e. c .if1 .left (cc) in
-    cc (property-apart (a .s .now) (a .x) (a .y) n)
+returns-2 c =
+    let a = c .before .before .before .before .args in
+    let s = a .s .now in
+    sym (property-apart s (a .x) (a .y) (λ e. c .if1 .left (c .before .before .position .ensures ∙ e ∙ sym (c .before .position2 .ensures))))
 
 pub same-property-spec : {M : Type 1} → statement M
 same-property-spec =

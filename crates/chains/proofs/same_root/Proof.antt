@@ -1,17 +1,11 @@
 -- `chains::same_root` meets its contract: one law for each way.
-use mathlib.Core.Path.{_≡_}
-use Rattle.sheet.specs.Node.{kind}
+use mathlib.Core.Path.{ap, ap₂, sym, _∙_}
+use lib.Dec.{eqb}
 use Rattle.chains.specs.Same.{rootKind}
 use Rattle.chains.specs.WayLaws.{roots-apart, roots-variable, roots-this, roots-other}
 use borrow.Author.Needs.{needs}
 use Rattle.chains.proofs.same_root.Statement.{statement}
 use Rattle.chains.proofs.same_root.Tie as tie
-use Rattle.chains.proofs.same_root.Reads as reads
-use Rattle.chains.proofs.same_root.Lts as lts
-use Rattle.chains.proofs.root_kind.Reads as root-kind-reads
-use Rattle.chains.proofs.same_variable.Reads as same-variable-reads
-use Rattle.sheet.proofs.kind.Reads as kind-reads
-use Rattle.sheet.proofs.position.Reads as position-reads
 
 kind-requires : tie.Need-kind-requires
 kind-requires c κs = search needs
@@ -26,15 +20,31 @@ root-kind-requires-2 : tie.Need-root-kind-requires-2
 root-kind-requires-2 c κs = search needs
 
 returns : tie.Need-returns
-returns c = let a = c .before .before .before .before .before .before .args in
-    let n : rootKind (kind (a .s .now) (a .v)) ≡ rootKind (kind (a .s .now) (a .w)) → ⊥ = λ e. c .if1 .taken (cc) in
-    cc (roots-apart (a .s .now) (a .v) (a .w) n)
+returns c =
+    let a = c .before .before .before .before .before .before .args in
+    let s = a .s .now in
+    let k = c .before .before .before .root-kind .ensures ∙ ap rootKind (c .before .before .before .before .kind .ensures) in
+    let l = c .before .root-kind2 .ensures ∙ ap rootKind (c .before .before .kind2 .ensures) in
+    sym (roots-apart s (a .v) (a .w) (λ e. c .if1 .taken (k ∙ e ∙ sym l)))
 
 same-variable-requires : tie.Need-same-variable-requires
 same-variable-requires c κs = search needs
 
 returns-2 : tie.Need-returns-2
-returns-2 c = cc (roots-variable (c .before .before .before .before .before .before .before .before .args .s .now) (c .before .before .before .before .before .before .before .before .args .v) (c .before .before .before .before .before .before .before .before .args .w) (cc) (cc))
+returns-2 c =
+    let a = c .before .before .before .before .before .before .before .before .args in
+    let s = a .s .now in
+    let kind-is = c .before .before .before .before .before .before .kind .ensures in
+    let root-kind-is = c .before .before .before .before .before .root-kind .ensures in
+    let kind2-is = c .before .before .before .before .kind2 .ensures in
+    let root-kind2-is = c .before .before .before .root-kind2 .ensures in
+    let test1 = c .before .before .if1 .left in
+    let test2 = c .before .if2 .taken in
+    let same-variable-is = c .same-variable .ensures in
+    let k = root-kind-is ∙ ap rootKind kind-is in
+    let l = root-kind2-is ∙ ap rootKind kind2-is in
+    same-variable-is
+    ∙ sym (roots-variable s (a .v) (a .w) (sym k ∙ test1 ∙ l) (sym k ∙ test2))
 
 position-requires : tie.Need-position-requires
 position-requires c κs = search needs
@@ -43,13 +53,36 @@ position-requires-2 : tie.Need-position-requires-2
 position-requires-2 c κs = search needs
 
 returns-3 : tie.Need-returns-3
-returns-3 c = cc (roots-this (c .before .before .before .before .before .before .before .before .before .before .args .s .now) (c .before .before .before .before .before .before .before .before .before .before .args .v) (c .before .before .before .before .before .before .before .before .before .before .args .w) (cc) (cc))
+returns-3 c =
+    let a = c .before .before .before .before .before .before .before .before .before .before .args in
+    let s = a .s .now in
+    let kind-is = c .before .before .before .before .before .before .before .before .kind .ensures in
+    let root-kind-is = c .before .before .before .before .before .before .before .root-kind .ensures in
+    let kind2-is = c .before .before .before .before .before .before .kind2 .ensures in
+    let root-kind2-is = c .before .before .before .before .before .root-kind2 .ensures in
+    let test1 = c .before .before .before .before .if1 .left in
+    let test3 = c .before .before .if3 .taken in
+    let position-is = c .before .position .ensures in
+    let position2-is = c .position2 .ensures in
+    let k = root-kind-is ∙ ap rootKind kind-is in
+    let l = root-kind2-is ∙ ap rootKind kind2-is in
+    ap₂ eqb position-is position2-is
+    ∙ sym (roots-this s (a .v) (a .w) (sym k ∙ test1 ∙ l) (sym k ∙ test3))
 
 returns-4 : tie.Need-returns-4
-returns-4 c = let a = c .before .before .before .before .before .before .before .before .args in
-    let n : rootKind (kind (a .s .now) (a .v)) ≡ 9 → ⊥ = λ e. c .before .if2 .left (cc) in
-    let m : rootKind (kind (a .s .now) (a .v)) ≡ 10 → ⊥ = λ e. c .if3 .left (cc) in
-    cc (roots-other (a .s .now) (a .v) (a .w) (cc) n m)
+returns-4 c =
+    let a = c .before .before .before .before .before .before .before .before .args in
+    let s = a .s .now in
+    let kind-is = c .before .before .before .before .before .before .kind .ensures in
+    let root-kind-is = c .before .before .before .before .before .root-kind .ensures in
+    let kind2-is = c .before .before .before .before .kind2 .ensures in
+    let root-kind2-is = c .before .before .before .root-kind2 .ensures in
+    let test1 = c .before .before .if1 .left in
+    let test2 = c .before .if2 .left in
+    let test3 = c .if3 .left in
+    let k = root-kind-is ∙ ap rootKind kind-is in
+    let l = root-kind2-is ∙ ap rootKind kind2-is in
+    sym (roots-other s (a .v) (a .w) (sym k ∙ test1 ∙ l) (λ e. test2 (k ∙ e)) (λ e. test3 (k ∙ e)))
 
 pub same-root-spec : {M : Type 1} → statement M
 same-root-spec =

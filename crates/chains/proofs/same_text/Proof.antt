@@ -1,15 +1,16 @@
 -- `chains::same_text` meets its contract: one law for each way.
+use mathlib.Core.Path.{ap₂, sym, _∙_}
+use Rattle.text.specs.Same.{same}
 use Rattle.chains.specs.TestLaws.{text-one, text-bytes}
 use borrow.Author.Needs.{needs}
 use Rattle.chains.proofs.same_text.Statement.{statement}
 use Rattle.chains.proofs.same_text.Tie as tie
-use Rattle.chains.proofs.same_text.Reads as reads
-use Rattle.chains.proofs.same_text.Lts as lts
-use Rattle.sheet.proofs.text.Reads as text-reads
-use Rattle.text.proofs.same_bytes.Reads as same-bytes-reads
 
 returns : tie.Need-returns
-returns c = cc (text-one (c .before .before .args .s .now) (c .before .before .args .a) (c .before .before .args .b) (c .if1 .taken))
+returns c =
+    let a = c .before .before .args in
+    let s = a .s .now in
+    sym (text-one s (a .a) (a .b) (c .if1 .taken))
 
 text-requires : tie.Need-text-requires
 text-requires c κs = search needs
@@ -21,7 +22,12 @@ same-bytes-requires : tie.Need-same-bytes-requires
 same-bytes-requires c κs = search needs
 
 returns-2 : tie.Need-returns-2
-returns-2 c = cc (text-bytes (c .before .before .before .before .before .args .s .now) (c .before .before .before .before .before .args .a) (c .before .before .before .before .before .args .b))
+returns-2 c =
+    let a = c .before .before .before .before .before .args in
+    let s = a .s .now in
+    c .same-bytes .ensures
+    ∙ ap₂ same (c .before .before .text .ensures) (c .before .text2 .ensures)
+    ∙ sym (text-bytes s (a .a) (a .b))
 
 pub same-text-spec : {M : Type 1} → statement M
 same-text-spec =

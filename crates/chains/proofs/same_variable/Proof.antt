@@ -1,16 +1,10 @@
 -- `chains::same_variable` meets its contract: one law for each way.
-use mathlib.Core.Path.{_≡_}
-use Rattle.sheet.specs.Node.{position}
+use mathlib.Core.Path.{ap₂, sym, _∙_}
+use Rattle.chains.specs.Same.{sameText}
 use Rattle.chains.specs.WayLaws.{variables-apart, variables-here, variables-local}
 use borrow.Author.Needs.{needs}
 use Rattle.chains.proofs.same_variable.Statement.{statement}
 use Rattle.chains.proofs.same_variable.Tie as tie
-use Rattle.chains.proofs.same_variable.Reads as reads
-use Rattle.chains.proofs.same_variable.Lts as lts
-use Rattle.chains.proofs.is_local.Reads as is-local-reads
-use Rattle.chains.proofs.same_text.Reads as same-text-reads
-use Rattle.sheet.proofs.field_a.Reads as field-a-reads
-use Rattle.sheet.proofs.position.Reads as position-reads
 
 field-a-requires : tie.Need-field-a-requires
 field-a-requires c κs = search needs
@@ -28,18 +22,44 @@ position-requires-2 : tie.Need-position-requires-2
 position-requires-2 c κs = search needs
 
 returns : tie.Need-returns
-returns c = cc (variables-here (c .before .before .before .before .before .before .before .before .args .s .now) (c .before .before .before .before .before .before .before .before .args .v) (c .before .before .before .before .before .before .before .before .args .w) (cc) (cc))
+returns c =
+    let a = c .before .before .before .before .before .before .before .before .args in
+    let s = a .s .now in
+    let field-a-is = c .before .before .before .before .before .before .field-a .ensures in
+    let field-a2-is = c .before .before .before .before .before .field-a2 .ensures in
+    let same-text-is = c .before .before .before .before .same-text .ensures in
+    let test1 = c .before .before .before .if1 .taken in
+    let position-is = c .before .before .position .ensures in
+    let position2-is = c .before .position2 .ensures in
+    let test2 = c .if2 .taken in
+    let t = same-text-is ∙ ap₂ (sameText s) field-a-is field-a2-is in
+    sym (variables-here s (a .v) (a .w) (sym t ∙ test1) (sym position-is ∙ test2 ∙ position2-is))
 
 is-local-requires : tie.Need-is-local-requires
 is-local-requires c κs = search needs
 
 returns-2 : tie.Need-returns-2
-returns-2 c = let a = c .before .before .before .before .before .before .before .before .before .args in
-    let n : position (a .s .now) (a .v) ≡ position (a .s .now) (a .w) → ⊥ = λ e. c .before .if2 .left (cc) in
-    cc (variables-local (a .s .now) (a .v) (a .w) (cc) n)
+returns-2 c =
+    let a = c .before .before .before .before .before .before .before .before .before .args in
+    let s = a .s .now in
+    let field-a-is = c .before .before .before .before .before .before .before .field-a .ensures in
+    let field-a2-is = c .before .before .before .before .before .before .field-a2 .ensures in
+    let same-text-is = c .before .before .before .before .before .same-text .ensures in
+    let test1 = c .before .before .before .before .if1 .taken in
+    let position-is = c .before .before .before .position .ensures in
+    let position2-is = c .before .before .position2 .ensures in
+    let test2 = c .before .if2 .left in
+    let is-local-is = c .is-local .ensures in
+    let t = same-text-is ∙ ap₂ (sameText s) field-a-is field-a2-is in
+    is-local-is
+    ∙ sym (variables-local s (a .v) (a .w) (sym t ∙ test1) (λ e. test2 (position-is ∙ e ∙ sym position2-is)))
 
 returns-3 : tie.Need-returns-3
-returns-3 c = cc (variables-apart (c .before .before .before .before .before .args .s .now) (c .before .before .before .before .before .args .v) (c .before .before .before .before .before .args .w) (cc))
+returns-3 c =
+    let a = c .before .before .before .before .before .args in
+    let s = a .s .now in
+    let t = c .before .same-text .ensures ∙ ap₂ (sameText s) (c .before .before .before .field-a .ensures) (c .before .before .field-a2 .ensures) in
+    sym (variables-apart s (a .v) (a .w) (sym t ∙ c .if1 .left))
 
 pub same-variable-spec : {M : Type 1} → statement M
 same-variable-spec =

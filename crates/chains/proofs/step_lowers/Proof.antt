@@ -1,17 +1,12 @@
 -- `chains::step_lowers` meets its contract: each arm is the definition's, by the rule that the code answers.
+use mathlib.Core.Path.{ap, sym, _∙_}
+use Rattle.rules.specs.Inverse.{stepRuleFrom, step-is}
+use Rattle.lowering.specs.Steps.{isLowerableMethod}
 use Rattle.chains.specs.Lowers.{lowersBy, stepLowers}
-use mathlib.Core.Path.{ap, sym}
 use Rattle.lowering.specs.Flatten.{stepRule}
-use Rattle.chains.specs.declared.Rule.the-variants.{Index, Property, Method, Nothing}
-use Rattle.chains.specs.Rule.{ruleFrom, rule-back}
 use borrow.Author.Needs.{needs}
 use Rattle.chains.proofs.step_lowers.Statement.{statement}
 use Rattle.chains.proofs.step_lowers.Tie as tie
-use Rattle.chains.proofs.step_lowers.Reads as reads
-use Rattle.chains.proofs.step_lowers.Lts as lts
-use Rattle.chains.proofs.is_lowerable_method.Reads as is-lowerable-method-reads
-use Rattle.chains.proofs.operand_of.Reads as operand-of-reads
-use Rattle.chains.proofs.step_rule.Reads as step-rule-reads
 
 step-rule-requires : tie.Need-step-rule-requires
 step-rule-requires c κs = search needs
@@ -35,20 +30,38 @@ enum-told-4 : tie.Need-enum-told-4
 enum-told-4 c = search needs
 
 returns : tie.Need-returns
-unfolding ruleFrom stepLowers lowersBy
-returns c = sym (ap (λ r. lowersBy r (c .before .before .before .before .args .s .now) (c .before .before .before .before .args .c)) (rule-back (stepRule (c .before .before .before .before .args .s .now) (c .before .before .before .before .args .c)) (c .before .before .step-rule .result) Index (c .before .before .step-rule .ensures) (c .enum-told .given .1)))
+unfolding stepRuleFrom stepLowers lowersBy
+returns c =
+    let a = c .before .before .before .before .args in
+    let s = a .s .now in
+    ap (λ r. lowersBy r s (a .c)) (step-is (stepRule s (a .c)) _ (sym (c .before .before .step-rule .ensures) ∙ c .enum-told .given .1))
 
 returns-2 : tie.Need-returns-2
-unfolding ruleFrom stepLowers lowersBy
-returns-2 c = sym (ap (λ r. lowersBy r (c .before .before .before .before .args .s .now) (c .before .before .before .before .args .c)) (rule-back (stepRule (c .before .before .before .before .args .s .now) (c .before .before .before .before .args .c)) (c .before .before .step-rule .result) Property (c .before .before .step-rule .ensures) (c .enum-told2 .given .1)))
+unfolding stepRuleFrom stepLowers lowersBy
+returns-2 c =
+    let a = c .before .before .before .before .args in
+    let s = a .s .now in
+    ap (λ r. lowersBy r s (a .c)) (step-is (stepRule s (a .c)) _ (sym (c .before .before .step-rule .ensures) ∙ c .enum-told2 .given .1))
 
 returns-3 : tie.Need-returns-3
-unfolding ruleFrom stepLowers lowersBy
-returns-3 c = cc (ap (λ r. lowersBy r (c .before .before .before .before .before .before .args .s .now) (c .before .before .before .before .before .before .args .c)) (rule-back (stepRule (c .before .before .before .before .before .before .args .s .now) (c .before .before .before .before .before .before .args .c)) (c .before .before .before .before .step-rule .result) Method (c .before .before .before .before .step-rule .ensures) (c .before .before .enum-told3 .given .1)))
+unfolding stepRuleFrom stepLowers lowersBy
+returns-3 c =
+    let a = c .before .before .before .before .before .before .args in
+    let s = a .s .now in
+    let step-rule-is = c .before .before .before .before .step-rule .ensures in
+    let told = c .before .before .enum-told3 .given .1 in
+    let operand-of-is = c .before .operand-of .ensures in
+    let is-lowerable-method-is = c .is-lowerable-method .ensures in
+    is-lowerable-method-is
+    ∙ ap (isLowerableMethod s) operand-of-is
+    ∙ ap (λ r. lowersBy r s (a .c)) (step-is (stepRule s (a .c)) _ (sym step-rule-is ∙ told))
 
 returns-4 : tie.Need-returns-4
-unfolding ruleFrom stepLowers lowersBy
-returns-4 c = sym (ap (λ r. lowersBy r (c .before .before .before .before .args .s .now) (c .before .before .before .before .args .c)) (rule-back (stepRule (c .before .before .before .before .args .s .now) (c .before .before .before .before .args .c)) (c .before .before .step-rule .result) Nothing (c .before .before .step-rule .ensures) (c .enum-told4 .given .1)))
+unfolding stepRuleFrom stepLowers lowersBy
+returns-4 c =
+    let a = c .before .before .before .before .args in
+    let s = a .s .now in
+    ap (λ r. lowersBy r s (a .c)) (step-is (stepRule s (a .c)) _ (sym (c .before .before .step-rule .ensures) ∙ c .enum-told4 .given .1))
 
 pub step-lowers-spec : {M : Type 1} → statement M
 step-lowers-spec =

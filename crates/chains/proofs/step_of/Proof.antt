@@ -1,20 +1,15 @@
 -- `chains::step_of` meets its contract: each arm is the definition's, by the rule that the code answers.
+use mathlib.Core.Path.{ap, ap₂, sym, _∙_}
+use Rattle.sheet.specs.Node.{count, position}
+use Rattle.sheet.specs.Start.{startOf}
+use Rattle.bytecode.specs.declared.Step.the-variants.{Index, Property, Method}
+use Rattle.rules.specs.Inverse.{stepRuleFrom, step-is}
+use Rattle.chains.specs.FieldLaws.{index-by, method-by}
 use Rattle.chains.specs.Steps.{stepWith}
-use mathlib.Core.Path.{ap, sym}
 use Rattle.lowering.specs.Flatten.{stepRule}
-use Rattle.chains.specs.declared.Rule.the-variants.{Index, Property, Method, Nothing}
-use Rattle.chains.specs.Rule.{ruleFrom, rule-back}
 use borrow.Author.Needs.{needs}
 use Rattle.chains.proofs.step_of.Statement.{statement}
 use Rattle.chains.proofs.step_of.Tie as tie
-use Rattle.chains.proofs.step_of.Reads as reads
-use Rattle.chains.proofs.step_of.Lts as lts
-use Rattle.chains.proofs.operand_of.Reads as operand-of-reads
-use Rattle.chains.proofs.step_rule.Reads as step-rule-reads
-use Rattle.sheet.proofs.count.Reads as count-reads
-use Rattle.sheet.proofs.field_a.Reads as field-a-reads
-use Rattle.sheet.proofs.position.Reads as position-reads
-use Rattle.sheet.proofs.start_of.Reads as start-of-reads
 
 step-rule-requires : tie.Need-step-rule-requires
 step-rule-requires c κs = search needs
@@ -22,8 +17,8 @@ step-rule-requires c κs = search needs
 operand-of-requires : tie.Need-operand-of-requires
 operand-of-requires c κs = search needs
 
-field-a-requires : tie.Need-field-a-requires
-field-a-requires c κs = search needs
+negated-requires : tie.Need-negated-requires
+negated-requires c κs = search needs
 
 enum-told : tie.Need-enum-told
 enum-told c = search needs
@@ -53,20 +48,54 @@ enum-told-4 : tie.Need-enum-told-4
 enum-told-4 c = search needs
 
 returns : tie.Need-returns
-unfolding ruleFrom stepWith
-returns c = cc (ap (λ r. stepWith r (c .before .before .before .before .before .before .before .before .args .s .now) (c .before .before .before .before .before .before .before .before .args .c) (c .before .before .before .before .before .before .before .before .args .n) (c .before .before .before .before .before .before .before .before .args .name) (c .before .before .before .before .before .before .before .before .args .getter) (c .before .before .before .before .before .before .before .before .args .setter)) (rule-back (stepRule (c .before .before .before .before .before .before .before .before .args .s .now) (c .before .before .before .before .before .before .before .before .args .c)) (c .before .before .before .before .before .before .step-rule .result) Index (c .before .before .before .before .before .before .step-rule .ensures) (c .before .before .enum-told .given .1)))
+unfolding stepRuleFrom stepWith
+returns c =
+    let a = c .before .before .before .before .before .before .before .before .args in
+    let s = a .s .now in
+    let step-rule-is = c .before .before .before .before .before .before .step-rule .ensures in
+    let operand-of-is = c .before .before .before .before .before .operand-of .ensures in
+    let negated-is = c .before .before .before .before .negated .ensures in
+    let told = c .before .before .enum-told .given .1 in
+    let start-of-is = c .before .start-of .ensures in
+    let position-is = c .position .ensures in
+    index-by (a .n) negated-is (start-of-is ∙ ap (startOf s) operand-of-is) position-is
+    ∙ ap (λ r. stepWith r s (a .c) (a .n) (a .name) (a .getter) (a .setter)) (step-is (stepRule s (a .c)) _ (sym step-rule-is ∙ told))
 
 returns-2 : tie.Need-returns-2
-unfolding ruleFrom stepWith
-returns-2 c = cc (ap (λ r. stepWith r (c .before .before .before .before .before .before .before .args .s .now) (c .before .before .before .before .before .before .before .args .c) (c .before .before .before .before .before .before .before .args .n) (c .before .before .before .before .before .before .before .args .name) (c .before .before .before .before .before .before .before .args .getter) (c .before .before .before .before .before .before .before .args .setter)) (rule-back (stepRule (c .before .before .before .before .before .before .before .args .s .now) (c .before .before .before .before .before .before .before .args .c)) (c .before .before .before .before .before .step-rule .result) Property (c .before .before .before .before .before .step-rule .ensures) (c .before .enum-told2 .given .1)))
+unfolding stepRuleFrom stepWith
+returns-2 c =
+    let a = c .before .before .before .before .before .before .before .args in
+    let s = a .s .now in
+    let step-rule-is = c .before .before .before .before .before .step-rule .ensures in
+    let operand-of-is = c .before .before .before .before .operand-of .ensures in
+    let negated-is = c .before .before .before .negated .ensures in
+    let told = c .before .enum-told2 .given .1 in
+    let position2-is = c .position2 .ensures in
+    ap₂ (Property (a .name) (a .getter) (a .setter)) negated-is (position2-is ∙ ap (position s) operand-of-is)
+    ∙ ap (λ r. stepWith r s (a .c) (a .n) (a .name) (a .getter) (a .setter)) (step-is (stepRule s (a .c)) _ (sym step-rule-is ∙ told))
 
 returns-3 : tie.Need-returns-3
-unfolding ruleFrom stepWith
-returns-3 c = cc (ap (λ r. stepWith r (c .before .before .before .before .before .before .before .before .args .s .now) (c .before .before .before .before .before .before .before .before .args .c) (c .before .before .before .before .before .before .before .before .args .n) (c .before .before .before .before .before .before .before .before .args .name) (c .before .before .before .before .before .before .before .before .args .getter) (c .before .before .before .before .before .before .before .before .args .setter)) (rule-back (stepRule (c .before .before .before .before .before .before .before .before .args .s .now) (c .before .before .before .before .before .before .before .before .args .c)) (c .before .before .before .before .before .before .step-rule .result) Method (c .before .before .before .before .before .before .step-rule .ensures) (c .before .before .enum-told3 .given .1)))
+unfolding stepRuleFrom stepWith
+returns-3 c =
+    let a = c .before .before .before .before .before .before .before .before .args in
+    let s = a .s .now in
+    let step-rule-is = c .before .before .before .before .before .before .step-rule .ensures in
+    let operand-of-is = c .before .before .before .before .before .operand-of .ensures in
+    let negated-is = c .before .before .before .before .negated .ensures in
+    let told = c .before .before .enum-told3 .given .1 in
+    let count-is = c .before .count .ensures in
+    let position3-is = c .position3 .ensures in
+    method-by (a .name) (a .n) (count-is ∙ ap (count s) operand-of-is) negated-is (position3-is ∙ ap (position s) operand-of-is)
+    ∙ ap (λ r. stepWith r s (a .c) (a .n) (a .name) (a .getter) (a .setter)) (step-is (stepRule s (a .c)) _ (sym step-rule-is ∙ told))
 
 returns-4 : tie.Need-returns-4
-unfolding ruleFrom stepWith
-returns-4 c = cc (ap (λ r. stepWith r (c .before .before .before .before .before .before .args .s .now) (c .before .before .before .before .before .before .args .c) (c .before .before .before .before .before .before .args .n) (c .before .before .before .before .before .before .args .name) (c .before .before .before .before .before .before .args .getter) (c .before .before .before .before .before .before .args .setter)) (rule-back (stepRule (c .before .before .before .before .before .before .args .s .now) (c .before .before .before .before .before .before .args .c)) (c .before .before .before .before .step-rule .result) Nothing (c .before .before .before .before .step-rule .ensures) (c .enum-told4 .given .1)))
+unfolding stepRuleFrom stepWith
+returns-4 c =
+    let a = c .before .before .before .before .before .before .args in
+    let s = a .s .now in
+    let step-rule-is = c .before .before .before .before .step-rule .ensures in
+    let told = c .enum-told4 .given .1 in
+    ap (λ r. stepWith r s (a .c) (a .n) (a .name) (a .getter) (a .setter)) (step-is (stepRule s (a .c)) _ (sym step-rule-is ∙ told))
 
 pub step-of-spec : {M : Type 1} → statement M
 step-of-spec =
@@ -74,7 +103,7 @@ step-of-spec =
     (tie.spec
     step-rule-requires
     operand-of-requires
-    field-a-requires
+    negated-requires
     enum-told
     start-of-requires
     position-requires

@@ -4,8 +4,6 @@ use Rattle.bytecode.specs.Chain.{stepWords}
 use borrow.Author.Needs.{needs}
 use Rattle.chains.proofs.step_words.Statement.{statement}
 use Rattle.chains.proofs.step_words.Tie as tie
-use Rattle.chains.proofs.step_words.Reads as reads
-use Rattle.chains.proofs.step_words.Lts as lts
 
 enum-known-x : tie.Need-enum-known-x
 enum-known-x c = search needs

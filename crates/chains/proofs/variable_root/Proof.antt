@@ -4,8 +4,6 @@ use Rattle.chains.specs.Variable.{variableBy}
 use borrow.Author.Needs.{needs}
 use Rattle.chains.proofs.variable_root.Statement.{statement}
 use Rattle.chains.proofs.variable_root.Tie as tie
-use Rattle.chains.proofs.variable_root.Reads as reads
-use Rattle.chains.proofs.variable_root.Lts as lts
 
 enum-known-found : tie.Need-enum-known-found
 enum-known-found c = search needs

@@ -1,18 +1,14 @@
 -- `chains::width` meets its contract: each arm is the definition's, by the rule that the code answers.
+use mathlib.Core.Path.{ap, sym, _∙_}
+use Prim.Native.Nat.{min}
+use Rattle.sheet.specs.Node.{count}
+use Rattle.lowering.specs.Limits.{maxArgs}
+use Rattle.rules.specs.Inverse.{stepRuleFrom, step-is}
 use Rattle.chains.specs.Steps.{widthBy, stepWidth}
-use mathlib.Core.Path.{ap, sym}
 use Rattle.lowering.specs.Flatten.{stepRule}
-use Rattle.chains.specs.declared.Rule.the-variants.{Index, Property, Method, Nothing}
-use Rattle.chains.specs.Rule.{ruleFrom, rule-back}
 use borrow.Author.Needs.{needs}
 use Rattle.chains.proofs.width.Statement.{statement}
 use Rattle.chains.proofs.width.Tie as tie
-use Rattle.chains.proofs.width.Reads as reads
-use Rattle.chains.proofs.width.Lts as lts
-use Rattle.chains.proofs.few.Reads as few-reads
-use Rattle.chains.proofs.operand_of.Reads as operand-of-reads
-use Rattle.chains.proofs.step_rule.Reads as step-rule-reads
-use Rattle.sheet.proofs.count.Reads as count-reads
 
 step-rule-requires : tie.Need-step-rule-requires
 step-rule-requires c κs = search needs
@@ -39,20 +35,39 @@ enum-told-4 : tie.Need-enum-told-4
 enum-told-4 c = search needs
 
 returns : tie.Need-returns
-unfolding ruleFrom stepWidth widthBy
-returns c = sym (ap (λ r. widthBy r (c .before .before .before .before .args .s .now) (c .before .before .before .before .args .c)) (rule-back (stepRule (c .before .before .before .before .args .s .now) (c .before .before .before .before .args .c)) (c .before .before .step-rule .result) Index (c .before .before .step-rule .ensures) (c .enum-told .given .1)))
+unfolding stepRuleFrom stepWidth widthBy
+returns c =
+    let a = c .before .before .before .before .args in
+    let s = a .s .now in
+    ap (λ r. widthBy r s (a .c)) (step-is (stepRule s (a .c)) _ (sym (c .before .before .step-rule .ensures) ∙ c .enum-told .given .1))
 
 returns-2 : tie.Need-returns-2
-unfolding ruleFrom stepWidth widthBy
-returns-2 c = sym (ap (λ r. widthBy r (c .before .before .before .before .args .s .now) (c .before .before .before .before .args .c)) (rule-back (stepRule (c .before .before .before .before .args .s .now) (c .before .before .before .before .args .c)) (c .before .before .step-rule .result) Property (c .before .before .step-rule .ensures) (c .enum-told2 .given .1)))
+unfolding stepRuleFrom stepWidth widthBy
+returns-2 c =
+    let a = c .before .before .before .before .args in
+    let s = a .s .now in
+    ap (λ r. widthBy r s (a .c)) (step-is (stepRule s (a .c)) _ (sym (c .before .before .step-rule .ensures) ∙ c .enum-told2 .given .1))
 
 returns-3 : tie.Need-returns-3
-unfolding ruleFrom stepWidth widthBy
-returns-3 c = cc (ap (λ r. widthBy r (c .before .before .before .before .before .before .before .args .s .now) (c .before .before .before .before .before .before .before .args .c)) (rule-back (stepRule (c .before .before .before .before .before .before .before .args .s .now) (c .before .before .before .before .before .before .before .args .c)) (c .before .before .before .before .before .step-rule .result) Method (c .before .before .before .before .before .step-rule .ensures) (c .before .before .before .enum-told3 .given .1)))
+unfolding stepRuleFrom stepWidth widthBy
+returns-3 c =
+    let a = c .before .before .before .before .before .before .before .args in
+    let s = a .s .now in
+    let step-rule-is = c .before .before .before .before .before .step-rule .ensures in
+    let told = c .before .before .before .enum-told3 .given .1 in
+    let operand-of-is = c .before .before .operand-of .ensures in
+    let count-is = c .before .count .ensures in
+    let few-is = c .few .ensures in
+    few-is
+    ∙ ap (λ n. min n maxArgs) (count-is ∙ ap (count s) operand-of-is)
+    ∙ ap (λ r. widthBy r s (a .c)) (step-is (stepRule s (a .c)) _ (sym step-rule-is ∙ told))
 
 returns-4 : tie.Need-returns-4
-unfolding ruleFrom stepWidth widthBy
-returns-4 c = sym (ap (λ r. widthBy r (c .before .before .before .before .args .s .now) (c .before .before .before .before .args .c)) (rule-back (stepRule (c .before .before .before .before .args .s .now) (c .before .before .before .before .args .c)) (c .before .before .step-rule .result) Nothing (c .before .before .step-rule .ensures) (c .enum-told4 .given .1)))
+unfolding stepRuleFrom stepWidth widthBy
+returns-4 c =
+    let a = c .before .before .before .before .args in
+    let s = a .s .now in
+    ap (λ r. widthBy r s (a .c)) (step-is (stepRule s (a .c)) _ (sym (c .before .before .step-rule .ensures) ∙ c .enum-told4 .given .1))
 
 pub width-spec : {M : Type 1} → statement M
 width-spec =

@@ -1,0 +1,56 @@
+-- With a token, or with the capture mark.
+use Rattle.compile.specs.CallDoes.{call-end-token, call-end-plain}
+use borrow.Author.Needs.{needs}
+use Rattle.compile.proofs.calls.call_end.Statement.{statement}
+use Rattle.compile.proofs.calls.call_end.Tie as tie
+use Rattle.compile.proofs.calls.call_end.Reads as reads
+use Rattle.compile.proofs.calls.call_end.Lts as lts
+use Rattle.compile.proofs.calls.call_as.Reads as call-as-reads
+use Rattle.compile.proofs.calls.call_token.Reads as call-token-reads
+use Rattle.rules.proofs.calls.stores_token.Reads as stores-token-reads
+use Rattle.sheet.proofs.field_b.Reads as field-b-reads
+
+-- src/calls.rt:196:8
+stores-token-requires : tie.Need-stores-token-requires
+stores-token-requires c κs = search needs
+
+-- src/calls.rt:197:9
+call-token-requires : tie.Need-call-token-requires
+call-token-requires c κs = search needs
+
+-- src/calls.rt:197:9
+same-length : tie.Need-same-length
+same-length c = search needs
+
+-- src/calls.rt:197:9
+returns : tie.Need-returns
+returns c = λ f. call-end-token _ (cc) (c .before .before .call-token .ensures (f .tokened (cc)) (f .few) (f .valid))
+
+-- src/calls.rt:199:32
+field-b-requires : tie.Need-field-b-requires
+field-b-requires c κs = search needs
+
+-- src/calls.rt:199:5
+call-as-requires : tie.Need-call-as-requires
+call-as-requires c κs = search needs
+
+-- src/calls.rt:193:1
+same-length-2 : tie.Need-same-length-2
+same-length-2 c = search needs
+
+-- src/calls.rt:193:1
+returns-2 : tie.Need-returns-2
+returns-2 c = λ f. call-end-plain _ _ (cc) (cc) (c .before .before .call-as .ensures (rw (c .before .before .before .field-b .ensures) (f .marked (cc))) (f .few) (rw (c .before .before .before .field-b .ensures) (f .capture)) (f .valid))
+
+pub call-end-spec : {M : Type 1} → statement M
+call-end-spec =
+    tie.close
+    (tie.spec
+    stores-token-requires
+    call-token-requires
+    same-length
+    returns
+    field-b-requires
+    call-as-requires
+    same-length-2
+    returns-2)

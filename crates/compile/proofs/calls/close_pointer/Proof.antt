@@ -1,0 +1,52 @@
+-- CallFnPtr.
+use Rattle.compile.specs.CallDoes.{close-pointer-does}
+use borrow.Author.Needs.{needs}
+use Rattle.compile.proofs.calls.close_pointer.Statement.{statement}
+use Rattle.compile.proofs.calls.close_pointer.Tie as tie
+use Rattle.compile.proofs.calls.close_pointer.Reads as reads
+use Rattle.compile.proofs.calls.close_pointer.Lts as lts
+use Rattle.counting.proofs.plans.one_less.Reads as one-less-reads
+use Rattle.sheet.proofs.count.Reads as count-reads
+use Rattle.sheet.proofs.field_b.Reads as field-b-reads
+use Rattle.sheet.proofs.position.Reads as position-reads
+use Rattle.store.proofs.emit.Reads as emit-reads
+
+-- src/calls.rt:207:24
+count-requires : tie.Need-count-requires
+count-requires c κs = search needs
+
+-- src/calls.rt:207:15
+one-less-requires : tie.Need-one-less-requires
+one-less-requires c κs = search needs
+
+-- src/calls.rt:208:18
+field-b-requires : tie.Need-field-b-requires
+field-b-requires c κs = search needs
+
+-- src/calls.rt:210:24
+position-requires : tie.Need-position-requires
+position-requires c κs = search needs
+
+-- src/calls.rt:210:5
+emit-requires : tie.Need-emit-requires
+emit-requires c κs = search needs
+
+-- src/calls.rt:203:1
+same-length : tie.Need-same-length
+same-length c = search needs
+
+-- src/calls.rt:203:1
+returns : tie.Need-returns
+returns c = close-pointer-does _ _ _ _ (cc) (cc) (cc) (c .before .before .emit .ensures _ tt)
+
+pub close-pointer-spec : {M : Type 1} → statement M
+close-pointer-spec =
+    tie.close
+    (tie.spec
+    count-requires
+    one-less-requires
+    field-b-requires
+    position-requires
+    emit-requires
+    same-length
+    returns)

@@ -1,0 +1,132 @@
+-- One law for each way.
+use native.Mathlib.Omega.{arith}
+use Rattle.compile.specs.CallDoes.{open-make, open-pointer, open-local, open-named, open-this, open-value, open-eval, open-kept}
+use borrow.Author.Needs.{needs}
+use Rattle.compile.proofs.calls.open.Statement.{statement}
+use Rattle.compile.proofs.calls.open.Tie as tie
+use Rattle.compile.proofs.calls.open.Reads as reads
+use Rattle.compile.proofs.calls.open.Lts as lts
+use Rattle.sheet.proofs.child.Reads as child-reads
+use Rattle.sheet.proofs.position.Reads as position-reads
+use Rattle.store.proofs.add_name.Reads as add-name-reads
+use Rattle.store.proofs.emit.Reads as emit-reads
+
+-- src/calls.rt:117:23
+enum-told : tie.Need-enum-told
+enum-told c = search needs
+
+-- src/calls.rt:118:27
+enum-told-2 : tie.Need-enum-told-2
+enum-told-2 c = search needs
+
+-- src/calls.rt:119:26
+enum-told-3 : tie.Need-enum-told-3
+enum-told-3 c = search needs
+
+-- src/calls.rt:120:38
+enum-told-4 : tie.Need-enum-told-4
+enum-told-4 c = search needs
+
+-- src/calls.rt:120:45
+child-requires : tie.Need-child-requires
+child-requires c κs = search needs
+
+-- src/calls.rt:120:23
+add-name-requires : tie.Need-add-name-requires
+add-name-requires c κs = search needs
+
+-- src/calls.rt:122:25
+enum-told-5 : tie.Need-enum-told-5
+enum-told-5 c = search needs
+
+-- src/calls.rt:122:58
+child-requires-2 : tie.Need-child-requires-2
+child-requires-2 c κs = search needs
+
+-- src/calls.rt:122:46
+position-requires : tie.Need-position-requires
+position-requires c κs = search needs
+
+-- src/calls.rt:122:17
+emit-requires : tie.Need-emit-requires
+emit-requires c κs = search needs
+
+-- src/calls.rt:125:23
+enum-told-6 : tie.Need-enum-told-6
+enum-told-6 c = search needs
+
+-- src/calls.rt:126:22
+enum-told-7 : tie.Need-enum-told-7
+enum-told-7 c = search needs
+
+-- src/calls.rt:127:22
+enum-told-8 : tie.Need-enum-told-8
+enum-told-8 c = search needs
+
+-- src/calls.rt:112:1
+returns : tie.Need-returns
+returns c = open-make _ _ (cc)
+
+-- src/calls.rt:112:1
+returns-2 : tie.Need-returns-2
+returns-2 c = open-pointer _ _ (cc)
+
+-- src/calls.rt:112:1
+returns-3 : tie.Need-returns-3
+returns-3 c = open-local _ _ _ (c .enum-told3 .given .1)
+
+-- src/calls.rt:112:1
+same-length : tie.Need-same-length
+same-length c = search needs
+
+-- src/calls.rt:112:1
+returns-4 : tie.Need-returns-4
+returns-4 c = open-named _ _ _ _ (cc) (cc) (c .before .before .add-name .ensures .0 (omega arith)) (λ a u h. c .before .before .add-name .ensures .1 a (omega arith) u h)
+
+-- src/calls.rt:112:1
+same-length-2 : tie.Need-same-length-2
+same-length-2 c = search needs
+
+-- src/calls.rt:112:1
+returns-5 : tie.Need-returns-5
+returns-5 c = open-this _ _ _ (cc) (cc) (c .before .before .emit .ensures _ tt)
+
+-- src/calls.rt:112:1
+returns-6 : tie.Need-returns-6
+returns-6 c = open-value _ _ (cc)
+
+-- src/calls.rt:112:1
+returns-7 : tie.Need-returns-7
+returns-7 c = open-eval _ _ (cc)
+
+-- src/calls.rt:112:1
+returns-8 : tie.Need-returns-8
+returns-8 c = open-kept _ _ (cc)
+
+pub open-spec : {M : Type 1} → statement M
+open-spec =
+    tie.close
+    (tie.spec
+    enum-told
+    enum-told-2
+    enum-told-3
+    enum-told-4
+    child-requires
+    add-name-requires
+    enum-told-5
+    child-requires-2
+    position-requires
+    emit-requires
+    enum-told-6
+    enum-told-7
+    enum-told-8
+    returns
+    returns-2
+    returns-3
+    same-length
+    returns-4
+    same-length-2
+    returns-5
+    returns-6
+    returns-7
+    returns-8)

@@ -1,0 +1,28 @@
+-- Nothing, or Rotate.
+use native.Mathlib.Omega.{arith}
+use Rattle.compile.specs.CallDoes.{rotate-none, rotate-some}
+use borrow.Author.Needs.{needs}
+use Rattle.compile.proofs.calls.rotate.Statement.{statement}
+use Rattle.compile.proofs.calls.rotate.Tie as tie
+use Rattle.compile.proofs.calls.rotate.Reads as reads
+use Rattle.compile.proofs.calls.rotate.Lts as lts
+use Rattle.store.proofs.emit.Reads as emit-reads
+
+-- src/calls.rt:149:9
+returns : tie.Need-returns
+returns c = λ s. rotate-none _ (cc)
+
+-- src/calls.rt:151:5
+emit-requires : tie.Need-emit-requires
+emit-requires c κs = search needs
+
+-- src/calls.rt:145:1
+same-length : tie.Need-same-length
+same-length c = search needs
+
+-- src/calls.rt:145:1
+returns-2 : tie.Need-returns-2
+returns-2 c = λ s. rotate-some _ (omega arith) (c .before .before .emit .ensures s tt)
+
+pub rotate-spec : {M : Type 1} → statement M
+rotate-spec = tie.close (tie.spec returns emit-requires same-length returns-2)

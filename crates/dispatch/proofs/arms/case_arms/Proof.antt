@@ -1,0 +1,103 @@
+-- `dispatch::arms::case_arms` meets its contract. The invariant: what is left of the chains.
+use Rattle.dispatch.specs.ListDoes.{ArmsLeft, arms-begin, arms-on, arms-end, arms-whole, drop-same}
+use Rattle.dispatch.specs.CapLaws.{cap-same, map-lt, map-le, map-at}
+use Rattle.dispatch.specs.Ready.{Ready, NamedAll}
+use Rattle.tables.specs.Heads.{caseKey, keys}
+use lib.ListN.{length, take}
+use mathlib.Core.List.{[], map}
+use mathlib.Core.Path.{_≡_, refl, ap, _∙_}
+use Prim.Native.Nat.{_≤_, _-_}
+use native.Mathlib.Omega.{arith}
+use borrow.Author.Needs.{needs}
+use Rattle.dispatch.proofs.arms.case_arms.Statement.{statement}
+use Rattle.dispatch.proofs.arms.case_arms.Tie as tie
+
+abbrev Inv-loop : tie.InvT-loop
+Inv-loop s l x₀ t falls n last a q₀ i₀ x q i =
+    (i ≤ n) × (length x ≡ length x₀) × (Ready s → NamedAll s (keys (caseKey s) (take n a)) → ArmsLeft s l x₀ q₀ t (t .fallback) falls (keys (caseKey
+    s) (take n a)) x q i)
+
+abbrev μ-loop : tie.MeasureT-loop
+μ-loop s l x₀ t falls n last a q₀ i₀ x q i = n - i
+
+capped-requires : tie.Need-capped-requires Inv-loop μ-loop
+capped-requires c κs = search needs
+
+last-case-requires : tie.Need-last-case-requires Inv-loop μ-loop
+last-case-requires c κs = search needs
+
+loop-holds : tie.Need-loop-holds Inv-loop μ-loop
+loop-holds c = (omega arith, refl, λ C N. arms-begin _ _ _ _)
+
+mul-case-blocks : tie.Need-mul-case-blocks Inv-loop μ-loop
+mul-case-blocks c = omega arith
+
+array-read-case-blocks : tie.Need-array-read-case-blocks Inv-loop μ-loop
+array-read-case-blocks c = omega arith
+
+case-blocks-requires : tie.Need-case-blocks-requires Inv-loop μ-loop
+case-blocks-requires c κs = search needs
+
+add-arm : tie.Need-add-arm Inv-loop μ-loop
+add-arm c = omega arith
+
+arm-requires : tie.Need-arm-requires Inv-loop μ-loop
+arm-requires c κs = search needs
+
+add-i : tie.Need-add-i Inv-loop μ-loop
+add-i c = omega arith
+
+loop-less : tie.Need-loop-less Inv-loop μ-loop
+loop-less c = omega arith
+
+loop-again : tie.Need-loop-again Inv-loop μ-loop
+loop-again c =
+    let n = c .before .before .before .before .before .before .before .before .before .capped in
+    let w = c .before .before .before .before .before .before .loop in
+    let lt = c .before .before .before .before .before .loop-test .taken in
+    let a = c .before .before .before .before .before .before .before .before .before .before .before .before .args in
+    let long : length (a .h .at) ≡ 64 = search (
+      needs,
+      c .before .before .before .before .before .before .before .before .before .before .before .before .good .1 .1 .1 .1 .1 .0,
+    ) in (
+      omega arith,
+      c .before .before .arm .kept .1 .1 .0 ∙ w .inv .1,
+      λ C N. arms-on (w .inv .2 C N) (map-lt (a .h .at) (n .result) (a .h .n) 64 long
+          (n .ensures) (caseKey (a .s .now)) _ lt) (c .before .before .before .before .case-blocks .ensures .items ∙ map-at (a .h .at) (n .result)
+          (a .h .n) 64 long (n .ensures) (caseKey (a .s .now)) (w .i) 0 [] lt) (drop-same (a .s .now) (keys (caseKey (a .s .now)) (take (n .result)
+          (a .h .at))) (keys (caseKey (a .s .now)) (take (a .h .n) (a .h .at))) (ap (map (caseKey (a .s .now))) (cap-same (a .h .at) (n .result) (a .h .n)
+          64 long (n .ensures))) (w .i) _ (a .falls) (c .before .before .before .before .before .before .before .before .last-case .ensures)) C N
+          (c .before .before .arm .ensures),
+    )
+
+same-length : tie.Need-same-length Inv-loop μ-loop
+same-length c = search needs
+
+returns : tie.Need-returns Inv-loop μ-loop
+returns c =
+    let n = c .before .before .before .before .capped in
+    let a = c .before .before .before .before .before .before .before .args in
+    let long : length (a .h .at) ≡ 64 = search (needs, c .before .before .before .before .before .before .before .good .1 .1 .1 .1 .1 .0) in
+    λ C. arms-whole (a .t) (a .t .fallback) (a .falls) (ap (map (caseKey (a .s .now))) (cap-same (a .h .at) (n .result) (a .h .n) 64 long
+    (n .ensures))) (λ N. arms-end (c .before .loop .inv .2 C N) (map-le (a .h .at) (n .result) (a .h .n) 64 long (n .ensures) (caseKey (a .s .now))
+    _ (omega arith)))
+
+pub case-arms-spec : {M : Type 1} → statement M
+case-arms-spec =
+    tie.close
+    (tie.spec
+    Inv-loop
+    μ-loop
+    capped-requires
+    last-case-requires
+    loop-holds
+    mul-case-blocks
+    array-read-case-blocks
+    case-blocks-requires
+    add-arm
+    arm-requires
+    add-i
+    loop-less
+    loop-again
+    same-length
+    returns)

@@ -1,0 +1,23 @@
+-- `dispatch::jumps::jump` meets its contract: a jump or its count alone.
+use Rattle.dispatch.specs.PartLaws.{dropped-does, jump-does}
+use borrow.Author.Needs.{needs}
+use Rattle.dispatch.proofs.jumps.jump.Statement.{statement}
+use Rattle.dispatch.proofs.jumps.jump.Tie as tie
+
+dropped-requires : tie.Need-dropped-requires
+dropped-requires c κs = search needs
+
+returns : tie.Need-returns
+returns c = λ s. dropped-does _ _ (c .before .if1 .taken) (c .dropped .ensures)
+
+emit-requires : tie.Need-emit-requires
+emit-requires c κs = search needs
+
+same-length : tie.Need-same-length
+same-length c = search needs
+
+returns-2 : tie.Need-returns-2
+returns-2 c = λ s. jump-does _ _ (c .before .before .before .before .if1 .left) (c .before .before .emit .ensures s tt)
+
+pub jump-spec : {M : Type 1} → statement M
+jump-spec = tie.close (tie.spec dropped-requires returns emit-requires same-length returns-2)

@@ -1,0 +1,10 @@
+pub mod Ready
+pub mod Parts
+pub mod PartLaws
+pub mod CapLaws
+pub mod ArmDoes
+pub mod From
+pub mod BodyDoes
+pub mod ListDoes
+pub mod CaseDoes
+pub mod SwitchDoes

@@ -1,0 +1,254 @@
+-- What is held of the front of an image: each part of the scratch that is read lies within it, and gives its section.
+use Prim.Native.Nat.{ℕ, _+_, _*_, _≤_, _<_, min}
+use mathlib.Core.Path.{_≡_, sym, ap, _∙_, subst}
+use mathlib.Core.List.{List, [], _∷_, _++_, map}
+use native.Mathlib.Omega.{arith}
+use lib.ListN.{length, length-append, length-map}
+use Rattle.sheet.specs.Node.{fieldC}
+use Rattle.bytecode.specs.Chain.{chainWords}
+use Rattle.lowering.specs.Limits.{maxStackCap}
+use Rattle.lowering.specs.Code.{codeWords, positions}
+use Rattle.lowering.specs.Pools.{constOf, stepsWords}
+use Rattle.lowering.specs.Image.{section, constWords, nameWords, maxStack}
+use Rattle.chains.specs.Steps.{chainsFrom, stepsFrom}
+use Rattle.chains.specs.Kept.{stepCount}
+use Rattle.chains.specs.KeptLaws.{chains-length, all-steps-length}
+use Rattle.chains.specs.WordsLaws.{steps-six}
+use Rattle.keys.specs.Keys.{nameOf}
+use Rattle.emission.specs.Made.{Made}
+use Rattle.store.specs.declared.Layout.{Layout}
+use Rattle.store.specs.declared.State.{State}
+use Rattle.store.specs.Places.{positionsAt, residualsAt, constsAt, tokensAt, chainsAt, namesAt, region}
+use Rattle.store.specs.RegionLaws.{region-length}
+use Rattle.store.specs.Holds.{Holds}
+use Rattle.store.specs.AddLaws.{keys-few}
+use Rattle.sections.specs.ChainRows.{steps-most}
+use Rattle.image.specs.Front.{frontSizes, front}
+use Rattle.image.specs.Puts.{Puts, puts-as}
+use Rattle.image.specs.RowLengths.{consts-length, names-length, chain-words-length}
+
+module _ {s : List ℕ} {l : Layout} {xs : List ℕ} {st : State} {a : Made} (h : Holds s l xs st a) where
+  pub code-fits : 0 + 4 * st .code ≤ length xs
+  code-fits = omega (arith, h .fit .space, h .counts .standing, h .counts .within)
+
+  pub positions-fit : positionsAt l + st .code ≤ length xs
+  positions-fit = omega (arith, h .fit .space, h .counts .standing, h .counts .within)
+
+  pub residuals-fit : residualsAt l + st .residuals ≤ length xs
+  residuals-fit = omega (arith, h .fit .space, h .counts .kept, h .counts .within)
+
+  pub consts-fit : constsAt l + st .consts ≤ length xs
+  consts-fit = omega (arith, h .fit .space, keys-few (h .pooled .const-keys))
+
+  pub tokens-fit : tokensAt l + st .tokens ≤ length xs
+  tokens-fit = omega (arith, h .fit .space, keys-few (h .pooled .token-keys))
+
+  pub chains-fit : chainsAt l + st .chains ≤ length xs
+  chains-fit = omega (arith, h .fit .space, keys-few (h .pooled .chain-keys))
+
+  pub names-fit : namesAt l + st .names ≤ length xs
+  names-fit = omega (arith, h .fit .space, keys-few (h .pooled .name-keys))
+
+  -- counts
+  consts-count : length (a .pools .consts) ≡ st .consts
+  consts-count =
+      ap length (h .pooled .consts) ∙ length-map (region (constsAt l) (st .consts) xs) (constOf s) ∙ h .pooled .const-keys .count
+
+  tokens-count : length (a .pools .tokens) ≡ st .tokens
+  tokens-count =
+      ap length (h .pooled .tokens) ∙ length-map (region (tokensAt l) (st .tokens) xs) (fieldC s) ∙ h .pooled .token-keys .count
+
+  names-count : length (a .pools .names) ≡ st .names
+  names-count =
+      ap length (h .pooled .names) ∙ length-map (region (namesAt l) (st .names) xs) (nameOf s) ∙ h .pooled .name-keys .count
+
+  chains-count : length (a .pools .chains) ≡ st .chains
+  chains-count =
+      ap length (h .pooled .chains .chains)
+      ∙ chains-length s (a .pools .names) 0 (region (chainsAt l) (st .chains) xs)
+      ∙ h .pooled .chain-keys .count
+
+  steps-count : length (a .pools .steps) ≡ stepCount s (region (chainsAt l) (st .chains) xs)
+  steps-count = ap length (h .pooled .chains .steps) ∙ all-steps-length s (a .pools .names) (region (chainsAt l) (st .chains) xs)
+
+  pub steps-few : stepCount s (region (chainsAt l) (st .chains) xs) < 4294967296
+  steps-few =
+      omega (
+        arith,
+        steps-most s (region (chainsAt l) (st .chains) xs),
+        h .pooled .chain-keys .count,
+        keys-few (h .pooled .chain-keys),
+        h .fit .small,
+      )
+
+  -- sections
+  pub consts-held : section constWords (map (constOf s) (region (constsAt l) (st .consts) xs)) ≡ section constWords (a .pools .consts)
+  consts-held = ap (section constWords) (sym (h .pooled .consts))
+
+  pub names-held : section nameWords (map (nameOf s) (region (namesAt l) (st .names) xs)) ≡ section nameWords (a .pools .names)
+  names-held = ap (section nameWords) (sym (h .pooled .names))
+
+  pub chains-held :
+      section chainWords (chainsFrom s (map (nameOf s) (region (namesAt l) (st .names) xs)) 0 (region (chainsAt l) (st .chains) xs))
+      ≡ section chainWords (a .pools .chains)
+  chains-held = rw (sym (h .pooled .names)) (ap (section chainWords) (sym (h .pooled .chains .chains)))
+
+  pub steps-held :
+      stepsWords (stepsFrom s (map (nameOf s) (region (namesAt l) (st .names) xs)) (region (chainsAt l) (st .chains) xs))
+      ≡ stepsWords (a .pools .steps)
+  steps-held = rw (sym (h .pooled .names)) (ap stepsWords (sym (h .pooled .chains .steps)))
+
+  -- the sizes
+  pub sizes-held :
+      (n k sw ca ra : ℕ) → n ≡ stepCount s (region (chainsAt l) (st .chains) xs) → k ≡ min (st .emitted) maxStackCap
+      → (st .code
+      ∷ st .consts
+      ∷ st .names
+      ∷ st .tokens
+      ∷ st .residuals
+      ∷ st .chains
+      ∷ n
+      ∷ sw
+      ∷ ca
+      ∷ ra
+      ∷ k
+      ∷ st .deepest
+      ∷ [])
+      ≡ frontSizes a sw ca ra
+  unfolding frontSizes maxStack
+  sizes-held n k sw ca ra e m =
+      rw (
+        m,
+        consts-count,
+        names-count,
+        tokens-count,
+        chains-count,
+        steps-count,
+        ← e,
+        h .counts .code,
+        h .counts .residuals,
+        h .counts .emitted,
+        h .counts .deepest,
+      )
+
+  -- how many words
+  words-length : length (codeWords (a .code)) ≡ 4 * st .code
+  words-length = ap length (sym (h .emitted .code)) ∙ region-length 0 (4 * st .code) xs code-fits
+
+  positions-length : length (positions (a .code)) ≡ st .code
+  positions-length = ap length (sym (h .emitted .positions)) ∙ region-length (positionsAt l) (st .code) xs positions-fit
+
+  pub front-length :
+      (n sw ca ra : ℕ) → n ≡ stepCount s (region (chainsAt l) (st .chains) xs)
+      → 12 + 5 * st .code + (3 * st .consts + 2 * st .names + st .tokens) + st .residuals + (6 * st .chains + 6 * n) ≡ length (front a sw ca ra)
+  unfolding front frontSizes
+  front-length n sw ca ra e =
+      let p = a .pools in
+      let cs = section constWords (p .consts) in
+      let ns = section nameWords (p .names) in
+      let hs = section chainWords (p .chains) in
+      let ss = stepsWords (p .steps) in
+      let f₁ = frontSizes a sw ca ra ++ codeWords (a .code) in
+      let f₂ = f₁ ++ positions (a .code) in
+      let f₃ = f₂ ++ cs ++ ns in
+      omega (
+        arith,
+        e,
+        length-append (frontSizes a sw ca ra) (codeWords (a .code)),
+        length-append f₁ (positions (a .code)),
+        length-append f₂ cs,
+        length-append (f₂ ++ cs) ns,
+        length-append f₃ (p .tokens),
+        length-append (f₃ ++ p .tokens) (p .residuals),
+        length-append (f₃ ++ p .tokens ++ p .residuals) hs,
+        length-append (f₃ ++ p .tokens ++ p .residuals ++ hs) ss,
+        words-length,
+        positions-length,
+        consts-length s (p .consts),
+        consts-count,
+        names-length s (p .names),
+        names-count,
+        tokens-count,
+        h .counts .residuals,
+        chain-words-length s (p .chains),
+        chains-count,
+        steps-six (p .steps),
+        steps-count,
+      )
+
+  -- what a call with its keys at place p gives
+  pub steps-at :
+      (p r : ℕ) → p ≡ chainsAt l
+      → (p + st .chains ≤ length xs → stepCount s (region p (st .chains) xs) < 4294967296 → r ≡ stepCount s (region p (st .chains) xs))
+      → r ≡ stepCount s (region (chainsAt l) (st .chains) xs)
+  steps-at p r e f =
+      let P : ℕ → Type 0 =
+      λ (q : ℕ). q + st .chains ≤ length xs → stepCount s (region q (st .chains) xs) < 4294967296 → r ≡ stepCount s (region q (st .chains) xs) in
+      subst P e f chains-fit steps-few
+
+  module _ {x y : List ℕ} {at r : ℕ} where
+    pub code-put : (0 + 4 * st .code ≤ length xs → Puts x y at r (region 0 (4 * st .code) xs)) → Puts x y at r (codeWords (a .code))
+    code-put f = puts-as (region 0 (4 * st .code) xs) (codeWords (a .code)) (h .emitted .code) (f code-fits)
+
+    pub positions-put :
+        (p : ℕ) → p ≡ positionsAt l → (p + st .code ≤ length xs → Puts x y at r (region p (st .code) xs))
+        → Puts x y at r (positions (a .code))
+    positions-put p e f =
+        let P : ℕ → Type 0 = λ (q : ℕ). q + st .code ≤ length xs → Puts x y at r (region q (st .code) xs) in
+        puts-as (region (positionsAt l) (st .code) xs) (positions (a .code)) (h .emitted .positions) (subst P e f positions-fit)
+
+    pub residuals-put :
+        (p : ℕ) → p ≡ residualsAt l → (p + st .residuals ≤ length xs → Puts x y at r (region p (st .residuals) xs))
+        → Puts x y at r (a .pools .residuals)
+    residuals-put p e f =
+        let P : ℕ → Type 0 = λ (q : ℕ). q + st .residuals ≤ length xs → Puts x y at r (region q (st .residuals) xs) in
+        puts-as (region (residualsAt l) (st .residuals) xs) (a .pools .residuals) (h .emitted .residuals) (subst P e f residuals-fit)
+
+    pub consts-put :
+        (p : ℕ) → p ≡ constsAt l
+        → (p + st .consts ≤ length xs → Puts x y at r (section constWords (map (constOf s) (region p (st .consts) xs))))
+        → Puts x y at r (section constWords (a .pools .consts))
+    consts-put p e f =
+        let P : ℕ → Type 0 =
+        λ (q : ℕ). q + st .consts ≤ length xs → Puts x y at r (section constWords (map (constOf s) (region q (st .consts) xs))) in
+        puts-as _ (section constWords (a .pools .consts)) consts-held (subst P e f consts-fit)
+
+    pub names-put :
+        (p : ℕ) → p ≡ namesAt l
+        → (p + st .names ≤ length xs → Puts x y at r (section nameWords (map (nameOf s) (region p (st .names) xs))))
+        → Puts x y at r (section nameWords (a .pools .names))
+    names-put p e f =
+        let P : ℕ → Type 0 =
+        λ (q : ℕ). q + st .names ≤ length xs → Puts x y at r (section nameWords (map (nameOf s) (region q (st .names) xs))) in
+        puts-as _ (section nameWords (a .pools .names)) names-held (subst P e f names-fit)
+
+    pub tokens-put :
+        (p : ℕ) → p ≡ tokensAt l → (p + st .tokens ≤ length xs → Puts x y at r (map (fieldC s) (region p (st .tokens) xs)))
+        → Puts x y at r (a .pools .tokens)
+    tokens-put p e f =
+        let P : ℕ → Type 0 = λ (q : ℕ). q + st .tokens ≤ length xs → Puts x y at r (map (fieldC s) (region q (st .tokens) xs)) in
+        puts-as _ (a .pools .tokens) (sym (h .pooled .tokens)) (subst P e f tokens-fit)
+
+    pub chains-put :
+        (p q : ℕ) → p ≡ chainsAt l → q ≡ namesAt l
+        → (p + st .chains ≤ length xs → q + st .names ≤ length xs → stepCount s (region p (st .chains) xs) < 4294967296
+        → Puts x y at r (section chainWords (chainsFrom s (map (nameOf s) (region q (st .names) xs)) 0 (region p (st .chains) xs))))
+        → Puts x y at r (section chainWords (a .pools .chains))
+    chains-put p q e d f =
+        let P : ℕ → ℕ → Type 0 =
+        λ (i j : ℕ). i + st .chains ≤ length xs → j + st .names ≤ length xs → stepCount s (region i (st .chains) xs) < 4294967296
+        → Puts x y at r (section chainWords (chainsFrom s (map (nameOf s) (region j (st .names) xs)) 0 (region i (st .chains) xs))) in
+        puts-as _ (section chainWords (a .pools .chains)) chains-held
+        (subst (P (chainsAt l)) d (subst (λ (i : ℕ). P i q) e f) chains-fit names-fit steps-few)
+
+    pub steps-put :
+        (p q : ℕ) → p ≡ chainsAt l → q ≡ namesAt l
+        → (p + st .chains ≤ length xs → q + st .names ≤ length xs
+        → Puts x y at r (stepsWords (stepsFrom s (map (nameOf s) (region q (st .names) xs)) (region p (st .chains) xs))))
+        → Puts x y at r (stepsWords (a .pools .steps))
+    steps-put p q e d f =
+        let P : ℕ → ℕ → Type 0 =
+        λ (i j : ℕ). i + st .chains ≤ length xs → j + st .names ≤ length xs
+        → Puts x y at r (stepsWords (stepsFrom s (map (nameOf s) (region j (st .names) xs)) (region i (st .chains) xs))) in
+        puts-as _ (stepsWords (a .pools .steps)) steps-held
+        (subst (P (chainsAt l)) d (subst (λ (i : ℕ). P i q) e f) chains-fit names-fit)

@@ -1,0 +1,5 @@
+pub mod Front
+pub mod Puts
+pub mod Reach
+pub mod RowLengths
+pub mod FrontLaws

@@ -1,0 +1,88 @@
+-- `keys::find_bytes` meets its contract. Invariant: what is found from key i on is what is found.
+use borrow.Author.Needs.{needs}
+use Prim.Native.Nat.{_≤_, _-_}
+use mathlib.Core.Path.{_≡_}
+use lib.ListN.{length}
+use Rattle.lowering.specs.Pools.{firstWhere}
+use Rattle.keys.specs.SeekLaws.{seekFrom, seek-starts, seek-finds, seek-passes, seek-ends}
+use Rattle.keys.specs.Keys.{isNamed, marked}
+use native.Mathlib.Omega.{arith}
+use Rattle.keys.proofs.find_bytes.Statement.{statement}
+use Rattle.keys.proofs.find_bytes.Tie as tie
+
+abbrev Inv-loop : tie.InvT-loop
+Inv-loop s ks x m starts lengths bytes i₀ i = (i ≤ length ks) × (seekFrom (isNamed s (marked x m)) ks i ≡ firstWhere (isNamed s (marked x m)) ks)
+
+abbrev μ-loop : tie.MeasureT-loop
+μ-loop s ks x m starts lengths bytes i₀ i = length ks - i
+
+starts-at-requires : tie.Need-starts-at-requires Inv-loop μ-loop
+starts-at-requires c κs = search needs
+
+lengths-at-requires : tie.Need-lengths-at-requires Inv-loop μ-loop
+lengths-at-requires c κs = search needs
+
+bytes-at-requires : tie.Need-bytes-at-requires Inv-loop μ-loop
+bytes-at-requires c κs = search needs
+
+mul-bytes : tie.Need-mul-bytes Inv-loop μ-loop
+mul-bytes c = search needs
+
+loop-holds : tie.Need-loop-holds Inv-loop μ-loop
+loop-holds c =
+    let a = c .before .before .before .before .before .before .args in
+    (omega arith, cc (seek-starts (isNamed (a .s .now) (marked (a .x .now) (a .m))) (a .ks .now)))
+
+mul-is-named : tie.Need-mul-is-named Inv-loop μ-loop
+mul-is-named c = search needs
+
+shared-slice-read-is-named : tie.Need-shared-slice-read-is-named Inv-loop μ-loop
+shared-slice-read-is-named c = search needs
+
+is-named-requires : tie.Need-is-named-requires Inv-loop μ-loop
+is-named-requires c κs = search needs
+
+returns : tie.Need-returns Inv-loop μ-loop
+returns c =
+    let a = c .before .before .before .before .before .before .before .before .before .before .before .args in
+    cc (seek-finds (isNamed (a .s .now) (marked (a .x .now) (a .m))) (a .ks .now) (c .before .before .before .before .loop .i)
+    (c .before .before .before .loop-test .taken) (cc))
+
+add-i : tie.Need-add-i Inv-loop μ-loop
+add-i c = search needs
+
+loop-less : tie.Need-loop-less Inv-loop μ-loop
+loop-less c = search needs
+
+loop-again : tie.Need-loop-again Inv-loop μ-loop
+loop-again c =
+    let a = c .before .before .before .before .before .before .before .before .before .before .before .args in (
+      omega arith,
+      cc (seek-passes (isNamed (a .s .now) (marked (a .x .now) (a .m))) (a .ks .now) (c .before .before .before .before .loop .i)
+          (c .before .before .before .loop-test .taken) (cc)),
+    )
+
+returns-2 : tie.Need-returns-2 Inv-loop μ-loop
+returns-2 c =
+    let a = c .before .before .before .before .before .before .before .before .args in
+    cc (seek-ends (isNamed (a .s .now) (marked (a .x .now) (a .m))) (a .ks .now) (c .before .loop .i) (omega arith) (omega arith))
+
+pub find-bytes-spec : {M : Type 1} → statement M
+find-bytes-spec =
+    tie.close
+    (tie.spec
+    Inv-loop
+    μ-loop
+    starts-at-requires
+    lengths-at-requires
+    bytes-at-requires
+    mul-bytes
+    loop-holds
+    mul-is-named
+    shared-slice-read-is-named
+    is-named-requires
+    returns
+    add-i
+    loop-less
+    loop-again
+    returns-2)

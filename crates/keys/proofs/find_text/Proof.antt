@@ -1,0 +1,17 @@
+-- `keys::find_text` meets its contract: a text is a name with no mark.
+use borrow.Author.Needs.{needs}
+use Rattle.keys.specs.KeyLaws.{find-text}
+use Rattle.keys.proofs.find_text.Statement.{statement}
+use Rattle.keys.proofs.find_text.Tie as tie
+
+text-requires : tie.Need-text-requires
+text-requires c κs = search needs
+
+find-bytes-requires : tie.Need-find-bytes-requires
+find-bytes-requires c κs = search needs
+
+returns : tie.Need-returns
+returns c = let a = c .before .before .before .before .args in cc (find-text (a .s .now) (a .t) (a .ks .now))
+
+pub find-text-spec : {M : Type 1} → statement M
+find-text-spec = tie.close (tie.spec text-requires find-bytes-requires returns)

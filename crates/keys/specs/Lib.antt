@@ -1,0 +1,5 @@
+pub mod Keys
+pub mod SeekLaws
+pub mod BangLaws
+pub mod KeyLaws
+pub mod ConstLaws

@@ -1,0 +1,143 @@
+-- `places::case_target` meets its contract. The invariant is `Targeting`: the chain of the next list stands at the sum.
+use Rattle.places.specs.TargetLaws.{Targeting, targeting-start, targeting-on, targeting-found, targeting-end, bound-as}
+use Rattle.sums.specs.Known.{Rows}
+use Rattle.totals.specs.Place.{bodyPlace}
+use Rattle.totals.specs.Arms.{armsTally}
+use Rattle.counting.specs.Count.{tally}
+use Rattle.tables.specs.Heads.{caseKey, keys}
+use Rattle.lowering.specs.SwitchSheet.{rangesOf}
+use Rattle.lowering.specs.Limits.{maxEmitted}
+use Rattle.cases.specs.Split.{split}
+use Rattle.sheet.specs.Limits.{maxDepth}
+use lib.ListN.{length, take}
+use mathlib.Core.Path.{_≡_, refl}
+use Prim.Native.Nat.{_+_, _-_, _≤_}
+use borrow.Author.Needs.{needs}
+use native.Mathlib.Omega.{arith}
+use Rattle.places.proofs.case_target.Statement.{statement}
+use Rattle.places.proofs.case_target.Tie as tie
+
+abbrev Inv-loop : tie.InvT-loop
+Inv-loop s g want at start fallback b n y sum₀ i₀ sum i =
+    (i ≤ n) × ((length y ≡ 64) × ((n ≤ 64) × (Rows s (g .at) (g .n)
+    → start + armsTally s (tally maxDepth s) (keys (caseKey s) (take n y)) .len ≤ maxEmitted
+    → Targeting s (tally maxDepth s) (bodyPlace s (tally maxDepth s) (split (rangesOf s))) fallback (take (b .n) (b .at)) (caseKey s) 0 y n start
+    (sum .len) i)))
+
+abbrev μ-loop : tie.MeasureT-loop
+μ-loop s g want at start fallback b n y sum₀ i₀ sum i = n - i
+
+at-most-requires : tie.Need-at-most-requires Inv-loop μ-loop
+at-most-requires c κs = search needs
+
+length-only-requires : tie.Need-length-only-requires Inv-loop μ-loop
+length-only-requires c κs = search needs
+
+loop-holds : tie.Need-loop-holds Inv-loop μ-loop
+loop-holds c = let a = c .before .before .before .before .args in
+    let n = c .before .before .at-most .result in (
+      omega arith,
+      (
+        search needs,
+        (
+          omega arith,
+          λ w fit. targeting-start (a .s .now) (tally maxDepth (a .s .now)) (bodyPlace (a .s .now) (tally maxDepth (a .s .now)) (split (rangesOf (a .s .now)))) (a .fallback) (take (a .b .n) (a .b .at)) (caseKey (a .s .now)) 0 (a .h .at) n (a .start) (c .length-only .result .len) n 64 (search needs) (omega (arith, c .before .before .at-most .ensures)) fit
+              (c .length-only .ensures),
+        ),
+      ),
+    )
+
+mul-case-blocks : tie.Need-mul-case-blocks Inv-loop μ-loop
+mul-case-blocks c = omega arith
+
+array-read-case-blocks : tie.Need-array-read-case-blocks Inv-loop μ-loop
+array-read-case-blocks c = omega arith
+
+case-blocks-requires : tie.Need-case-blocks-requires Inv-loop μ-loop
+case-blocks-requires c κs = search needs
+
+same-blocks-requires : tie.Need-same-blocks-requires Inv-loop μ-loop
+same-blocks-requires c κs = search needs
+
+word-requires : tie.Need-word-requires Inv-loop μ-loop
+word-requires c κs = search needs
+
+chain-end-requires : tie.Need-chain-end-requires Inv-loop μ-loop
+chain-end-requires c κs = search needs
+
+list-target-requires : tie.Need-list-target-requires Inv-loop μ-loop
+list-target-requires c κs = search needs
+
+returns : tie.Need-returns Inv-loop μ-loop
+returns c w bs few fit = let a = c .before .before .before .before .before .before .before .before .before .before .before .before .args in
+    let n = c .before .before .before .before .before .before .before .before .before .before .at-most in
+    let l = c .before .before .before .before .before .before .before .loop in
+    let k = c .before .before .before .before .before .case-blocks in
+    targeting-found (a .s .now) (tally maxDepth (a .s .now)) (bodyPlace (a .s .now) (tally maxDepth (a .s .now)) (split (rangesOf (a .s .now)))) (a .fallback) (take (a .b .n) (a .b .at)) (caseKey (a .s .now)) 0 (a .h .at) (n .result) (a .start) (l .sum .len) (l .i)
+    (l .inv .1 .1 .1 w (bound-as (a .s .now) (tally maxDepth (a .s .now)) (caseKey (a .s .now)) (a .h .at) (n .result) (a .start) (a .h .n) 64
+    (l .inv .1 .0) (n .ensures) fit))
+    (c .before .before .before .before .before .before .loop-test .taken) (omega (arith, l .inv .1 .0, l .inv .1 .1 .0)) (take (k .result .n) (k .result .at)) (k .ensures .items)
+    (c .list-target .result) (c .before .before .word .result) (a .h .n) 64 (cc) (c .before .before .word .ensures)
+    (c .list-target .ensures (take (k .result .n) (k .result .at)) (c .before .chain-end .ensures w) bs few) (l .inv .1 .0) (n .ensures)
+
+arm-requires : tie.Need-arm-requires Inv-loop μ-loop
+arm-requires c κs = search needs
+
+plus-requires : tie.Need-plus-requires Inv-loop μ-loop
+plus-requires c κs = search needs
+
+add-i : tie.Need-add-i Inv-loop μ-loop
+add-i c = omega arith
+
+loop-less : tie.Need-loop-less Inv-loop μ-loop
+loop-less c = omega arith
+
+loop-again : tie.Need-loop-again Inv-loop μ-loop
+loop-again c = let a = c .before .before .before .before .before .before .before .before .before .before .before .args in
+    let n = c .before .before .before .before .before .before .before .before .before .at-most in
+    let l = c .before .before .before .before .before .before .loop in
+    let k = c .before .before .before .before .case-blocks in (
+      omega arith,
+      (
+        l .inv .1 .0,
+        (
+          l .inv .1 .1 .0,
+          λ w fit. targeting-on (a .s .now) (tally maxDepth (a .s .now)) (bodyPlace (a .s .now) (tally maxDepth (a .s .now)) (split (rangesOf (a .s .now)))) (a .fallback) (take (a .b .n) (a .b .at)) (caseKey (a .s .now)) 0 (a .h .at) (n .result) (a .start) (l .sum .len) (l .i) (l .inv .1 .1 .1 w fit)
+              (c .before .before .before .before .before .loop-test .taken) (omega (arith, l .inv .1 .0, l .inv .1 .1 .0)) (take (k .result .n) (k .result .at)) (k .ensures .items)
+              (l .sum) (c .before .arm .result) (c .plus .result) (cc) refl (c .before .arm .ensures w) (c .plus .ensures),
+        ),
+      ),
+    )
+
+returns-2 : tie.Need-returns-2 Inv-loop μ-loop
+returns-2 c w bs few fit = let a = c .before .before .before .before .before .before .args in
+    let n = c .before .before .before .before .at-most in
+    let l = c .before .loop in
+    targeting-end (a .s .now) (tally maxDepth (a .s .now)) (bodyPlace (a .s .now) (tally maxDepth (a .s .now)) (split (rangesOf (a .s .now)))) (a .fallback) (take (a .b .n) (a .b .at)) (caseKey (a .s .now)) 0 (a .h .at) (n .result) (a .start) (l .sum .len) (l .i) (a .h .n) 64
+    (l .inv .1 .1 .1 w (bound-as (a .s .now) (tally maxDepth (a .s .now)) (caseKey (a .s .now)) (a .h .at) (n .result) (a .start) (a .h .n) 64
+    (l .inv .1 .0) (n .ensures) fit))
+    (c .loop-test .left) (l .inv .1 .0) (n .ensures)
+
+pub case-target-spec : {M : Type 1} → statement M
+case-target-spec =
+    tie.close
+    (tie.spec
+    Inv-loop
+    μ-loop
+    at-most-requires
+    length-only-requires
+    loop-holds
+    mul-case-blocks
+    array-read-case-blocks
+    case-blocks-requires
+    same-blocks-requires
+    word-requires
+    chain-end-requires
+    list-target-requires
+    returns
+    arm-requires
+    plus-requires
+    add-i
+    loop-less
+    loop-again
+    returns-2)

@@ -1,0 +1,13 @@
+pub mod Near
+pub mod BodyLaws
+pub mod Ends
+pub mod EndsLaws
+pub mod IdleLaws
+pub mod Starts
+pub mod StartsLaws
+pub mod Placed
+pub mod BoundLaws
+pub mod PlacedLaws
+pub mod TablesLaws
+pub mod TargetLaws
+pub mod TargetsAre

@@ -1,0 +1,24 @@
+-- `sections::chain_at` meets its contract: the chain by the place of its root's name.
+use borrow.Author.Needs.{needs}
+use mathlib.Core.List.{map}
+use Rattle.keys.specs.Keys.{nameOf}
+use Rattle.sections.specs.ChainRows.{chain-placed}
+use Rattle.sections.proofs.chain_at.Statement.{statement}
+use Rattle.sections.proofs.chain_at.Tie as tie
+
+child-requires : tie.Need-child-requires
+child-requires c κs = search needs
+
+root-place-requires : tie.Need-root-place-requires
+root-place-requires c κs = search needs
+
+chain-of-requires : tie.Need-chain-of-requires
+chain-of-requires c κs = search needs
+
+returns : tie.Need-returns
+returns c =
+    let a = c .before .before .before .before .before .args in
+    cc (chain-placed (a .s .now) (map (nameOf (a .s .now)) (a .ks .now)) (a .j) (a .first) (c .before .root-place .result) (cc))
+
+pub chain-at-spec : {M : Type 1} → statement M
+chain-at-spec = tie.close (tie.spec child-requires root-place-requires chain-of-requires returns)

@@ -1,0 +1,167 @@
+-- `sections::chain_steps` meets its contract. Invariant: the first i rows are the first i steps, and those from link c on are left.
+use borrow.Author.Needs.{needs}
+use Prim.Native.Nat.{_≤_, _+_, _*_}
+use mathlib.Core.Path.{_≡_, refl}
+use lib.ListN.{length}
+use Rattle.sections.specs.Written.{Written}
+use Rattle.sections.specs.PutLaws.{written-none, written-length}
+use mathlib.Core.List.{map}
+use Rattle.keys.specs.Keys.{nameOf}
+use Rattle.sheet.specs.Limits.{maxDepth}
+use Rattle.lowering.specs.Pools.{stepsWords}
+use Rattle.chains.specs.LoopLaws.{width-few}
+use Rattle.sections.specs.StepRows.{Left, stepRows, left-starts, left-within, left-more, step-next, step-last, step-done}
+use native.Mathlib.Omega.{arith}
+use Rattle.sections.proofs.chain_steps.Statement.{statement}
+use Rattle.sections.proofs.chain_steps.Tie as tie
+
+abbrev Inv-loop : tie.InvT-loop
+Inv-loop s out₀ j ks left₀ c₀ n₀ i₀ out left c n i =
+    (i + left ≤ maxDepth) × (n + 255 * left ≤ 255 * maxDepth) × Left s (map (nameOf s) ks) j i n left c × (length out ≡ length out₀) ×
+    Written out₀ out (stepRows s (map (nameOf s) ks) j i)
+
+abbrev μ-loop : tie.MeasureT-loop
+μ-loop s out₀ j ks left₀ c₀ n₀ i₀ out left c n i = left
+
+loop-holds : tie.Need-loop-holds Inv-loop μ-loop
+unfolding stepsWords
+loop-holds c =
+    let a = c .before .before .before .args in
+    (omega arith, omega arith, left-starts (a .s .now) (map (nameOf (a .s .now)) (a .ks .now)) (a .j), refl, written-none (a .out .now))
+
+step-at-requires : tie.Need-step-at-requires Inv-loop μ-loop
+step-at-requires c κs = search needs
+
+mul-put-six : tie.Need-mul-put-six Inv-loop μ-loop
+mul-put-six c = search needs
+
+step-words-requires : tie.Need-step-words-requires Inv-loop μ-loop
+step-words-requires c κs = search needs
+
+put-six-requires : tie.Need-put-six-requires Inv-loop μ-loop
+put-six-requires c κs =
+    let a = c .before .before .before .before .before .before .before .before .args in
+    let ns = map (nameOf (a .s .now)) (a .ks .now) in
+    let l = c .before .before .before .before .loop in
+    omega (
+      arith,
+      left-within (a .s .now) ns (a .j) (l .i) (l .n) (l .left) (l .c) (c .before .before .before .loop-test .taken) (l .inv .2),
+    )
+
+add-i : tie.Need-add-i Inv-loop μ-loop
+add-i c = search needs
+
+width-requires : tie.Need-width-requires Inv-loop μ-loop
+width-requires c κs = search needs
+
+add-n : tie.Need-add-n Inv-loop μ-loop
+add-n c =
+    omega (
+      arith,
+      width-few (c .before .before .before .before .before .before .before .before .before .before .before .before .args .s .now)
+          (c .before .before .before .before .before .before .before .before .loop .c),
+    )
+
+goes-on-requires : tie.Need-goes-on-requires Inv-loop μ-loop
+goes-on-requires c κs = search needs
+
+rest-of-requires : tie.Need-rest-of-requires Inv-loop μ-loop
+rest-of-requires c κs = search needs
+
+sub-left : tie.Need-sub-left Inv-loop μ-loop
+sub-left c = search needs
+
+loop-less : tie.Need-loop-less Inv-loop μ-loop
+loop-less c = search needs
+
+loop-again : tie.Need-loop-again Inv-loop μ-loop
+loop-again c =
+    let a =
+    c .before .before .before .before .before .before .before .before .before .before .before .before .before .before .before .args in
+    let ns = map (nameOf (a .s .now)) (a .ks .now) in
+    let l = c .before .before .before .before .before .before .before .before .before .before .before .loop in
+    let w =
+    step-next (a .s .now) ns (a .j) (l .i) (l .n) (l .left) (l .c)
+    (c .before .before .before .before .before .before .before .before .before .step-at .result)
+    (c .before .before .before .before .before .before .before .step-words .result)
+    (c .before .before .before .before .before .before .before .before .before .before .before .before .before .before .before .pre .0)
+    (c .before .before .before .before .before .before .before .before .before .before .loop-test .taken) (l .inv .2)
+    (c .before .before .before .before .before .before .before .before .before .step-at .ensures)
+    (c .before .before .before .before .before .before .before .step-words .ensures)
+    (c .before .before .before .before .before .before .put-six .ensures) (l .inv .4) in (
+      omega arith,
+      omega (arith, width-few (a .s .now) (l .c)),
+      cc (left-more (a .s .now) ns (a .j) (l .i) (l .n) (l .left) (l .c)
+          (c .before .before .before .before .before .before .before .before .before .before .loop-test .taken) (cc) (l .inv .2)),
+      written-length w,
+      w,
+    )
+
+same-length : tie.Need-same-length Inv-loop μ-loop
+same-length c =
+    let a = c .before .before .before .before .before .before .before .before .before .before .before .before .before .before .args in
+    let ns = map (nameOf (a .s .now)) (a .ks .now) in
+    let l = c .before .before .before .before .before .before .before .before .before .before .loop in
+    let w =
+    step-next (a .s .now) ns (a .j) (l .i) (l .n) (l .left) (l .c)
+    (c .before .before .before .before .before .before .before .before .step-at .result)
+    (c .before .before .before .before .before .before .step-words .result)
+    (c .before .before .before .before .before .before .before .before .before .before .before .before .before .before .pre .0)
+    (c .before .before .before .before .before .before .before .before .before .loop-test .taken) (l .inv .2)
+    (c .before .before .before .before .before .before .before .before .step-at .ensures)
+    (c .before .before .before .before .before .before .step-words .ensures)
+    (c .before .before .before .before .before .put-six .ensures) (l .inv .4) in
+    written-length w
+
+returns : tie.Need-returns Inv-loop μ-loop
+returns c =
+    let a = c .before .before .before .before .before .before .before .before .before .before .before .before .before .before .args in
+    let ns = map (nameOf (a .s .now)) (a .ks .now) in
+    let l = c .before .before .before .before .before .before .before .before .before .before .loop in
+    let w =
+    step-next (a .s .now) ns (a .j) (l .i) (l .n) (l .left) (l .c)
+    (c .before .before .before .before .before .before .before .before .step-at .result)
+    (c .before .before .before .before .before .before .step-words .result)
+    (c .before .before .before .before .before .before .before .before .before .before .before .before .before .before .pre .0)
+    (c .before .before .before .before .before .before .before .before .before .loop-test .taken) (l .inv .2)
+    (c .before .before .before .before .before .before .before .before .step-at .ensures)
+    (c .before .before .before .before .before .before .step-words .ensures)
+    (c .before .before .before .before .before .put-six .ensures) (l .inv .4) in
+    step-last (a .s .now) ns (a .j) (l .i) (l .n) (l .left) (l .c)
+    (c .before .before .before .before .before .before .before .before .before .before .before .before .before .before .pre .0)
+    (c .before .before .before .before .before .before .before .before .before .loop-test .taken) (cc) (l .inv .2) w
+
+same-length-2 : tie.Need-same-length-2 Inv-loop μ-loop
+same-length-2 c = c .before .loop .inv .3
+
+returns-2 : tie.Need-returns-2 Inv-loop μ-loop
+returns-2 c =
+    let a = c .before .before .before .before .before .args in
+    let ns = map (nameOf (a .s .now)) (a .ks .now) in
+    let l = c .before .loop in
+    step-done (a .s .now) ns (a .j) (l .i) (l .n) (l .left) (l .c) (c .before .before .before .before .before .pre .0) (c .loop-test .left)
+    (l .inv .2) (l .inv .4)
+
+pub chain-steps-spec : {M : Type 1} → statement M
+chain-steps-spec =
+    tie.close
+    (tie.spec
+    Inv-loop
+    μ-loop
+    loop-holds
+    step-at-requires
+    mul-put-six
+    step-words-requires
+    put-six-requires
+    add-i
+    width-requires
+    add-n
+    goes-on-requires
+    rest-of-requires
+    sub-left
+    loop-less
+    loop-again
+    same-length
+    returns
+    same-length-2
+    returns-2)

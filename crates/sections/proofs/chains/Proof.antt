@@ -1,0 +1,117 @@
+-- `sections::chains` meets its contract. Invariant: the first i rows are the chains of the first i nodes, and first is how many steps they have.
+use borrow.Author.Needs.{needs}
+use Prim.Native.Nat.{_≤_, _+_, _-_}
+use mathlib.Core.Path.{_≡_, refl}
+use lib.ListN.{length, take}
+use Rattle.sections.specs.Written.{Written}
+use Rattle.sections.specs.PutLaws.{written-none, written-length}
+use mathlib.Core.List.{map}
+use Rattle.keys.specs.Keys.{nameOf}
+use Rattle.lowering.specs.Image.{section}
+use Rattle.chains.specs.Steps.{chainsFrom}
+use Rattle.chains.specs.Kept.{stepCount}
+use Rattle.sections.specs.ChainRows.{count-more, count-part, chainRows, chain-next, chain-end}
+use native.Mathlib.Omega.{arith}
+use Rattle.sections.proofs.chains.Statement.{statement}
+use Rattle.sections.proofs.chains.Tie as tie
+
+abbrev Inv-loop : tie.InvT-loop
+Inv-loop s out₀ js ks i₀ first₀ out i first =
+    (i ≤ length js) × (first ≡ stepCount s (take i js)) × (length out ≡ length out₀) × Written out₀ out
+    (chainRows s (map (nameOf s) ks) js i)
+
+abbrev μ-loop : tie.MeasureT-loop
+μ-loop s out₀ js ks i₀ first₀ out i first = length js - i
+
+loop-holds : tie.Need-loop-holds Inv-loop μ-loop
+unfolding section chainsFrom stepCount
+loop-holds c = (omega arith, refl, refl, written-none (c .before .before .before .before .args .out .now))
+
+mul-j : tie.Need-mul-j Inv-loop μ-loop
+mul-j c = search needs
+
+shared-slice-read-j : tie.Need-shared-slice-read-j Inv-loop μ-loop
+shared-slice-read-j c = search needs
+
+chain-at-requires : tie.Need-chain-at-requires Inv-loop μ-loop
+chain-at-requires c κs = search needs
+
+mul-put-six : tie.Need-mul-put-six Inv-loop μ-loop
+mul-put-six c = search needs
+
+chain-words-requires : tie.Need-chain-words-requires Inv-loop μ-loop
+chain-words-requires c κs = search needs
+
+put-six-requires : tie.Need-put-six-requires Inv-loop μ-loop
+put-six-requires c κs = search needs
+
+link-count-requires : tie.Need-link-count-requires Inv-loop μ-loop
+link-count-requires c κs = search needs
+
+add-first : tie.Need-add-first Inv-loop μ-loop
+add-first c =
+    let a = c .before .before .before .before .before .before .before .before .before .before .before .before .before .before .args in
+    let i = c .before .before .before .before .before .before .before .before .before .loop .i in
+    omega (
+      arith,
+      count-more (a .s .now) (a .js .now) i (c .before .before .before .before .before .before .before .before .loop-test .taken),
+      count-part (a .s .now) (a .js .now) (i + 1),
+      c .link-count .ensures,
+    )
+
+add-i : tie.Need-add-i Inv-loop μ-loop
+add-i c = search needs
+
+loop-less : tie.Need-loop-less Inv-loop μ-loop
+loop-less c = search needs
+
+loop-again : tie.Need-loop-again Inv-loop μ-loop
+loop-again c =
+    let a = c .before .before .before .before .before .before .before .before .before .before .before .before .before .before .args in
+    let ns = map (nameOf (a .s .now)) (a .ks .now) in
+    let i = c .before .before .before .before .before .before .before .before .before .loop .i in
+    let w =
+    chain-next (a .s .now) ns (a .js .now) i (c .before .before .before .before .before .before .before .before .before .loop .first)
+    (c .before .before .before .before .before .before .chain-at .result) (c .before .before .before .before .chain-words .result)
+    (c .before .before .before .before .before .before .before .before .before .before .before .before .before .before .pre .0)
+    (c .before .before .before .before .before .before .before .before .loop-test .taken)
+    (c .before .before .before .before .before .before .before .before .before .loop .inv .1)
+    (c .before .before .before .before .before .before .chain-at .ensures) (c .before .before .before .before .chain-words .ensures)
+    (c .before .before .before .put-six .ensures)
+    (c .before .before .before .before .before .before .before .before .before .loop .inv .3) in (
+      omega arith,
+      cc (count-more (a .s .now) (a .js .now) i (c .before .before .before .before .before .before .before .before .loop-test .taken)),
+      written-length w,
+      w,
+    )
+
+same-length : tie.Need-same-length Inv-loop μ-loop
+same-length c = c .before .loop .inv .2
+
+returns : tie.Need-returns Inv-loop μ-loop
+returns c =
+    let a = c .before .before .before .before .before .before .args in
+    let ns = map (nameOf (a .s .now)) (a .ks .now) in
+    chain-end (a .s .now) ns (a .js .now) (c .before .loop .i) (c .before .before .before .before .before .before .pre .0)
+    (c .loop-test .left) (c .before .loop .inv .3)
+
+pub chains-spec : {M : Type 1} → statement M
+chains-spec =
+    tie.close
+    (tie.spec
+    Inv-loop
+    μ-loop
+    loop-holds
+    mul-j
+    shared-slice-read-j
+    chain-at-requires
+    mul-put-six
+    chain-words-requires
+    put-six-requires
+    link-count-requires
+    add-first
+    add-i
+    loop-less
+    loop-again
+    same-length
+    returns)

@@ -1,0 +1,90 @@
+-- `sections::consts` meets its contract. Invariant: the first i rows are the constants of the first i nodes.
+use borrow.Author.Needs.{needs}
+use Prim.Native.Nat.{_≤_, _-_}
+use mathlib.Core.Path.{_≡_, refl}
+use lib.ListN.{length}
+use Rattle.sections.specs.Written.{Written}
+use Rattle.sections.specs.PutLaws.{written-none, written-length}
+use Rattle.lowering.specs.Image.{section}
+use Rattle.sections.specs.RowLaws.{constRows, const-next, const-end}
+use native.Mathlib.Omega.{arith}
+use Prim.Native.Nat.{_≤_, _-_}
+use Rattle.sections.proofs.consts.Statement.{statement}
+use Rattle.sections.proofs.consts.Tie as tie
+
+abbrev Inv-loop : tie.InvT-loop
+Inv-loop s out₀ ks i₀ out i = (i ≤ length ks) × (length out ≡ length out₀) × Written out₀ out (constRows s ks i)
+
+abbrev μ-loop : tie.MeasureT-loop
+μ-loop s out₀ ks i₀ out i = length ks - i
+
+loop-holds : tie.Need-loop-holds Inv-loop μ-loop
+unfolding section
+loop-holds c = (omega arith, refl, written-none (c .before .before .before .args .out .now))
+
+mul-j : tie.Need-mul-j Inv-loop μ-loop
+mul-j c = search needs
+
+shared-slice-read-j : tie.Need-shared-slice-read-j Inv-loop μ-loop
+shared-slice-read-j c = search needs
+
+mul-put-three : tie.Need-mul-put-three Inv-loop μ-loop
+mul-put-three c = search needs
+
+kind-requires : tie.Need-kind-requires Inv-loop μ-loop
+kind-requires c κs = search needs
+
+field-a-requires : tie.Need-field-a-requires Inv-loop μ-loop
+field-a-requires c κs = search needs
+
+field-b-requires : tie.Need-field-b-requires Inv-loop μ-loop
+field-b-requires c κs = search needs
+
+put-three-requires : tie.Need-put-three-requires Inv-loop μ-loop
+put-three-requires c κs = search needs
+
+add-i : tie.Need-add-i Inv-loop μ-loop
+add-i c = search needs
+
+loop-less : tie.Need-loop-less Inv-loop μ-loop
+loop-less c = search needs
+
+loop-again : tie.Need-loop-again Inv-loop μ-loop
+loop-again c =
+    let a = c .before .before .before .before .before .before .before .before .before .before .before .before .before .args in
+    let w =
+    const-next (a .s .now) (a .ks .now) (c .before .before .before .before .before .before .before .before .before .loop .i)
+    (c .before .before .before .before .before .before .before .before .before .before .before .before .before .pre) _ _ _
+    (c .before .before .before .before .before .before .before .before .loop-test .taken)
+    (c .before .before .before .before .before .kind .ensures) (c .before .before .before .before .field-a .ensures)
+    (c .before .before .before .field-b .ensures) (c .before .before .put-three .ensures)
+    (c .before .before .before .before .before .before .before .before .before .loop .inv .2) in
+    (omega arith, written-length w, w)
+
+same-length : tie.Need-same-length Inv-loop μ-loop
+same-length c = c .before .loop .inv .1
+
+returns : tie.Need-returns Inv-loop μ-loop
+returns c =
+    const-end (c .before .before .before .before .before .args .s .now) (c .before .before .before .before .before .args .ks .now)
+    (c .before .loop .i) (c .before .before .before .before .before .pre) (c .loop-test .left) (c .before .loop .inv .2)
+
+pub consts-spec : {M : Type 1} → statement M
+consts-spec =
+    tie.close
+    (tie.spec
+    Inv-loop
+    μ-loop
+    loop-holds
+    mul-j
+    shared-slice-read-j
+    mul-put-three
+    kind-requires
+    field-a-requires
+    field-b-requires
+    put-three-requires
+    add-i
+    loop-less
+    loop-again
+    same-length
+    returns)

@@ -1,0 +1,123 @@
+-- `sections::step_at` meets its contract: each arm looks for the names that its step has.
+use borrow.Author.Needs.{needs}
+use mathlib.Core.Path.{sym, _∙_}
+use mathlib.Core.List.{map}
+use Rattle.keys.specs.Keys.{nameOf}
+use Rattle.lowering.specs.Flatten.{stepRule}
+use Rattle.rules.specs.declared.chains.StepRule.the-variants.{Index, Method, Nothing}
+use Rattle.rules.specs.Inverse.{stepRuleFrom, step-is}
+use Rattle.sections.specs.StepRows.{step-index, step-none, step-method, step-property}
+use Rattle.sections.proofs.step_at.Statement.{statement}
+use Rattle.sections.proofs.step_at.Tie as tie
+
+step-rule-requires : tie.Need-step-rule-requires
+step-rule-requires c κs = search needs
+
+operand-of-requires : tie.Need-operand-of-requires
+operand-of-requires c κs = search needs
+
+enum-told : tie.Need-enum-told
+enum-told c = search needs
+
+step-of-requires : tie.Need-step-of-requires
+step-of-requires c κs = search needs
+
+enum-told-2 : tie.Need-enum-told-2
+enum-told-2 c = search needs
+
+field-a-requires : tie.Need-field-a-requires
+field-a-requires c κs = search needs
+
+place-requires : tie.Need-place-requires
+place-requires c κs = search needs
+
+field-b-requires : tie.Need-field-b-requires
+field-b-requires c κs = search needs
+
+place-requires-2 : tie.Need-place-requires-2
+place-requires-2 c κs = search needs
+
+field-c-requires : tie.Need-field-c-requires
+field-c-requires c κs = search needs
+
+place-requires-3 : tie.Need-place-requires-3
+place-requires-3 c κs = search needs
+
+step-of-requires-2 : tie.Need-step-of-requires-2
+step-of-requires-2 c κs = search needs
+
+enum-told-3 : tie.Need-enum-told-3
+enum-told-3 c = search needs
+
+field-a-requires-2 : tie.Need-field-a-requires-2
+field-a-requires-2 c κs = search needs
+
+place-requires-4 : tie.Need-place-requires-4
+place-requires-4 c κs = search needs
+
+step-of-requires-3 : tie.Need-step-of-requires-3
+step-of-requires-3 c κs = search needs
+
+enum-told-4 : tie.Need-enum-told-4
+enum-told-4 c = search needs
+
+step-of-requires-4 : tie.Need-step-of-requires-4
+step-of-requires-4 c κs = search needs
+
+returns : tie.Need-returns
+unfolding stepRuleFrom
+returns c =
+    let a = c .before .before .before .before .before .before .before .args in
+    let r =
+    sym (step-is (stepRule (a .s .now) (a .c)) Index (sym (c .before .before .before .before .step-rule .ensures) ∙ c .before .enum-told .given .1)) in
+    cc (step-index (a .s .now) (map (nameOf (a .s .now)) (a .ks .now)) (a .c) (a .n) 0 0 0 r)
+
+returns-2 : tie.Need-returns-2
+returns-2 c =
+    let a = c .before .before .before .before .before .before .before .before .before .before .before .before .before .args in
+    cc (step-property (a .s .now) (map (nameOf (a .s .now)) (a .ks .now)) (a .c) (a .n)
+    (c .before .before .before .before .before .place .result) (c .before .before .before .place2 .result) (c .before .place3 .result) (cc)
+    (cc) (cc))
+
+returns-3 : tie.Need-returns-3
+unfolding stepRuleFrom
+returns-3 c =
+    let a = c .before .before .before .before .before .before .before .before .before .args in
+    let r =
+    sym (step-is (stepRule (a .s .now) (a .c)) Method (sym (c .before .before .before .before .before .before .step-rule .ensures) ∙ c .before .before .before .enum-told3 .given .1)) in
+    cc (step-method (a .s .now) (map (nameOf (a .s .now)) (a .ks .now)) (a .c) (a .n) (c .before .place4 .result) 0 0 r (cc))
+
+returns-4 : tie.Need-returns-4
+unfolding stepRuleFrom
+returns-4 c =
+    let a = c .before .before .before .before .before .before .before .args in
+    let r =
+    sym (step-is (stepRule (a .s .now) (a .c)) Nothing (sym (c .before .before .before .before .step-rule .ensures) ∙ c .before .enum-told4 .given .1)) in
+    cc (step-none (a .s .now) (map (nameOf (a .s .now)) (a .ks .now)) (a .c) (a .n) 0 0 0 r)
+
+pub step-at-spec : {M : Type 1} → statement M
+step-at-spec =
+    tie.close
+    (tie.spec
+    step-rule-requires
+    operand-of-requires
+    enum-told
+    step-of-requires
+    enum-told-2
+    field-a-requires
+    place-requires
+    field-b-requires
+    place-requires-2
+    field-c-requires
+    place-requires-3
+    step-of-requires-2
+    enum-told-3
+    field-a-requires-2
+    place-requires-4
+    step-of-requires-3
+    enum-told-4
+    step-of-requires-4
+    returns
+    returns-2
+    returns-3
+    returns-4)

@@ -1,0 +1,79 @@
+-- `sections::tokens` meets its contract. Invariant: the first i words are the tokens of the first i nodes.
+use borrow.Author.Needs.{needs}
+use Prim.Native.Nat.{_≤_, _-_}
+use mathlib.Core.Path.{_≡_, refl}
+use lib.ListN.{length, take}
+use Rattle.sections.specs.Written.{Written}
+use Rattle.sections.specs.PutLaws.{written-none, written-length}
+use mathlib.Core.List.{map}
+use Rattle.sheet.specs.Node.{fieldC}
+use Rattle.sections.specs.RowLaws.{map-next, map-end}
+use native.Mathlib.Omega.{arith}
+use Prim.Native.Nat.{_≤_, _-_}
+use Rattle.sections.proofs.tokens.Statement.{statement}
+use Rattle.sections.proofs.tokens.Tie as tie
+
+abbrev Inv-loop : tie.InvT-loop
+Inv-loop s out₀ ks i₀ out i = (i ≤ length ks) × (length out ≡ length out₀) × Written out₀ out (map (fieldC s) (take i ks))
+
+abbrev μ-loop : tie.MeasureT-loop
+μ-loop s out₀ ks i₀ out i = length ks - i
+
+loop-holds : tie.Need-loop-holds Inv-loop μ-loop
+loop-holds c = (omega arith, refl, written-none (c .before .before .before .args .out .now))
+
+mul-field-c : tie.Need-mul-field-c Inv-loop μ-loop
+mul-field-c c = search needs
+
+shared-slice-read-field-c : tie.Need-shared-slice-read-field-c Inv-loop μ-loop
+shared-slice-read-field-c c = search needs
+
+field-c-requires : tie.Need-field-c-requires Inv-loop μ-loop
+field-c-requires c κs = search needs
+
+mul-out : tie.Need-mul-out Inv-loop μ-loop
+mul-out c = search needs
+
+slice-write-out : tie.Need-slice-write-out Inv-loop μ-loop
+slice-write-out c = search needs
+
+add-i : tie.Need-add-i Inv-loop μ-loop
+add-i c = search needs
+
+loop-less : tie.Need-loop-less Inv-loop μ-loop
+loop-less c = search needs
+
+loop-again : tie.Need-loop-again Inv-loop μ-loop
+loop-again c =
+    let a = c .before .before .before .before .before .before .before .args in
+    let w =
+    map-next (fieldC (a .s .now)) (a .ks .now) (c .before .before .before .loop .i) (c .field-c .result)
+    (c .before .before .before .before .before .before .before .pre) (c .before .before .loop-test .taken) (c .field-c .ensures)
+    (c .before .before .before .loop .inv .2) in
+    (omega arith, written-length w, w)
+
+same-length : tie.Need-same-length Inv-loop μ-loop
+same-length c = c .before .loop .inv .1
+
+returns : tie.Need-returns Inv-loop μ-loop
+returns c =
+    map-end (fieldC (c .before .before .before .before .before .args .s .now)) (c .before .before .before .before .before .args .ks .now)
+    (c .before .loop .i) (c .before .before .before .before .before .pre) (c .loop-test .left) (c .before .loop .inv .2)
+
+pub tokens-spec : {M : Type 1} → statement M
+tokens-spec =
+    tie.close
+    (tie.spec
+    Inv-loop
+    μ-loop
+    loop-holds
+    mul-field-c
+    shared-slice-read-field-c
+    field-c-requires
+    mul-out
+    slice-write-out
+    add-i
+    loop-less
+    loop-again
+    same-length
+    returns)

@@ -1,0 +1,124 @@
+-- Laws of the section of chains, and of how many steps they have.
+use Prim.Native.Nat.{ℕ, zero, suc, _+_, _-_, _*_, _≤_, _<_}
+use mathlib.Core.Path.{_≡_, refl, sym, ap, _∙_}
+use mathlib.Core.Bool.{Bool, true, false}
+use mathlib.Core.List.{List, [], _∷_, _++_, map}
+use native.Mathlib.Omega.{arith}
+use lib.ListN.{length, take, drop, getD, length-map, take-append-drop}
+use lib.Seq.{length-take-le}
+use borrow.Author.Tests.{ne-eqb}
+use Rattle.sheet.specs.Limits.{maxDepth}
+use Rattle.sheet.specs.Node.{kind, fieldA, child}
+use Rattle.bytecode.specs.declared.Chain.{Chain}
+use Rattle.bytecode.specs.Chain.{chainWords}
+use Rattle.lowering.specs.Kinds.{variableKind}
+use Rattle.lowering.specs.Flatten.{goesOn, restOf, links}
+use Rattle.lowering.specs.Pools.{Name, sameName, name}
+use Rattle.lowering.specs.Image.{section}
+use Rattle.chains.specs.FindLaws.{first-within}
+use Rattle.chains.specs.LinkLaws.{links-more, links-last, links-none}
+use Rattle.chains.specs.Steps.{nameIn, rootWith, rootIn, chainRoot, linkCount, chainWith, chainIn, chainsFrom}
+use Rattle.chains.specs.Kept.{stepCount}
+use Rattle.chains.specs.KeptLaws.{chains-length, chains-snoc}
+use Rattle.chains.specs.StayLaws.{root-nameless}
+use Rattle.chains.specs.WordsLaws.{chain-six}
+use Rattle.keys.specs.Keys.{nameOf}
+use Rattle.sections.specs.Written.{Written}
+use Rattle.sections.specs.PutLaws.{putPart, written-next, written-all}
+use Rattle.sections.specs.RowLaws.{take-more, take-whole, section-snoc, section-length}
+
+-- where a name stands, as a 32-bit number
+pub place-in : (s ks : List ℕ) (t : ℕ) → nameIn s (map (nameOf s) ks) t ≤ length ks
+unfolding nameIn
+place-in s ks t = omega (arith, first-within (sameName s (name t 0)) (map (nameOf s) ks), length-map ks (nameOf s))
+
+-- the root of node v, by the place of its name or, where it has none, by any
+module _ (s : List ℕ) (ns : List Name) where
+  pub root-named : (v i : ℕ) → i ≡ nameIn s ns (fieldA s v) → rootWith s v i ≡ rootIn s ns v
+  unfolding rootIn
+  root-named v i e = ap (rootWith s v) e
+
+  pub root-plain : (v i : ℕ) → (kind s v ≡ variableKind → ⊥) → rootWith s v i ≡ rootIn s ns v
+  unfolding rootIn
+  root-plain v i n = root-nameless s v i (nameIn s ns (fieldA s v)) (ne-eqb (kind s v) variableKind n)
+
+  pub chain-placed : (j first i : ℕ) → rootWith s (child j) i ≡ rootIn s ns (child j) → chainWith s j i first ≡ chainIn s ns first j
+  unfolding chainWith chainIn chainRoot
+  chain-placed j first i e = rw e
+
+-- how many steps
+module _ (s : List ℕ) where
+  few-links : (n c : ℕ) → length (links n s c) ≤ n
+  few-links zero c = rw (links-none s 0 c (omega arith)) (omega arith)
+  few-links (suc n) c = by (goesOn s c) refl (few-links n (restOf s c))
+    where
+      by : (g : Bool) → goesOn s c ≡ g → length (links n s (restOf s c)) ≤ n → length (links (suc n) s c) ≤ suc n
+      by true g r =
+          let n′ : suc n - 1 ≡ n = omega arith in
+          rw (links-more s (suc n) c (omega arith) g, n′) (omega arith)
+      by false g r = rw (links-last s (suc n) c (omega arith) g) (omega arith)
+
+  pub links-most : (j : ℕ) → linkCount s j ≤ maxDepth
+  unfolding linkCount
+  links-most j = few-links maxDepth j
+
+  count-append : (is js : List ℕ) → stepCount s (is ++ js) ≡ stepCount s is + stepCount s js
+  unfolding stepCount
+  count-append [] js = omega arith
+  count-append (i ∷ is) js = omega (arith, count-append is js)
+
+  pub steps-most : (js : List ℕ) → stepCount s js ≤ maxDepth * length js
+  unfolding stepCount
+  steps-most [] = omega arith
+  steps-most (j ∷ js) = omega (arith, links-most j, steps-most js)
+
+  -- one chain more
+  pub count-more : (js : List ℕ) (i : ℕ) → i < length js → stepCount s (take (i + 1) js) ≡ stepCount s (take i js) + linkCount s (getD js i 0)
+  unfolding stepCount
+  count-more js i h = ap (stepCount s) (take-more js i h) ∙ count-append (take i js) (getD js i 0 ∷ []) ∙ omega arith
+
+  pub count-part : (js : List ℕ) (i : ℕ) → stepCount s (take i js) ≤ stepCount s js
+  count-part js i = omega (arith, sym (count-append (take i js) (drop i js)) ∙ ap (stepCount s) (take-append-drop i js))
+
+  pub count-whole : (js : List ℕ) (i : ℕ) → length js ≤ i → stepCount s (take i js) ≡ stepCount s js
+  count-whole js i h = ap (stepCount s) (take-whole js i h)
+
+-- the section
+abbrev pub chainRows : List ℕ → List Name → List ℕ → ℕ → List ℕ
+chainRows s ns js i = section chainWords (chainsFrom s ns 0 (take i js))
+
+module _ (s : List ℕ) (ns : List Name) (js : List ℕ) where
+  chain-rows-length : (i : ℕ) → i ≤ length js → length (chainRows s ns js i) ≡ 6 * i
+  chain-rows-length i h =
+      section-length chainWords (λ (n : ℕ). chainIn s ns 0 n) 6 chain-six (chainsFrom s ns 0 (take i js))
+      ∙ ap (λ (n : ℕ). 6 * n) (chains-length s ns 0 (take i js) ∙ length-take-le i js h)
+
+  chain-more :
+      (i : ℕ) → i < length js
+      → chainRows s ns js (i + 1) ≡ chainRows s ns js i ++ chainWords (chainIn s ns (stepCount s (take i js)) (getD js i 0))
+  chain-more i h =
+      ap (section chainWords) (ap (chainsFrom s ns 0) (take-more js i h) ∙ chains-snoc s ns 0 (take i js) (getD js i 0))
+      ∙ section-snoc chainWords (chainsFrom s ns 0 (take i js)) (chainIn s ns (0 + stepCount s (take i js)) (getD js i 0))
+      ∙ ap (λ (n : ℕ). chainRows s ns js i ++ chainWords (chainIn s ns n (getD js i 0))) (omega arith)
+
+  pub chain-next :
+      {x₀ x y : List ℕ} (i first : ℕ) (c : Chain) (w : List ℕ) → length x₀ ≡ 6 * length js → i < length js → first ≡ stepCount s (take i js)
+      → c ≡ chainIn s ns first (getD js i 0) → w ≡ chainWords c → y ≡ putPart x (6 * i) 6 w → Written x₀ x (chainRows s ns js i)
+      → Written x₀ y (chainRows s ns js (i + 1))
+  chain-next i first c w e h f p q r v =
+      let n = chain-rows-length i (omega arith) in
+      let row : w ≡ chainWords (chainIn s ns (stepCount s (take i js)) (getD js i 0)) =
+      q ∙ ap chainWords (p ∙ ap (λ (m : ℕ). chainIn s ns m (getD js i 0)) f) in
+      rw (r, chain-more i h, ← row) (written-next v (6 * i) 6 w n (ap length q ∙ chain-six c) (omega arith))
+
+  pub chain-end :
+      {x₀ x : List ℕ} (i : ℕ) → length x₀ ≡ 6 * length js → length js ≤ i → Written x₀ x (chainRows s ns js i)
+      → x ≡ section chainWords (chainsFrom s ns 0 js)
+  chain-end i e h v =
+      let all = ap (λ (l : List ℕ). section chainWords (chainsFrom s ns 0 l)) (take-whole js i h) in
+      written-all v
+      (ap length all
+      ∙ section-length chainWords (λ (n : ℕ). chainIn s ns 0 n) 6 chain-six (chainsFrom s ns 0 js)
+      ∙ ap (λ (n : ℕ). 6 * n) (chains-length s ns 0 js)
+      ∙ sym e)
+      ∙ all

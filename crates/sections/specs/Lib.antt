@@ -1,0 +1,5 @@
+pub mod Written
+pub mod PutLaws
+pub mod RowLaws
+pub mod ChainRows
+pub mod StepRows

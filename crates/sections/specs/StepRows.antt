@@ -1,0 +1,172 @@
+-- Laws of the section of steps: along one chain, and chain by chain.
+use Prim.Native.Nat.{ℕ, zero, suc, _+_, _-_, _*_, _≤_, _<_}
+use mathlib.Core.Path.{_≡_, refl, sym, ap, _∙_}
+use mathlib.Core.Bool.{Bool, true, false}
+use mathlib.Core.List.{List, [], _∷_, _++_, append-nil}
+use native.Mathlib.Omega.{arith}
+use native.Mathlib.Numerals.{add-one}
+use lib.ListN.{length, take, drop, getD, length-drop}
+use lib.Seq.{length-take-le, take-all, drop-nil}
+use Rattle.sheet.specs.Limits.{maxDepth}
+use Rattle.sheet.specs.Node.{fieldA, fieldB, fieldC}
+use Rattle.bytecode.specs.declared.Step.{Step}
+use Rattle.bytecode.specs.Chain.{stepWords}
+use Rattle.lowering.specs.Flatten as flatten
+use Rattle.lowering.specs.Flatten.{index, method, stepRule, goesOn, restOf, operandOf, links}
+use Rattle.lowering.specs.Pools.{Name, stepsWords}
+use Rattle.chains.specs.Steps.{nameIn, stepWith, stepAs, stepWidth, stepsIn, chainSteps, linkCount, stepsFrom}
+use Rattle.chains.specs.Kept.{stepCount}
+use Rattle.chains.specs.KeptLaws.{steps-length, all-steps-length, steps-snoc}
+use Rattle.chains.specs.LoopLaws.{steps-more, steps-last, steps-done}
+use Rattle.chains.specs.WordsLaws.{step-six, steps-six, steps-append}
+use Rattle.sections.specs.Written.{Written}
+use Rattle.sections.specs.PutLaws.{putPart, written-next, written-all}
+use Rattle.sections.specs.RowLaws.{take-more, take-whole}
+use Rattle.sections.specs.ChainRows.{count-more, count-part}
+
+-- what stands at place i, and behind it
+pub record Split (l : List Step) (i : ℕ) (x : Step) (r : List Step) : Type 0 where
+  pub within : i < length l
+  pub front : take (suc i) l ≡ take i l ++ (x ∷ [])
+  pub behind : drop (suc i) l ≡ r
+
+split : (l : List Step) (i : ℕ) (x : Step) (r : List Step) → drop i l ≡ x ∷ r → Split l i x r
+split [] i x r e = absurd (omega (arith, ap length (sym (drop-nil i) ∙ e)))
+split (y ∷ l) zero x r e = record { within = omega arith; front = cc; behind = cc }
+split (y ∷ l) (suc i) x r e =
+    let s = split l i x r e in
+    record { within = omega (arith, s .within); front = ap (λ (z : List Step). y ∷ z) (s .front); behind = s .behind }
+
+-- the steps from link c on are those behind the first i
+abbrev pub Left : List ℕ → List Name → ℕ → ℕ → ℕ → ℕ → ℕ → Type 0
+Left s ns j i n left c = stepsIn s ns n (links left s c) ≡ drop i (chainSteps s ns j)
+
+abbrev pub stepRows : List ℕ → List Name → ℕ → ℕ → List ℕ
+stepRows s ns j i = stepsWords (take i (chainSteps s ns j))
+
+module _ (s : List ℕ) (ns : List Name) (j : ℕ) where
+  pub left-starts : Left s ns j 0 0 maxDepth j
+  unfolding chainSteps
+  left-starts = refl
+
+  -- at least one step is left
+  record Next (i n left c : ℕ) : Type 0 where
+    rest : List Step
+    at : Split (chainSteps s ns j) i (stepAs (stepRule s c) s ns c n) rest
+
+  next-step : (i n left c : ℕ) → 0 < left → Left s ns j i n left c → Next i n left c
+  next-step i n left c h e = by (goesOn s c) refl
+    where
+      by : (g : Bool) → goesOn s c ≡ g → Next i n left c
+      by true g = record { rest = _; at = split (chainSteps s ns j) i _ _ (sym e ∙ steps-more s ns n left c h g) }
+      by false g = record { rest = _; at = split (chainSteps s ns j) i _ _ (sym e ∙ steps-last s ns n left c h g) }
+
+  pub left-within : (i n left c : ℕ) → 0 < left → Left s ns j i n left c → i < linkCount s j
+  left-within i n left c h e = omega (arith, next-step i n left c h e .at .within, steps-length s ns j)
+
+  pub left-more :
+      (i n left c : ℕ) → 0 < left → goesOn s c ≡ true → Left s ns j i n left c
+      → Left s ns j (i + 1) (n + stepWidth s c) (left - 1) (restOf s c)
+  left-more i n left c h g e =
+      rw (add-one i) (sym (split (chainSteps s ns j) i _ _ (sym e ∙ steps-more s ns n left c h g) .behind))
+
+  step-rows-length : (i : ℕ) → i ≤ linkCount s j → length (stepRows s ns j i) ≡ 6 * i
+  step-rows-length i h =
+      let n = steps-length s ns j in
+      steps-six (take i (chainSteps s ns j)) ∙ ap (λ (m : ℕ). 6 * m) (length-take-le i (chainSteps s ns j) (omega arith))
+
+  words-one : (x : Step) → stepsWords (x ∷ []) ≡ stepWords x
+  unfolding stepsWords
+  words-one x = append-nil (stepWords x)
+
+  pub step-next :
+      {x₀ x y : List ℕ} (i n left c : ℕ) (z : Step) (w : List ℕ) → length x₀ ≡ 6 * linkCount s j → 0 < left → Left s ns j i n left c
+      → z ≡ stepAs (stepRule s c) s ns c n → w ≡ stepWords z → y ≡ putPart x (6 * i) 6 w → Written x₀ x (stepRows s ns j i)
+      → Written x₀ y (stepRows s ns j (i + 1))
+  step-next i n left c z w e h l p q r v =
+      let t = next-step i n left c h l .at in
+      let m = left-within i n left c h l in
+      let row : w ≡ stepWords (stepAs (stepRule s c) s ns c n) = q ∙ ap stepWords p in
+      let more : stepRows s ns j (i + 1) ≡ stepRows s ns j i ++ w =
+      ap stepsWords (ap (λ (k : ℕ). take k (chainSteps s ns j)) (add-one i) ∙ t .front)
+      ∙ steps-append (take i (chainSteps s ns j)) (stepAs (stepRule s c) s ns c n ∷ [])
+      ∙ ap (λ (k : List ℕ). stepRows s ns j i ++ k) (words-one (stepAs (stepRule s c) s ns c n) ∙ sym row) in
+      rw (r, more) (written-next v (6 * i) 6 w (step-rows-length i (omega arith)) (ap length q ∙ step-six z) (omega arith))
+
+  all-words :
+      {x₀ x : List ℕ} (i : ℕ) → length x₀ ≡ 6 * linkCount s j → linkCount s j ≤ i → Written x₀ x (stepRows s ns j i)
+      → x ≡ stepsWords (chainSteps s ns j)
+  all-words i e h v =
+      let n = steps-length s ns j in
+      let all = ap stepsWords (take-all i (chainSteps s ns j) (omega arith)) in
+      written-all v (ap length all ∙ steps-six (chainSteps s ns j) ∙ ap (λ (m : ℕ). 6 * m) n ∙ sym e) ∙ all
+
+  -- the last link is passed
+  pub step-last :
+      {x₀ x : List ℕ} (i n left c : ℕ) → length x₀ ≡ 6 * linkCount s j → 0 < left → goesOn s c ≡ false → Left s ns j i n left c
+      → Written x₀ x (stepRows s ns j (i + 1)) → x ≡ stepsWords (chainSteps s ns j)
+  step-last i n left c e h g l v =
+      let t = split (chainSteps s ns j) i _ _ (sym l ∙ steps-last s ns n left c h g) in
+      let k = ap length (t .behind) in
+      all-words (i + 1) e (omega (arith, length-drop (suc i) (chainSteps s ns j), steps-length s ns j)) v
+
+  -- no link is left
+  pub step-done :
+      {x₀ x : List ℕ} (i n left c : ℕ) → length x₀ ≡ 6 * linkCount s j → left ≤ 0 → Left s ns j i n left c
+      → Written x₀ x (stepRows s ns j i) → x ≡ stepsWords (chainSteps s ns j)
+  step-done i n left c e h l v =
+      let k = ap length (sym l ∙ steps-done s ns n left c h) in
+      all-words i e (omega (arith, length-drop i (chainSteps s ns j), steps-length s ns j)) v
+
+-- names that the step of link c does not have may stand at any place
+module _ (s : List ℕ) (ns : List Name) (c n : ℕ) where
+  pub step-index : (a b d : ℕ) → stepRule s c ≡ index → stepWith (stepRule s c) s c n a b d ≡ stepAs (stepRule s c) s ns c n
+  unfolding stepAs stepWith
+  step-index a b d h = rw h
+
+  pub step-none : (a b d : ℕ) → stepRule s c ≡ flatten.none → stepWith (stepRule s c) s c n a b d ≡ stepAs (stepRule s c) s ns c n
+  unfolding stepAs stepWith
+  step-none a b d h = rw h
+
+  pub step-method :
+      (a b d : ℕ) → stepRule s c ≡ method → a ≡ nameIn s ns (fieldA s (operandOf s c))
+      → stepWith (stepRule s c) s c n a b d ≡ stepAs (stepRule s c) s ns c n
+  unfolding stepAs stepWith
+  step-method a b d h p = rw (h, p)
+
+  pub step-property :
+      (a b d : ℕ) → a ≡ nameIn s ns (fieldA s (operandOf s c)) → b ≡ nameIn s ns (fieldB s (operandOf s c))
+      → d ≡ nameIn s ns (fieldC s (operandOf s c)) → stepWith (stepRule s c) s c n a b d ≡ stepAs (stepRule s c) s ns c n
+  unfolding stepAs
+  step-property a b d p q r = rw (p, q, r)
+
+-- chain by chain
+abbrev pub allRows : List ℕ → List Name → List ℕ → ℕ → List ℕ
+allRows s ns js i = stepsWords (stepsFrom s ns (take i js))
+
+module _ (s : List ℕ) (ns : List Name) (js : List ℕ) where
+  all-length : (is : List ℕ) → length (stepsWords (stepsFrom s ns is)) ≡ 6 * stepCount s is
+  all-length is = steps-six (stepsFrom s ns is) ∙ ap (λ (n : ℕ). 6 * n) (all-steps-length s ns is)
+
+  pub all-next :
+      {x₀ x y : List ℕ} (i at k : ℕ) (w : List ℕ) → length x₀ ≡ 6 * stepCount s js → i < length js → at ≡ 6 * stepCount s (take i js)
+      → k ≡ 6 * linkCount s (getD js i 0) → w ≡ stepsWords (chainSteps s ns (getD js i 0)) → y ≡ putPart x at k w
+      → Written x₀ x (allRows s ns js i) → Written x₀ y (allRows s ns js (i + 1))
+  all-next i at k w e h f m q r v =
+      let j = getD js i 0 in
+      let more : allRows s ns js (i + 1) ≡ allRows s ns js i ++ w =
+      ap stepsWords (ap (stepsFrom s ns) (take-more js i h) ∙ steps-snoc s ns (take i js) j)
+      ∙ steps-append (stepsFrom s ns (take i js)) (chainSteps s ns j)
+      ∙ ap (λ (l : List ℕ). allRows s ns js i ++ l) (sym q) in
+      let wide : length w ≡ k = ap length q ∙ steps-six (chainSteps s ns j) ∙ ap (λ (z : ℕ). 6 * z) (steps-length s ns j) ∙ sym m in
+      rw (r, more) (written-next v at k w (all-length (take i js) ∙ sym f) wide (omega (arith, count-more s js i h, count-part s js (i + 1))))
+
+  pub all-fits : (i at : ℕ) → i < length js → at ≡ 6 * stepCount s (take i js) → at + 6 * linkCount s (getD js i 0) ≤ 6 * stepCount s js
+  all-fits i at h f = omega (arith, count-more s js i h, count-part s js (i + 1))
+
+  pub all-end :
+      {x₀ x : List ℕ} (i : ℕ) → length x₀ ≡ 6 * stepCount s js → length js ≤ i → Written x₀ x (allRows s ns js i)
+      → x ≡ stepsWords (stepsFrom s ns js)
+  all-end i e h v =
+      let all = ap (λ (l : List ℕ). stepsWords (stepsFrom s ns l)) (take-whole js i h) in
+      written-all v (ap length all ∙ all-length js ∙ sym e) ∙ all

@@ -1,0 +1,102 @@
+-- A change of what has been made, done on the scratch: `Does` says that a call has done it, `Left` says what is left of it to do on the
+-- way. Both ask that what is emitted in the end has its room, and the way there needs no more than that.
+use Prim.Native.Nat.{ℕ, _≤_}
+use mathlib.Core.Path.{_≡_, refl, sym, ap, _∙_, subst}
+use mathlib.Core.List.{List}
+use native.Mathlib.Omega.{arith}
+use Rattle.lowering.specs.Nodes.{Valid}
+use Rattle.chains.specs.Pooled.{Pooled}
+use Rattle.emission.specs.Made.{Made}
+use Rattle.emission.specs.Construct.{addChain, chainPlace}
+use Rattle.store.specs.declared.Layout.{Layout}
+use Rattle.store.specs.declared.State.{State}
+use Rattle.store.specs.declared.Placed.{Placed}
+use Rattle.store.specs.Holds.{Holds}
+
+-- what is emitted has its room
+abbrev pub Fits : Layout → Made → Type 0
+Fits l a = a .pools .emitted ≤ l .most
+
+-- a change that takes back no count of what is emitted
+pub record Growing (F : Made → Made) : Type 0 where
+  pub each : (a : Made) → a .pools .emitted ≤ F a .pools .emitted
+
+-- F is done on the way from (xs, st) to (ys, r)
+pub record Does (s : List ℕ) (l : Layout) (xs : List ℕ) (st : State) (ys : List ℕ) (r : State) (F : Made → Made) : Type 0 where
+  pub holds : (a : Made) → Holds s l xs st a → Fits l (F a) → Holds s l ys r (F a)
+
+-- something is held whose G is F of what was held
+pub record Rest (s : List ℕ) (l : Layout) (ys : List ℕ) (r : State) (G : Made → Made) (z : Made) : Type 0 where
+  pub now : Made
+  pub held : Holds s l ys r now
+  pub same : G now ≡ z
+
+-- F is to be done from (xs, st); what is left to do at (ys, r) is G
+pub record Left (s : List ℕ) (l : Layout) (xs : List ℕ) (st : State) (F : Made → Made) (ys : List ℕ) (r : State) (G : Made → Made) : Type 0 where
+  pub each : (a : Made) → Holds s l xs st a → Fits l (F a) → Rest s l ys r G (F a)
+
+module _ {s : List ℕ} {l : Layout} where
+  pub left-start : (xs : List ℕ) (st : State) (F : Made → Made) → Left s l xs st F xs st F
+  left-start xs st F = record { each = λ a h f. record { now = a; held = h; same = refl } }
+
+  -- H is done next, and G′ is left
+  pub left-by : {xs ys zs : List ℕ} {st r t : State} {F G H : Made → Made} (G′ : Made → Made) → Left s l xs st F ys r G → Does s l ys r zs t H → ((b : Made) → Holds s l ys r b → G b ≡ G′ (H b)) → Growing G′ → Left s l xs st F zs t G′
+  left-by {H = H} G′ left does e grows = record {
+    each = λ a h f.
+        let o = left .each a h f in
+        let same : G′ (H (o .now)) ≡ _ = sym (e (o .now) (o .held)) ∙ o .same in
+        let room = subst (Fits l) (sym same) f in
+        let more = grows .each (H (o .now)) in
+        record { now = H (o .now); held = does .holds (o .now) (o .held) (omega arith); same = same };
+  }
+
+  -- nothing is left
+  pub left-end : {xs ys : List ℕ} {st r : State} {F : Made → Made} → Left s l xs st F ys r (λ a. a) → Does s l xs st ys r F
+  left-end left = record { holds = λ a h f. let o = left .each a h f in subst (Holds s l _ _) (o .same) (o .held) }
+
+  -- what is left is done at once
+  pub left-done : {xs ys zs : List ℕ} {st r t : State} {F G : Made → Made} → Left s l xs st F ys r G → Does s l ys r zs t G → Does s l xs st zs t F
+  left-done left does = record {
+    holds = λ a h f.
+        let o = left .each a h f in
+        subst (Holds s l _ _) (o .same) (does .holds (o .now) (o .held) (subst (Fits l) (sym (o .same)) f));
+  }
+
+  -- F, and then G
+  pub does-seq : {xs ys zs : List ℕ} {st r t : State} {F G : Made → Made} → Growing G → Does s l xs st ys r F → Does s l ys r zs t G → Does s l xs st zs t (λ a. G (F a))
+  does-seq {F = F} grows first next = record {
+    holds = λ a h f. let more = grows .each (F a) in next .holds (F a) (first .holds a h (omega arith)) f;
+  }
+
+  -- F, and then G, which needs to know what F has made
+  pub does-next : {xs ys zs : List ℕ} {st r t : State} {F : Made → Made} (G : Made → Made) → Growing G → Does s l xs st ys r F → ((a : Made) → Holds s l ys r (F a) → Fits l (G (F a)) → Holds s l zs t (G (F a))) → Does s l xs st zs t (λ a. G (F a))
+  does-next {F = F} G grows first next = record {
+    holds = λ a h f. let more = grows .each (F a) in next a (first .holds a h (omega arith)) f;
+  }
+
+  -- the same change in other words
+  pub does-same : {xs ys : List ℕ} {st r : State} {F : Made → Made} (G : Made → Made) → ((a : Made) → Holds s l xs st a → F a ≡ G a) → Does s l xs st ys r F → Does s l xs st ys r G
+  does-same G e does = record {
+    holds = λ a h f. subst (Holds s l _ _) (e a h) (does .holds a h (subst (Fits l) (sym (e a h)) f));
+  }
+
+  -- nothing to do
+  pub does-none : (xs : List ℕ) (st : State) → Does s l xs st xs st (λ a. a)
+  does-none xs st = record { holds = λ a h f. h }
+
+-- changes in a row
+pub growing-none : Growing (λ a. a)
+growing-none = record { each = λ a. omega arith }
+
+pub growing-seq : {F G : Made → Made} → Growing F → Growing G → Growing (λ a. G (F a))
+growing-seq {F} f g = record { each = λ a. let x = f .each a in let y = g .each (F a) in omega arith }
+
+-- an entry added to a pool, and its place there; Asked is what is asked of the node
+pub record Adds (s : List ℕ) (l : Layout) (xs : List ℕ) (st : State) (ys : List ℕ) (p : Placed) (Asked : Type 0) (F : Made → Made) (P : Made → ℕ) : Type 0 where
+  pub does : Asked → Does s l xs st ys (p .st) F
+  pub place : (a : Made) → Holds s l xs st a → p .at ≡ P a
+
+-- the same for the chain of node j, where its names are pooled
+pub record AddsChain (s : List ℕ) (l : Layout) (xs : List ℕ) (st : State) (ys : List ℕ) (p : Placed) (j : ℕ) : Type 0 where
+  pub holds : Valid s j → (a : Made) → Holds s l xs st a → Pooled s (a .pools .names) j → Holds s l ys (p .st) (addChain s j a)
+  pub place : (a : Made) → Holds s l xs st a → Pooled s (a .pools .names) j → p .at ≡ chainPlace s j a

@@ -1,0 +1,41 @@
+-- What a state that is held says of what has been made: counts, depth, and how few they are.
+use Prim.Native.Nat.{ℕ, suc, _≤_}
+use mathlib.Core.Path.{_≡_, refl, ap, _∙_}
+use mathlib.Core.List.{List, [], _∷_, map}
+use native.Mathlib.Omega.{arith}
+use lib.ListN.{length}
+use Rattle.sheet.specs.Limits.{maxNodes}
+use Rattle.sheet.specs.Node.{fieldC}
+use Rattle.lowering.specs.Limits.{maxEmitted}
+use Rattle.emission.specs.Made.{Made}
+use Rattle.store.specs.declared.Layout.{Layout}
+use Rattle.store.specs.declared.State.{State}
+use Rattle.store.specs.Places.{tokensAt, region}
+use Rattle.store.specs.Holds.{Holds}
+use Rattle.store.specs.AddLaws.{keys-few}
+
+length-mapped : {A B : Type 0} (f : A → B) (xs : List A) → length (map f xs) ≡ length xs
+length-mapped f [] = refl
+length-mapped f (x ∷ xs) = ap suc (length-mapped f xs)
+
+module _ {s : List ℕ} {l : Layout} {xs : List ℕ} {st : State} {a : Made} (h : Holds s l xs st a) where
+  pub code-is : st .code ≡ length (a .code)
+  code-is = h .counts .code
+
+  pub code-low : length (a .code) ≤ a .pools .emitted
+  code-low = let c = h .counts in omega (arith, c .code, c .emitted, c .standing)
+
+  pub most-few : l .most ≤ maxEmitted
+  most-few = h .fit .few
+
+  pub depth-is : st .depth ≡ a .depth
+  depth-is = h .counts .depth
+
+  pub depth-low : a .depth ≤ a .pools .emitted
+  depth-low = let c = h .counts in omega (arith, c .depth, c .emitted, c .low)
+
+  pub tokens-few : length (a .pools .tokens) ≤ maxNodes
+  tokens-few =
+      let k = h .pooled in
+      let n = ap length (k .tokens) ∙ length-mapped (fieldC s) (region (tokensAt l) (st .tokens) xs) ∙ k .token-keys .count in
+      omega (arith, n, keys-few (k .token-keys), h .fit .small)

@@ -1,0 +1,16 @@
+pub mod Places
+pub mod Distinct
+pub mod RegionLaws
+pub mod Holds
+pub mod Does
+pub mod States
+pub mod GrowingLaws
+pub mod FrameLaws
+pub mod EmitLaws
+pub mod ResidualLaws
+pub mod AddLaws
+pub mod AddsLaws
+pub mod Effects
+pub mod EffectLaws
+pub mod TableLaws
+pub mod HoldsLaws

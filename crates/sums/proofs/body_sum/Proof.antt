@@ -1,0 +1,129 @@
+-- `sums::body_sum` meets its contract. Invariant: what is passed and what is left make the whole, cut off.
+use borrow.Author.Needs.{needs}
+use native.Mathlib.Omega.{arith}
+use Prim.Native.Nat.{_-_, _≤_}
+use mathlib.Core.Path.{_≡_}
+use Prim.Native.Nat.{ℕ}
+use mathlib.Core.List.{List}
+use Rattle.sheet.specs.Node.{fieldA}
+use Rattle.lowering.specs.SwitchSheet.{bodyOf}
+use Rattle.counting.specs.Tally.{capped, plus, nothing}
+use Rattle.sums.specs.Reach.{AllMarked}
+use Rattle.sums.specs.BodyLaws.{bodiesLeft, first-body, next-body, bodies-on, bodies-end}
+use Rattle.sums.proofs.body_sum.Statement.{statement}
+use Rattle.sums.proofs.body_sum.Tie as tie
+
+abbrev Inv-loop : tie.InvT-loop
+Inv-loop s def a n d sum₀ j₀ k₀ sum j k =
+    (k ≤ n) × ((n ≤ 64) × ((j ≡ bodyOf s k) × ((ls : List (List ℕ)) → AllMarked s a ls
+    → capped (plus sum (bodiesLeft s ls d n k)) ≡ capped (plus nothing (bodiesLeft s ls d n 0)))))
+
+abbrev μ-loop : tie.MeasureT-loop
+μ-loop s def a n d sum₀ j₀ k₀ sum j k = n - k
+
+field-a-requires : tie.Need-field-a-requires Inv-loop μ-loop
+field-a-requires c κs = search needs
+
+cast-at-most : tie.Need-cast-at-most Inv-loop μ-loop
+cast-at-most c = search needs
+
+at-most-requires : tie.Need-at-most-requires Inv-loop μ-loop
+at-most-requires c κs = search needs
+
+nothing-requires : tie.Need-nothing-requires Inv-loop μ-loop
+nothing-requires c κs = search needs
+
+child-requires : tie.Need-child-requires Inv-loop μ-loop
+child-requires c κs = search needs
+
+next-requires : tie.Need-next-requires Inv-loop μ-loop
+next-requires c κs = search needs
+
+next-requires-2 : tie.Need-next-requires-2 Inv-loop μ-loop
+next-requires-2 c κs = search needs
+
+loop-holds : tie.Need-loop-holds Inv-loop μ-loop
+loop-holds c = (omega arith, (omega arith, (cc (first-body _), λ ls w. cc)))
+
+add-body : tie.Need-add-body Inv-loop μ-loop
+add-body c = omega arith
+
+array-read-body : tie.Need-array-read-body Inv-loop μ-loop
+array-read-body c = omega arith
+
+body-requires : tie.Need-body-requires Inv-loop μ-loop
+body-requires c κs = search needs
+
+plus-requires : tie.Need-plus-requires Inv-loop μ-loop
+plus-requires c κs = search needs
+
+next-requires-3 : tie.Need-next-requires-3 Inv-loop μ-loop
+next-requires-3 c κs = search needs
+
+next-requires-4 : tie.Need-next-requires-4 Inv-loop μ-loop
+next-requires-4 c κs = search needs
+
+add-k : tie.Need-add-k Inv-loop μ-loop
+add-k c = omega arith
+
+loop-less : tie.Need-loop-less Inv-loop μ-loop
+loop-less c = omega arith
+
+loop-again : tie.Need-loop-again Inv-loop μ-loop
+loop-again c =
+    let a = c .before .before .before .before .before .before .before .before .before .before .before .before .before .args in
+    let n = c .before .before .before .before .before .before .before .before .before .before .at-most in
+    let l = c .before .before .before .before .before .loop in (
+      omega arith,
+      (
+        l .inv .1 .0,
+        (
+          cc (next-body (a .s .now) (l .j) (l .k) (l .inv .1 .1 .0)),
+          λ ls w. bodies-on (a .s .now) ls (a .def) (n .result) (a .t2) (l .sum) _ (c .before .before .plus .result)
+              (c .before .before .before .body .result) (l .j) (l .k) w
+              (c .before .before .before .before .loop-test .taken) (l .inv .1 .0) (l .inv .1 .1 .0) (c .before .before .plus .ensures)
+              (c .before .before .before .body .ensures) (l .inv .1 .1 .1 ls w),
+        ),
+      ),
+    )
+
+nothing-requires-2 : tie.Need-nothing-requires-2 Inv-loop μ-loop
+nothing-requires-2 c κs = search needs
+
+plus-requires-2 : tie.Need-plus-requires-2 Inv-loop μ-loop
+plus-requires-2 c κs = search needs
+
+returns : tie.Need-returns Inv-loop μ-loop
+returns c ls w =
+    let a = c .before .before .before .before .before .before .before .before .before .before .before .args in
+    let n = c .before .before .before .before .before .before .before .before .at-most in
+    let l = c .before .before .before .loop in
+    bodies-end (a .s .now) ls (a .def) (n .result) (l .sum) (c .plus2 .result) (c .before .nothing2 .result) (l .k) (fieldA (a .s .now) 0)
+    (c .before .before .loop-test .left) (cc) (c .plus2 .ensures) (c .before .nothing2 .ensures) (l .inv .1 .1 .1 ls w)
+
+pub body-sum-spec : {M : Type 1} → statement M
+body-sum-spec =
+    tie.close
+    (tie.spec
+    Inv-loop
+    μ-loop
+    field-a-requires
+    cast-at-most
+    at-most-requires
+    nothing-requires
+    child-requires
+    next-requires
+    next-requires-2
+    loop-holds
+    add-body
+    array-read-body
+    body-requires
+    plus-requires
+    next-requires-3
+    next-requires-4
+    add-k
+    loop-less
+    loop-again
+    nothing-requires-2
+    plus-requires-2
+    returns)

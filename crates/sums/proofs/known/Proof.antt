@@ -1,0 +1,50 @@
+-- `sums::known` meets its contract. One law for each kind of guard.
+use Rattle.sums.specs.KnownLaws.{known-never, known-always, known-tried}
+use borrow.Author.Needs.{needs}
+use Rattle.sums.proofs.known.Statement.{statement}
+use Rattle.sums.proofs.known.Tie as tie
+
+guard-kind-requires : tie.Need-guard-kind-requires
+guard-kind-requires c κs = search needs
+
+enum-told : tie.Need-enum-told
+enum-told c = search needs
+
+enum-told-2 : tie.Need-enum-told-2
+enum-told-2 c = search needs
+
+enum-told-3 : tie.Need-enum-told-3
+enum-told-3 c = search needs
+
+tally-requires : tie.Need-tally-requires
+tally-requires c κs = search needs
+
+instructions-requires : tie.Need-instructions-requires
+instructions-requires c κs = search needs
+
+plus-requires : tie.Need-plus-requires
+plus-requires c κs = search needs
+
+returns : tie.Need-returns
+returns c = let a = c .before .before .before .before .args in cc (known-never (a .s .now) (a .g) (cc))
+
+returns-2 : tie.Need-returns-2
+returns-2 c = let a = c .before .before .before .before .args in cc (known-always (a .s .now) (a .g) (cc))
+
+returns-3 : tie.Need-returns-3
+returns-3 c = let a = c .before .before .before .before .before .before .before .args in cc (known-tried (a .s .now) (a .g) (cc))
+
+pub known-spec : {M : Type 1} → statement M
+known-spec =
+    tie.close
+    (tie.spec
+    guard-kind-requires
+    enum-told
+    enum-told-2
+    enum-told-3
+    tally-requires
+    instructions-requires
+    plus-requires
+    returns
+    returns-2
+    returns-3)

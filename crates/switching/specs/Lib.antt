@@ -1,0 +1,16 @@
+pub mod Change
+pub mod TryLaws
+pub mod ArmLaws
+pub mod ArmsLaws
+pub mod BodyLaws
+pub mod SwitchLaws
+pub mod GrowLaws
+pub mod LoopLaws
+pub mod LastLaws
+pub mod WantLaws
+pub mod SameLaws
+pub mod BlockLaws
+pub mod NodeLaws
+pub mod WholeLaws
+pub mod TargetLaws
+pub mod TableLaws

@@ -1,0 +1,30 @@
+-- `tables::guard_of` meets its contract. A law joins the two walks.
+use Rattle.tables.specs.NodesLaws.{guard-at}
+use borrow.Author.Needs.{needs}
+use Rattle.tables.proofs.guard_of.Statement.{statement}
+use Rattle.tables.proofs.guard_of.Tie as tie
+
+child-requires : tie.Need-child-requires
+child-requires c κs = search needs
+
+skip-requires : tie.Need-skip-requires
+skip-requires c κs = search needs
+
+next-requires : tie.Need-next-requires
+next-requires c κs = search needs
+
+skip-requires-2 : tie.Need-skip-requires-2
+skip-requires-2 c κs = search needs
+
+returns : tie.Need-returns
+returns c = cc (guard-at (c .before .before .before .before .before .args .s .now) (c .before .before .before .before .before .args .k))
+
+pub guard-of-spec : {M : Type 1} → statement M
+guard-of-spec =
+    tie.close
+    (tie.spec
+    child-requires
+    skip-requires
+    next-requires
+    skip-requires-2
+    returns)

@@ -1,0 +1,14 @@
+pub mod Listed
+pub mod ListedLaws
+pub mod NodesLaws
+pub mod WalkLaws
+pub mod Guards
+pub mod Ranges
+pub mod RangesLaws
+pub mod Runs
+pub mod RunsLaws
+pub mod Accepted
+pub mod Heads
+pub mod HeadsLaws
+pub mod HeadLoops
+pub mod Whole

@@ -1,0 +1,82 @@
+-- `tails::put_switches` meets its contract: a part of the image becomes the section.
+use Rattle.tails.specs.TailLengths.{switch-words}
+use Rattle.rows.specs.Rows.{tablesOf}
+use Rattle.bytecode.specs.Switch.{switchWords}
+use Rattle.lowering.specs.Image.{section}
+use Rattle.image.specs.Puts.{puts-part, puts-none}
+use Prim.Native.Nat.{_*_}
+use native.Mathlib.Omega.{arith}
+use borrow.Author.Needs.{needs}
+use Rattle.tails.proofs.put_switches.Statement.{statement}
+use Rattle.tails.proofs.put_switches.Tie as tie
+
+table-count-requires : tie.Need-table-count-requires
+table-count-requires c κs = search needs
+
+cast-k : tie.Need-cast-k
+cast-k c = search needs
+
+mul-k : tie.Need-mul-k
+mul-k c = search needs
+
+beyond-requires : tie.Need-beyond-requires
+beyond-requires c κs = search needs
+
+returns : tie.Need-returns
+returns c =
+    let a = c .before .before .before .before .args in
+    puts-none (a .image .now) (a .at) (section switchWords (tablesOf (a .cases) (a .fallback) (a .ranges) (a .default)))
+    (omega (
+      arith,
+      c .before .beyond .ensures .beyond (c .if1 .taken),
+      c .before .before .table-count .ensures,
+      switch-words (a .cases) (a .fallback) (a .ranges) (a .default),
+    ))
+
+add-e : tie.Need-add-e
+add-e c = omega (arith, c .before .beyond .ensures .within (c .if1 .left))
+
+mul-switch-rows : tie.Need-mul-switch-rows
+mul-switch-rows c = omega (arith, c .before .beyond .ensures .within (c .if1 .left))
+
+sub-switch-rows : tie.Need-sub-switch-rows
+sub-switch-rows c = search needs
+
+part-switch-rows-start : tie.Need-part-switch-rows-start
+part-switch-rows-start c = search needs
+
+part-switch-rows-end : tie.Need-part-switch-rows-end
+part-switch-rows-end c = omega (arith, c .before .beyond .ensures .within (c .if1 .left))
+
+switch-rows-requires : tie.Need-switch-rows-requires
+switch-rows-requires c κs = search needs
+
+same-length : tie.Need-same-length
+same-length c = search needs
+
+returns-2 : tie.Need-returns-2
+returns-2 c =
+    let c6 = c .before .before .before .before .before .before in
+    let a = c6 .before .before .args in
+    puts-part (a .image .now) (a .at) (4 * c6 .table-count .result) _
+    (section switchWords (tablesOf (a .cases) (a .fallback) (a .ranges) (a .default)))
+    (c .before .before .switch-rows .ensures)
+    (omega (arith, c6 .table-count .ensures, switch-words (a .cases) (a .fallback) (a .ranges) (a .default)))
+
+pub put-switches-spec : {M : Type 1} → statement M
+put-switches-spec =
+    tie.close
+    (tie.spec
+    table-count-requires
+    cast-k
+    mul-k
+    beyond-requires
+    returns
+    add-e
+    mul-switch-rows
+    sub-switch-rows
+    part-switch-rows-start
+    part-switch-rows-end
+    switch-rows-requires
+    same-length
+    returns-2)

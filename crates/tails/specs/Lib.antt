@@ -1,0 +1,2 @@
+pub mod TailLengths
+pub mod Tail

@@ -1,0 +1,44 @@
+-- One law for each number.
+use native.Mathlib.Omega.{arith}
+use Rattle.to_image.specs.AnswerLaws.{early-9, early-10, early-11, early-none, early-few, check-stays, refused-early, refused-long, lowered-whole}
+use borrow.Author.Needs.{needs}
+use Rattle.to_image.proofs.refusal.Statement.{statement}
+use Rattle.to_image.proofs.refusal.Tie as tie
+use Rattle.to_image.proofs.refusal.Reads as reads
+use Rattle.to_image.proofs.refusal.Lts as lts
+
+-- src/lib.rt:44:9
+returns : tie.Need-returns
+returns c = early-9 _ _ _ _ (c .if1 .taken)
+
+-- src/lib.rt:47:9
+returns-2 : tie.Need-returns-2
+returns-2 c = early-10 _ _ _ _ (c .before .before .if1 .left) (omega arith)
+
+-- src/lib.rt:49:27
+mul-if3 : tie.Need-mul-if3
+mul-if3 c = search needs
+
+-- src/lib.rt:49:53
+mul-if3-2 : tie.Need-mul-if3-2
+mul-if3-2 c = search needs
+
+-- src/lib.rt:49:27
+add-if3 : tie.Need-add-if3
+add-if3 c = search needs
+
+-- src/lib.rt:49:27
+add-if3-2 : tie.Need-add-if3-2
+add-if3-2 c = search needs
+
+-- src/lib.rt:50:9
+returns-3 : tie.Need-returns-3
+returns-3 c = early-11 _ _ _ _ (c .before .before .before .before .if1 .left) (omega arith) (omega arith)
+
+-- src/lib.rt:40:1
+returns-4 : tie.Need-returns-4
+returns-4 c = early-none _ _ _ _ (c .before .before .before .before .if1 .left) (omega arith) (omega arith)
+
+pub refusal-spec : {M : Type 1} → statement M
+refusal-spec =
+    tie.close (tie.spec returns returns-2 mul-if3 mul-if3-2 add-if3 add-if3-2 returns-3 returns-4)

@@ -1,0 +1,121 @@
+use borrow.Author.Needs.{needs}
+-- Each target as its Case gives it.
+use native.Mathlib.Omega.{arith}
+use Prim.Native.Nat.{_-_, _≤_}
+use mathlib.Core.Path.{_≡_, refl, _∙_}
+use lib.ListN.{take, length, length-set}
+use Rattle.sheet.specs.Walk.{skip}
+use Rattle.switches.specs.Switch.{firstCase}
+use Rattle.tables.specs.Heads.{caseKey, keys}
+use Rattle.compile.specs.CycleDoes.{skip-more}
+use Rattle.to_image.specs.CaseTargets.{Aiming, caseAim, aim-is, first-at}
+use Rattle.to_image.specs.First.{First, first-none, first-more, first-done}
+use Rattle.to_image.proofs.targets.case_targets.Statement.{statement}
+use Rattle.to_image.proofs.targets.case_targets.Tie as tie
+use Rattle.to_image.proofs.targets.case_targets.Reads as reads
+use Rattle.to_image.proofs.targets.case_targets.Lts as lts
+use Rattle.places.proofs.case_target.Reads as case-target-reads
+use Rattle.sheet.proofs.field_b.Reads as field-b-reads
+use Rattle.sheet.proofs.next.Reads as next-reads
+use Rattle.switches.proofs.first_case.Reads as first-case-reads
+use Rattle.tables.proofs.case_blocks.Reads as case-blocks-reads
+use Rattle.to_image.proofs.targets.at_most.Reads as at-most-reads
+use Rattle.to_image.proofs.targets.no_targets.Reads as no-targets-reads
+
+abbrev Inv-loop : tie.InvT-loop
+Inv-loop s g h y n want at r₀ c₀ i₀ r c i = (i ≤ n) × (n ≤ 64) × (length r ≡ 64) × (c ≡ skip s i (firstCase s)) × (Aiming s (g .at) (g .n) (y .want) (y .at) (y .cases) (keys (caseKey s) (take (h .n) (h .at))) → First (caseAim s (y .cases) (y .fallback) (keys (caseKey s) (take (h .n) (h .at)))) r i)
+
+abbrev μ-loop : tie.MeasureT-loop
+μ-loop s g h y n want at r₀ c₀ i₀ r c i = n - i
+
+-- src/targets.rt:36:21
+field-b-requires : tie.Need-field-b-requires Inv-loop μ-loop
+field-b-requires c κs = search needs
+
+-- src/targets.rt:36:21
+cast-at-most : tie.Need-cast-at-most Inv-loop μ-loop
+cast-at-most c = search needs
+
+-- src/targets.rt:36:9
+at-most-requires : tie.Need-at-most-requires Inv-loop μ-loop
+at-most-requires c κs = search needs
+
+-- src/targets.rt:39:17
+no-targets-requires : tie.Need-no-targets-requires Inv-loop μ-loop
+no-targets-requires c κs = search needs
+
+-- src/targets.rt:40:9
+first-case-requires : tie.Need-first-case-requires Inv-loop μ-loop
+first-case-requires c κs = search needs
+
+-- src/targets.rt:42:5
+loop-holds : tie.Need-loop-holds Inv-loop μ-loop
+loop-holds c = (omega arith, omega (arith, c .before .before .before .before .at-most .ensures), c .before .no-targets .ensures, first-at _ _ (c .first-case .ensures), λ A. first-none _ _)
+
+-- src/targets.rt:43:68
+case-blocks-requires : tie.Need-case-blocks-requires Inv-loop μ-loop
+case-blocks-requires c κs = search needs
+
+-- src/targets.rt:43:16
+case-target-requires : tie.Need-case-target-requires Inv-loop μ-loop
+case-target-requires c κs = search needs
+
+-- src/targets.rt:43:9
+mul-r : tie.Need-mul-r Inv-loop μ-loop
+mul-r c = search needs
+
+-- src/targets.rt:43:9
+array-write-r : tie.Need-array-write-r Inv-loop μ-loop
+array-write-r c = let w = c .before .before .before .loop in search (needs, w .inv .2)
+
+-- src/targets.rt:44:9
+next-requires : tie.Need-next-requires Inv-loop μ-loop
+next-requires c κs = search needs
+
+-- src/targets.rt:45:9
+add-i : tie.Need-add-i Inv-loop μ-loop
+add-i c = omega arith
+
+-- src/targets.rt:42:5
+loop-less : tie.Need-loop-less Inv-loop μ-loop
+loop-less c = omega arith
+
+-- src/targets.rt:42:5
+loop-again : tie.Need-loop-again Inv-loop μ-loop
+loop-again c =
+    let w = c .before .before .before .before .loop in
+    let a = c .before .before .before .before .before .before .before .before .before .before .before .before .args in (
+      omega arith,
+      w .inv .1,
+      length-set (w .r) (w .i) (c .before .case-target .result) ∙ w .inv .2,
+      skip-more _ _ _ _ _ (w .inv .3) (c .next .ensures),
+      λ A. first-more _ _ _ _ (omega (arith, w .inv .2))
+          (aim-is _ _ _ _ _ _ _ _ (w .inv .3) (c .before .before .case-blocks .ensures .items) (c .before .case-target .ensures (A .rows) (A .bodies) (A .few) (A .room)))
+          (w .inv .4 A),
+    )
+
+-- src/targets.rt:32:1
+returns : tie.Need-returns Inv-loop μ-loop
+returns c = let w = c .before .loop in λ A. first-done _ _ _ _ (let z = c .before .before .before .before .before .before .at-most .ensures in let y = c .before .before .before .before .before .before .before .field-b .ensures in omega arith) (w .inv .4 A)
+
+pub case-targets-spec : {M : Type 1} → statement M
+case-targets-spec =
+    tie.close
+    (tie.spec
+    Inv-loop
+    μ-loop
+    field-b-requires
+    cast-at-most
+    at-most-requires
+    no-targets-requires
+    first-case-requires
+    loop-holds
+    case-blocks-requires
+    case-target-requires
+    mul-r
+    array-write-r
+    next-requires
+    add-i
+    loop-less
+    loop-again
+    returns)

@@ -1,0 +1,109 @@
+use borrow.Author.Needs.{needs}
+-- Each target as its run gives it.
+use native.Mathlib.Omega.{arith}
+use Prim.Native.Nat.{_-_, _≤_}
+use mathlib.Core.Path.{_≡_, refl, _∙_}
+use lib.ListN.{take, length, getD, length-set}
+use Rattle.cases.specs.Held.{held}
+use Rattle.tables.specs.Ranges.{rangesIn}
+use Rattle.tables.specs.ListedLaws.{length-mapped}
+use Rattle.tables.specs.Heads.{runKey, keys, noRun}
+use Rattle.to_image.specs.CaseTargets.{Aiming}
+use Rattle.to_image.specs.RunTargets.{runAim, run-aim-is}
+use Rattle.to_image.specs.First.{First, first-none, first-more, first-done}
+use Rattle.to_image.proofs.targets.run_targets.Statement.{statement}
+use Rattle.to_image.proofs.targets.run_targets.Tie as tie
+use Rattle.to_image.proofs.targets.run_targets.Reads as reads
+use Rattle.to_image.proofs.targets.run_targets.Lts as lts
+use Rattle.places.proofs.run_target.Reads as run-target-reads
+use Rattle.tables.proofs.piece_blocks.Reads as piece-blocks-reads
+use Rattle.to_image.proofs.targets.at_most_runs.Reads as at-most-runs-reads
+use Rattle.to_image.proofs.targets.no_run_targets.Reads as no-run-targets-reads
+
+abbrev Inv-loop : tie.InvT-loop
+Inv-loop s g x p e y start n runs want at r₀ i₀ r i = (i ≤ n) × (n ≤ 255) × (length runs ≡ 255) × (length r ≡ 255) × (Aiming s (g .at) (g .n) (y .want) (y .at) start (keys (runKey (rangesIn (x .at) (x .n)) (held (p .at) (p .n))) (take (e .n) (e .at))) → First (runAim s start (y .default) (keys (runKey (rangesIn (x .at) (x .n)) (held (p .at) (p .n))) (take (e .n) (e .at))) (rangesIn (x .at) (x .n)) (held (p .at) (p .n)) runs) r i)
+
+abbrev μ-loop : tie.MeasureT-loop
+μ-loop s g x p e y start n runs want at r₀ i₀ r i = n - i
+
+-- src/targets.rt:78:9
+at-most-runs-requires : tie.Need-at-most-runs-requires Inv-loop μ-loop
+at-most-runs-requires c κs = search needs
+
+-- src/targets.rt:82:17
+no-run-targets-requires : tie.Need-no-run-targets-requires Inv-loop μ-loop
+no-run-targets-requires c κs = search needs
+
+-- src/targets.rt:84:5
+loop-holds : tie.Need-loop-holds Inv-loop μ-loop
+loop-holds c = (omega arith, omega (arith, c .before .before .before .before .at-most-runs .ensures), search (needs, length-mapped), c .no-run-targets .ensures, λ A. first-none _ _)
+
+-- src/targets.rt:85:17
+mul-w : tie.Need-mul-w Inv-loop μ-loop
+mul-w c = omega arith
+
+-- src/targets.rt:85:17
+array-copy-out-w : tie.Need-array-copy-out-w Inv-loop μ-loop
+array-copy-out-w c = let w = c .before .loop in omega (arith, w .inv .2)
+
+-- src/targets.rt:86:70
+piece-blocks-requires : tie.Need-piece-blocks-requires Inv-loop μ-loop
+piece-blocks-requires c κs = search needs
+
+-- src/targets.rt:86:16
+run-target-requires : tie.Need-run-target-requires Inv-loop μ-loop
+run-target-requires c κs = search needs
+
+-- src/targets.rt:86:9
+mul-r : tie.Need-mul-r Inv-loop μ-loop
+mul-r c = search needs
+
+-- src/targets.rt:86:9
+array-write-r : tie.Need-array-write-r Inv-loop μ-loop
+array-write-r c = let w = c .before .before .before .before .loop in search (needs, w .inv .3)
+
+-- src/targets.rt:87:9
+add-i : tie.Need-add-i Inv-loop μ-loop
+add-i c = omega arith
+
+-- src/targets.rt:84:5
+loop-less : tie.Need-loop-less Inv-loop μ-loop
+loop-less c = omega arith
+
+-- src/targets.rt:84:5
+loop-again : tie.Need-loop-again Inv-loop μ-loop
+loop-again c =
+    let w = c .before .before .before .before .loop in
+    let a = c .before .before .before .before .before .before .before .before .before .before .before .args in (
+      omega arith,
+      w .inv .1,
+      w .inv .2,
+      length-set (w .r) (w .i) (c .run-target .result) ∙ w .inv .3,
+      λ A. first-more _ (w .r) (w .i) _ (omega (arith, w .inv .3))
+          (run-aim-is _ _ _ _ (rangesIn (a .x .at) (a .x .n)) (held (a .p .at) (a .p .n)) (a .q .at) _ (w .i) (getD (a .q .at) (w .i) noRun) _ refl (c .before .piece-blocks .ensures .items) (c .run-target .ensures (A .rows) (A .bodies) (A .few) (A .room)))
+          (w .inv .4 A),
+    )
+
+-- src/targets.rt:73:1
+returns : tie.Need-returns Inv-loop μ-loop
+returns c = let w = c .before .loop in λ A. first-done _ _ _ _ (let z = c .before .before .before .before .before .before .at-most-runs .ensures in omega arith) (w .inv .4 A)
+
+pub run-targets-spec : {M : Type 1} → statement M
+run-targets-spec =
+    tie.close
+    (tie.spec
+    Inv-loop
+    μ-loop
+    at-most-runs-requires
+    no-run-targets-requires
+    loop-holds
+    mul-w
+    array-copy-out-w
+    piece-blocks-requires
+    run-target-requires
+    mul-r
+    array-write-r
+    add-i
+    loop-less
+    loop-again
+    returns)

@@ -1,0 +1,11 @@
+pub mod Answer
+pub mod AnswerLaws
+pub mod PlainLaws
+pub mod SwitchLaws
+pub mod AimLaws
+pub mod BuiltLaws
+pub mod TableLaws
+pub mod First
+pub mod CaseTargets
+pub mod RunTargets
+pub mod HeldLaws

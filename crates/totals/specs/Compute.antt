@@ -1,0 +1,23 @@
+-- The total opened for computation: whoever says `unfolding totalNumbers` has everything below it unfolded.
+use Prim.Native.Nat.{ℕ}
+use mathlib.Core.List.{List}
+use Rattle.lowering.specs.Compute.{checkedNumber, expressionOut, switchProgram}
+use Rattle.cases.specs.Split as Split
+use Rattle.counting.specs.declared.tallies.Tally.{Tally}
+use Rattle.counting.specs.Tally as CountingTally
+use Rattle.counting.specs.Plan as CountingPlan
+use Rattle.counting.specs.Link as CountingLink
+use Rattle.counting.specs.Count as CountingCount
+use Rattle.totals.specs.Arms
+use Rattle.totals.specs.Bodies
+use Rattle.totals.specs.Total
+
+-- a node
+unfoldable pub nodeTally : ℕ → List ℕ → ℕ → Tally
+unfolding checkedNumber expressionOut CountingTally.instructions CountingTally.nothing CountingTally.evaluation CountingTally.plus CountingTally.takenBack CountingTally.capped CountingPlan.array CountingPlan.interpolated CountingPlan.shortCircuit CountingPlan.makeFnPtr CountingPlan.allArgs CountingPlan.otherArgs CountingPlan.rotates CountingPlan.callBy CountingPlan.fnCallBy CountingPlan.fnCall CountingPlan.planBy CountingPlan.plan CountingLink.linkBy CountingLink.link CountingLink.grade CountingLink.least CountingLink.temporary CountingCount.siblings CountingCount.coalesce CountingCount.walkOn CountingCount.walk CountingCount.chainBy CountingCount.chain CountingCount.follow CountingCount.tally
+nodeTally levels s j = CountingCount.tally levels s j
+
+-- a switch, where t is the tally of a node
+unfoldable pub switchNumbers : List ℕ → CountingCount.Rec → List Split.Entry → Tally
+unfolding checkedNumber switchProgram CountingTally.instructions CountingTally.nothing CountingTally.evaluation CountingTally.plus CountingTally.takenBack CountingTally.capped Arms.triesTally Arms.endOf Arms.hasTry Arms.wants Arms.anyWants Arms.endTally Arms.armTally Arms.armsTally Arms.idleTally Arms.lastTally Arms.fallsTally Bodies.bodiesFrom Bodies.bodiesTally Bodies.fallTally Bodies.defaultTally Total.caseLists Total.splitLists Total.casesTally Total.rangesTally Total.bodiesOf Total.switchTally Total.switchTotal Total.total
+switchNumbers s t es = Total.switchTally s t es

@@ -1,0 +1,11 @@
+pub mod Arms
+pub mod Bodies
+pub mod Total
+pub mod Compute
+pub mod Told
+pub mod ArmsAdd
+pub mod BodiesAdd
+pub mod TotalLaws
+pub mod OutcomeLaws
+pub mod Place
+pub mod PlaceLaws
