@@ -327,14 +327,14 @@ pub fn write_front(
     let _e = put_front(s, l, x, st, image, sw, ca, ra);
 }
 
-// How many words the front of the image has.
-pub fn front_len(s: &[u8], l: Layout, x: &[u32], st: State) -> usize
+// The count of the image's words, of which `tables` stand behind the front.
+pub fn image_len(s: &[u8], l: Layout, x: &[u32], st: State, tables: u32) -> usize
     ensures { λ r. ⌜
-        ((a : Made) → Holds (now (s .entry)) l (now (x .entry)) st a → (sw ca ra : ℕ) → r ≡ length (fronts.front a sw ca ra)) ⌝ }
+        ((a : Made) → Holds (now (s .entry)) l (now (x .entry)) st a → (sw ca ra : ℕ) → r ≡ length (fronts.front a sw ca ra) + tables) ⌝ }
 {
     let steps = held_steps(s, x, chains_at(l), st.chains);
     let code = 5 * (st.code as usize);
     let keys = 3 * (st.consts as usize) + 2 * (st.names as usize) + (st.tokens as usize);
     let linked = 6 * (st.chains as usize) + 6 * (steps as usize);
-    12 + code + keys + (st.residuals as usize) + linked
+    12 + code + keys + (st.residuals as usize) + linked + (tables as usize)
 }

@@ -44,15 +44,15 @@ module _ (s : List ℕ) (k : kind s 0 ≡ switchKind) where
 -- the count, and what is left
 module _ (s : List ℕ) (l : Layout) (zs img : List ℕ) (q : State) (len f sw ca ra : ℕ)
     (H : Holds s l zs q (made (lower s .code) (lower s .pools) 1))
-    (counted : (a : Made) → Holds s l zs q a → (i j m : ℕ) → f ≡ length (front a i j m))
+    (counted : (a : Made) → Holds s l zs q a → (i j m : ℕ) → len ≡ length (front a i j m) + f)
     (sw-is : sw ≡ length (lower s .switches)) (ca-is : ca ≡ length (lower s .cases)) (ra-is : ra ≡ length (lower s .ranges))
-    (len-is : len ≡ f + 4 * sw + 2 * ca + 6 * ra) where
+    (f-is : f ≡ 4 * sw + 2 * ca + 6 * ra) where
   pub words-counted : len ≡ length (words (lower s))
   words-counted =
       let a = made (lower s .code) (lower s .pools) 1 in
       let front-is = counted a H (length (lower s .switches)) (length (lower s .cases)) (length (lower s .ranges)) in
       let all = whole-length a (length (lower s .switches)) (length (lower s .cases)) (length (lower s .ranges)) (lower s .switches) (lower s .cases) (lower s .ranges) in
-      omega (arith, front-is, all, ap length (words-front (lower s) 1))
+      omega (arith, front-is, all, f-is, ap length (words-front (lower s) 1))
 
   pub switch-long : length img < len → Built s img len img
   switch-long g = record { count = words-counted; fits = λ h. absurd (omega arith); kept = λ h. refl }

@@ -9,3 +9,5 @@ pub mod First
 pub mod CaseTargets
 pub mod RunTargets
 pub mod HeldLaws
+pub mod WriteLaws
+pub mod SettledLaws

@@ -59,7 +59,7 @@ module _ (s : List ℕ) (h : kind s 0 ≡ switchKind → ⊥) where
   -- the image of an expression
   module _ (e n : ℕ) (l : Layout) (xs ys img img′ : List ℕ) (r : State) (len : ℕ) (R : Ready s e (length xs)) (most : l .most ≡ e) (nodes : l .nodes ≡ n) (n-is : n ≡ nodeCount s)
       (st : State) (st-is : st ≡ states.start) (done : Right s → Valid s 0 → Does s l xs st ys r (lowered maxDepth s 0))
-      (counted : (a : Made) → Holds s l ys r a → (sw ca ra : ℕ) → len ≡ length (front a sw ca ra)) where
+      (counted : (a : Made) → Holds s l ys r a → (sw ca ra : ℕ) → len ≡ length (front a sw ca ra) + 0) where
     plain-holds : Holds s l ys r (lowered maxDepth s 0 nothing)
     plain-holds =
         let C = checked-right s e (length xs) R in
@@ -69,7 +69,7 @@ module _ (s : List ℕ) (h : kind s 0 ≡ switchKind → ⊥) where
         done C (root-valid s C) .holds nothing first (omega arith)
 
     len-is : len ≡ length (words (lower s))
-    len-is = counted (lowered maxDepth s 0 nothing) plain-holds 0 0 0 ∙ ap length (sym plain-words)
+    len-is = omega (arith, counted (lowered maxDepth s 0 nothing) plain-holds 0 0 0, ap length plain-words)
 
     pub plain-long : length img < len → Built s img len img
     plain-long g = record { count = len-is; fits = λ k. absurd (omega arith); kept = λ k. refl }

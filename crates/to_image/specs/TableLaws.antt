@@ -35,8 +35,8 @@ use Rattle.tables.specs.Listed.{Lists}
 use Rattle.tables.specs.Heads.{noRun}
 use Rattle.tables.specs.Runs.{entryOf, entriesIn, joined}
 use Rattle.rows.specs.Rows.{rowsOf, tablesOf, caseRow, runRow}
-use Rattle.rows.specs.CaseLaws.{tables-are, case-rows-are}
-use Rattle.rows.specs.RangeLaws.{split-rows-are}
+use Rattle.rows.specs.CaseLaws.{tables-are, case-rows-are, case-rows-length}
+use Rattle.rows.specs.RangeLaws.{split-rows-are, range-rows-length}
 use Rattle.to_image.specs.SwitchLaws.{lower-switch}
 
 module _ (s : List ℕ) (k : kind s 0 ≡ switchKind) where
@@ -76,3 +76,13 @@ module _ (s : List ℕ) (k : kind s 0 ≡ switchKind) where
       s ok k rs-is cs-is runs
       ∙ ap (rangeRows (laidOut s) (defaultAt (defaultBlock s) (laidOut s))) (sym (splits-are s rec))
       ∙ sym (ap (λ r. r .ranges) (lower-switch s k))
+
+  -- how many rows there are
+  pub case-count : length (lower s .cases) ≡ length (casesOf s)
+  unfolding switch switchOf
+  case-count = ap (λ r. length (r .cases)) (lower-switch s k) ∙ case-rows-length s (laidOut s) _ (casesOf s) _
+
+  pub range-count : length (lower s .ranges) ≡ length (split (rangesOf s))
+  unfolding switch switchOf
+  range-count =
+      ap (λ r. length (r .ranges)) (lower-switch s k) ∙ range-rows-length (laidOut s) _ (laidOut s .splits) ∙ ap length (splits-are s (expression maxDepth s))

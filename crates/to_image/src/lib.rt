@@ -1,6 +1,6 @@
 // What a lowering answers, the refusals by counts, and the image of an expression. Refusals 1 to 11 are found without touching a buffer.
 ghost use mathlib.Core.Path.{_≡_};
-ghost use Rattle.to_image.specs.Answer.{Ready, Built, early};
+ghost use Rattle.to_image.specs.Answer.{Answers, Ready, Built, early};
 ghost use lib.ListN.{length};
 ghost use Rattle.sheet.specs.Node.{kind};
 ghost use Rattle.lowering.specs.Kinds.{switchKind};
@@ -8,20 +8,29 @@ ghost use Rattle.lowering.specs.Kinds.{switchKind};
 pub mod switched;
 pub mod targets;
 
+use crate::switched::build_switch;
+use checks::check;
+use checks::number;
 use compile::expression;
 use counting::tallies::Tally;
-use image::front_len;
+use image::image_len;
 use image::write_front;
+use sections::zero;
+use sheet::kind;
 use sheet::limits::MAX_DEPTH;
 use sheet::node_count;
 use store::Layout;
 use store::start;
+use sums::total;
 
 // What a lowering answers: the image's word count, or 01's refusal number.
 pub enum Answer {
     Lowered { words: usize },
     Refused { number: u32 },
 }
+
+// the kind of node 0 of a switch
+const SWITCH: u32 = 19;
 
 // The refusals of the lowering. 1 to 8 are those of the check.
 pub const EVAL_REACHED: u32 = 9;
@@ -67,10 +76,43 @@ pub fn build_plain(s: &[u8], image: &mut [u32], x: &mut [u32], most: u32) -> usi
         nodes: node_count(s),
     };
     let st = expression(MAX_DEPTH, s, l, x, start(), 0);
-    let n = front_len(s, l, &x[..], st);
+    let n = image_len(s, l, &x[..], st, 0);
     if image.len() < n {
         return n;
     }
     write_front(s, l, &x[..], st, image, 0, 0, 0);
     n
+}
+
+// The image of a sheet that nothing has refused: its word count; its words are written where they fit.
+fn build(s: &[u8], image: &mut [u32], x: &mut [u32], most: u32) -> usize
+    ensures { λ r. ⌜ (Ready (now (s .entry)) most (length (now (x .entry))) → Built (now (s .entry)) (now (image .entry)) r (now (image .exit))) ⌝ }
+{
+    if kind(s, 0) == SWITCH {
+        return build_switch(s, image, x, most);
+    }
+    build_plain(s, image, x, most)
+}
+
+// The image of a sheet, or 01's refusal number. Whatever the sheet and the buffers are, the answer and what is left are the definition's.
+pub fn lower(sheet: &[u8], image: &mut [u32], scratch: &mut [u32]) -> Answer
+    ensures { λ r. ⌜ Answers (now (sheet .entry)) (now (image .entry)) (now (scratch .entry)) r (now (image .exit)) (now (scratch .exit)) ⌝ }
+{
+    let v = number(check(sheet));
+    if v != 0 {
+        return Answer::Refused { number: v };
+    }
+    let t = total(sheet);
+    let k = refusal(t, scratch.len(), node_count(sheet));
+    if k != 0 {
+        return Answer::Refused { number: k };
+    }
+    let words = build(sheet, image, scratch, t.emitted as u32);
+    zero(scratch);
+    if image.len() < words {
+        return Answer::Refused {
+            number: IMAGE_TOO_LONG,
+        };
+    }
+    Answer::Lowered { words }
 }

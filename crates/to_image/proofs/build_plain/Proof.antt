@@ -9,7 +9,7 @@ use Rattle.to_image.proofs.build_plain.Tie as tie
 use Rattle.to_image.proofs.build_plain.Reads as reads
 use Rattle.to_image.proofs.build_plain.Lts as lts
 use Rattle.compile.proofs.expression.Reads as expression-reads
-use Rattle.image.proofs.front_len.Reads as front-len-reads
+use Rattle.image.proofs.image_len.Reads as image-len-reads
 use Rattle.image.proofs.write_front.Reads as write-front-reads
 use Rattle.sheet.proofs.node_count.Reads as node-count-reads
 use Rattle.store.proofs.start.Reads as start-reads
@@ -27,8 +27,8 @@ expression-requires : tie.Need-expression-requires
 expression-requires c κs = search needs
 
 -- src/lib.rt:70:9
-front-len-requires : tie.Need-front-len-requires
-front-len-requires c κs = search needs
+image-len-requires : tie.Need-image-len-requires
+image-len-requires c κs = search needs
 
 -- src/lib.rt:72:9
 same-length : tie.Need-same-length
@@ -36,7 +36,7 @@ same-length c = search needs
 
 -- src/lib.rt:72:9
 returns : tie.Need-returns
-returns c = λ R h. plain-long _ h _ _ _ _ _ _ [] _ _ R refl refl (c .before .before .before .before .before .before .before .before .node-count .ensures) _ (c .before .before .before .before .before .before .start .ensures) (c .before .before .before .before .before .expression .ensures) (c .before .front-len .ensures) (omega arith)
+returns c = λ R h. plain-long _ h _ _ _ _ _ _ [] _ _ R refl refl (c .before .before .before .before .before .before .before .before .node-count .ensures) _ (c .before .before .before .before .before .before .start .ensures) (c .before .before .before .before .before .expression .ensures) (c .before .image-len .ensures) (omega arith)
 
 -- src/lib.rt:74:5
 write-front-requires : tie.Need-write-front-requires
@@ -52,7 +52,7 @@ same-length-3 c = search needs
 
 -- src/lib.rt:62:1
 returns-2 : tie.Need-returns-2
-returns-2 c = λ R h. plain-built _ h _ _ _ _ _ _ _ _ _ R refl refl (c .before .before .before .before .before .before .before .before .before .before .before .before .before .node-count .ensures) _ (c .before .before .before .before .before .before .before .before .before .before .before .start .ensures) (c .before .before .before .before .before .before .before .before .before .before .expression .ensures) (c .before .before .before .before .before .before .front-len .ensures) (omega arith) (λ a g k. c .before .before .write-front .ensures a g k)
+returns-2 c = λ R h. plain-built _ h _ _ _ _ _ _ _ _ _ R refl refl (c .before .before .before .before .before .before .before .before .before .before .before .before .before .node-count .ensures) _ (c .before .before .before .before .before .before .before .before .before .before .before .start .ensures) (c .before .before .before .before .before .before .before .before .before .before .expression .ensures) (c .before .before .before .before .before .before .image-len .ensures) (omega arith) (λ a g k. c .before .before .write-front .ensures a g k)
 
 pub build-plain-spec : {M : Type 1} → statement M
 build-plain-spec =
@@ -61,7 +61,7 @@ build-plain-spec =
     node-count-requires
     start-requires
     expression-requires
-    front-len-requires
+    image-len-requires
     same-length
     returns
     write-front-requires

@@ -1,8 +1,10 @@
--- `image::front_len` meets its contract.
+-- `image::image_len` meets its contract.
+use Prim.Native.Nat.{_+_}
+use mathlib.Core.Path.{ap}
 use Rattle.image.specs.FrontLaws.{steps-at, front-length}
 use borrow.Author.Needs.{needs}
-use Rattle.image.proofs.front_len.Statement.{statement}
-use Rattle.image.proofs.front_len.Tie as tie
+use Rattle.image.proofs.image_len.Statement.{statement}
+use Rattle.image.proofs.image_len.Tie as tie
 
 chains-at-requires : tie.Need-chains-at-requires
 chains-at-requires c κs = search needs
@@ -67,15 +69,20 @@ add-result-3 c = search needs
 add-result-4 : tie.Need-add-result-4
 add-result-4 c = search needs
 
+add-result-5 : tie.Need-add-result-5
+add-result-5 c = search needs
+
 returns : tie.Need-returns
 returns c =
     let c6 = c .before .before .before .before .before .before in
     let c7 = c6 .before in
-    λ m h sw ca ra. front-length h (c6 .held-steps .result) sw ca ra
-    (steps-at h (c7 .chains-at .result) (c6 .held-steps .result) (c7 .chains-at .ensures) (c6 .held-steps .ensures))
+    λ m h sw ca ra.
+    ap (λ n. n + (c7 .before .before .before .args .tables))
+    (front-length h (c6 .held-steps .result) sw ca ra
+    (steps-at h (c7 .chains-at .result) (c6 .held-steps .result) (c7 .chains-at .ensures) (c6 .held-steps .ensures)))
 
-pub front-len-spec : {M : Type 1} → statement M
-front-len-spec =
+pub image-len-spec : {M : Type 1} → statement M
+image-len-spec =
     tie.close
     (tie.spec
     chains-at-requires
@@ -99,4 +106,5 @@ front-len-spec =
     cast-result
     add-result-3
     add-result-4
+    add-result-5
     returns)
