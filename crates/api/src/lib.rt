@@ -1,6 +1,9 @@
 // What programs in other languages link: numbers and slices only.
 ghost use mathlib.Core.Path.{_≡_};
 ghost use Rattle.checks.specs.Checked.{numberOf, checked};
+ghost use Rattle.api.specs.Given.{Given};
+use to_image::Answer;
+use to_image::lower;
 
 // The number of the first refusal among 1 to 8 that fits the bytes of `sheet`, or 0.
 #[no_mangle]
@@ -8,4 +11,26 @@ pub extern "C" fn sheet_check(sheet: &[u8]) -> u32
     ensures { λ r. ⌜ r ≡ numberOf (checked (now (sheet .entry))) ⌝ }
 {
     checks::number(checks::check(sheet))
+}
+
+// Lowers `sheet` into `image`: 0, or the number of the first refusal among 1 to 12 that fits. `words` gets the image's word count, 0 under a refusal.
+#[no_mangle]
+pub extern "C" fn sheet_lower(
+    sheet: &[u8],
+    image: &mut [u32],
+    scratch: &mut [u32],
+    words: &mut u64,
+) -> u32
+    ensures { λ r. ⌜ Given (now (sheet .entry)) (now (image .entry)) (now (scratch .entry)) r (now (words .exit)) (now (image .exit)) (now (scratch .exit)) ⌝ }
+{
+    match lower(sheet, image, scratch) {
+        Answer::Lowered { words: count } => {
+            *words = count as u64;
+            0
+        }
+        Answer::Refused { number } => {
+            *words = 0;
+            number
+        }
+    }
 }
