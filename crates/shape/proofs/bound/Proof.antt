@@ -2,39 +2,31 @@
 use lib.ListN.{getD}
 use mathlib.Core.List.{List}
 use Prim.Native.Nat.{ℕ, _+_, _*_}
-use mathlib.Core.Path.{ap}
+use mathlib.Core.Path.{ap, sym}
 use Rattle.shape.specs.KindsLaws.{bound-past}
 use Rattle.shape.specs.Kinds.{bound}
 use borrow.Author.Needs.{needs}
 use Rattle.shape.proofs.bound.Statement.{statement}
 use Rattle.shape.proofs.bound.Tie as tie
-use Rattle.shape.proofs.bound.Reads as reads
-use Rattle.shape.proofs.bound.Lts as lts
 
--- src/lib.rt:161:14
 mul-at : tie.Need-mul-at
 mul-at c = search needs
 
--- src/lib.rt:161:14
 add-at : tie.Need-add-at
 add-at c = search needs
 
--- src/lib.rt:162:19
 mul-result : tie.Need-mul-result
 mul-result c = search needs
 
--- src/lib.rt:162:19
 element-copy-out-result : tie.Need-element-copy-out-result
 element-copy-out-result c = search needs
 
--- src/lib.rt:157:1
 returns : tie.Need-returns
 unfolding bound
 returns c = ap (λ (l : List ℕ). getD l (5 * c .before .before .args .k + c .before .before .args .f) 0) (c .before .before .pre)
 
--- src/lib.rt:157:1
 returns-2 : tie.Need-returns-2
-returns-2 c = cc (bound-past (c .before .args .k) (c .before .args .f) (c .if1 .left))
+returns-2 c = sym (bound-past (c .before .args .k) (c .before .args .f) (c .if1 .left))
 
 pub bound-spec : {M : Type 1} → statement M
 bound-spec =

@@ -1,23 +1,18 @@
 -- `shape::case_child` meets its contract: one law for each way.
 use Rattle.shape.specs.KindsLaws.{case-first, case-later}
+use mathlib.Core.Path.{sym, _∙_}
 use borrow.Author.Needs.{needs}
 use Rattle.shape.proofs.case_child.Statement.{statement}
 use Rattle.shape.proofs.case_child.Tie as tie
-use Rattle.shape.proofs.case_child.Reads as reads
-use Rattle.shape.proofs.case_child.Lts as lts
-use Rattle.shape.proofs.case_value.Reads as case-value-reads
 
--- src/lib.rt:203:9
 case-value-requires : tie.Need-case-value-requires
 case-value-requires c κs = search needs
 
--- src/lib.rt:203:9
 returns : tie.Need-returns
-returns c = let a = c .before .before .args in cc (case-first (a .i) (a .k) (c .before .if1 .taken))
+returns c = let a = c .before .before .args in c .case-value .ensures ∙ sym (case-first (a .i) (a .k) (c .before .if1 .taken))
 
--- src/lib.rt:199:1
 returns-2 : tie.Need-returns-2
-returns-2 c = let a = c .before .args in cc (case-later (a .i) (a .k) (c .if1 .left))
+returns-2 c = let a = c .before .args in sym (case-later (a .i) (a .k) (c .if1 .left))
 
 pub case-child-spec : {M : Type 1} → statement M
 case-child-spec = tie.close (tie.spec case-value-requires returns returns-2)

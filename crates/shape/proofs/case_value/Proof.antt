@@ -3,10 +3,7 @@ use mathlib.Core.Path.{refl}
 use Rattle.shape.specs.Kinds.{caseValue}
 use Rattle.shape.proofs.case_value.Statement.{statement}
 use Rattle.shape.proofs.case_value.Tie as tie
-use Rattle.shape.proofs.case_value.Reads as reads
-use Rattle.shape.proofs.case_value.Lts as lts
 
--- src/lib.rt:177:1
 returns : tie.Need-returns
 unfolding caseValue
 returns c = refl

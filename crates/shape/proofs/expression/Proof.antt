@@ -3,10 +3,7 @@ use mathlib.Core.Path.{refl}
 use Rattle.shape.specs.Kinds.{expression}
 use Rattle.shape.proofs.expression.Statement.{statement}
 use Rattle.shape.proofs.expression.Tie as tie
-use Rattle.shape.proofs.expression.Reads as reads
-use Rattle.shape.proofs.expression.Lts as lts
 
--- src/lib.rt:170:1
 returns : tie.Need-returns
 unfolding expression
 returns c = refl

@@ -1,35 +1,25 @@
 -- `shape::root_ok` meets its contract: the tests are the definition's.
-use Rattle.shape.specs.Shape.{rootOk}
+use Rattle.shape.specs.ReadLaws.{root-read}
 use borrow.Author.Needs.{needs}
 use Rattle.shape.proofs.root_ok.Statement.{statement}
 use Rattle.shape.proofs.root_ok.Tie as tie
-use Rattle.shape.proofs.root_ok.Reads as reads
-use Rattle.shape.proofs.root_ok.Lts as lts
-use Rattle.shape.proofs.expression.Reads as expression-reads
-use Rattle.sheet.proofs.kind.Reads as kind-reads
-use Rattle.sheet.proofs.node_count.Reads as node-count-reads
-use Rattle.sheet.proofs.span.Reads as span-reads
 
--- src/lib.rt:275:9
 kind-requires : tie.Need-kind-requires
 kind-requires c κs = search needs
 
--- src/lib.rt:276:6
 expression-requires : tie.Need-expression-requires
 expression-requires c κs = search needs
 
--- src/lib.rt:276:36
 span-requires : tie.Need-span-requires
 span-requires c κs = search needs
 
--- src/lib.rt:276:50
 node-count-requires : tie.Need-node-count-requires
 node-count-requires c κs = search needs
 
--- src/lib.rt:272:1
 returns : tie.Need-returns
-unfolding rootOk
-returns c = cc
+returns c =
+    let s = c .before .before .before .before .before .args .s .now in
+    root-read s (c .before .before .before .kind .ensures) (c .before .before .expression .ensures) (c .before .span .ensures) (c .node-count .ensures)
 
 pub root-ok-spec : {M : Type 1} → statement M
 root-ok-spec =

@@ -3,10 +3,7 @@ use mathlib.Core.Path.{refl}
 use Rattle.shape.specs.Kinds.{scalar}
 use Rattle.shape.proofs.scalar.Statement.{statement}
 use Rattle.shape.proofs.scalar.Tie as tie
-use Rattle.shape.proofs.scalar.Reads as reads
-use Rattle.shape.proofs.scalar.Lts as lts
 
--- src/lib.rt:163:1
 returns : tie.Need-returns
 unfolding scalar
 returns c = refl
