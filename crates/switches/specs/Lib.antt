@@ -1,2 +1,3 @@
 pub mod Switch
 pub mod SwitchLaws
+pub mod ReadLaws

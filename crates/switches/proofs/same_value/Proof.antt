@@ -1,69 +1,58 @@
 -- `switches::same_value` meets its contract: one law for each way.
-use Rattle.sheet.specs.Node.{kind}
-use mathlib.Core.Path.{_≡_}
-use Rattle.switches.specs.SwitchLaws.{value-kinds, value-text, value-bits}
+use Rattle.switches.specs.ReadLaws.{values-apart, values-text, values-bits}
 use borrow.Author.Needs.{needs}
 use Rattle.switches.proofs.same_value.Statement.{statement}
 use Rattle.switches.proofs.same_value.Tie as tie
-use Rattle.switches.proofs.same_value.Reads as reads
-use Rattle.switches.proofs.same_value.Lts as lts
-use Rattle.sheet.proofs.field_a.Reads as field-a-reads
-use Rattle.sheet.proofs.field_b.Reads as field-b-reads
-use Rattle.sheet.proofs.kind.Reads as kind-reads
-use Rattle.sheet.proofs.text.Reads as text-reads
-use Rattle.text.proofs.same_bytes.Reads as same-bytes-reads
 
--- src/lib.rt:79:9
 kind-requires : tie.Need-kind-requires
 kind-requires c κs = search needs
 
--- src/lib.rt:80:13
 kind-requires-2 : tie.Need-kind-requires-2
 kind-requires-2 c κs = search needs
 
--- src/lib.rt:81:13
 field-a-requires : tie.Need-field-a-requires
 field-a-requires c κs = search needs
 
--- src/lib.rt:82:13
 field-a-requires-2 : tie.Need-field-a-requires-2
 field-a-requires-2 c κs = search needs
 
--- src/lib.rt:84:31
 text-requires : tie.Need-text-requires
 text-requires c κs = search needs
 
--- src/lib.rt:84:50
 text-requires-2 : tie.Need-text-requires-2
 text-requires-2 c κs = search needs
 
--- src/lib.rt:84:13
 same-bytes-requires : tie.Need-same-bytes-requires
 same-bytes-requires c κs = search needs
 
--- src/lib.rt:84:13
 returns : tie.Need-returns
-returns c = let a = c .before .before .before .before .before .before .before .before .before .before .args in cc (value-text (a .s .now) (a .v) (a .w) (cc) (cc))
+returns c =
+    let a = c .before .before .before .before .before .before .before .before .before .before .args in
+    let k = c .before .before .before .before .before .before .before .before .kind .ensures in
+    let l = c .before .before .before .before .before .before .before .kind2 .ensures in
+    let fv = c .before .before .before .before .before .field-a .ensures in
+    let fw = c .before .before .before .before .field-a2 .ensures in
+    values-text (a .s .now) (a .v) (a .w) k l (c .before .before .before .before .before .before .if1 .taken) fv fw (c .before .before .before .if2 .taken) (c .before .before .text .ensures) (c .before .text2 .ensures) (c .same-bytes .ensures)
 
--- src/lib.rt:86:28
 field-b-requires : tie.Need-field-b-requires
 field-b-requires c κs = search needs
 
--- src/lib.rt:86:45
 field-b-requires-2 : tie.Need-field-b-requires-2
 field-b-requires-2 c κs = search needs
 
--- src/lib.rt:86:9
 returns-2 : tie.Need-returns-2
-returns-2 c = let a = c .before .before .before .before .before .before .before .before .before .args in
-    let k : kind (a .s .now) (a .v) ≡ 6 → ⊥ = λ e. c .before .before .if2 .left (cc) in
-    cc (value-bits (a .s .now) (a .v) (a .w) (cc) k)
+returns-2 c =
+    let a = c .before .before .before .before .before .before .before .before .before .args in
+    let k = c .before .before .before .before .before .before .before .kind .ensures in
+    let l = c .before .before .before .before .before .before .kind2 .ensures in
+    let fv = c .before .before .before .before .field-a .ensures in
+    let fw = c .before .before .before .field-a2 .ensures in
+    values-bits (a .s .now) (a .v) (a .w) k l (c .before .before .before .before .before .if1 .taken) fv fw (c .before .before .if2 .left) (c .before .field-b .ensures) (c .field-b2 .ensures)
 
--- src/lib.rt:76:1
 returns-3 : tie.Need-returns-3
-returns-3 c = let a = c .before .before .before .before .args in
-    let k : kind (a .s .now) (a .v) ≡ kind (a .s .now) (a .w) → ⊥ = λ e. c .if1 .left (cc) in
-    cc (value-kinds (a .s .now) (a .v) (a .w) k)
+returns-3 c =
+    let a = c .before .before .before .before .args in
+    values-apart (a .s .now) (a .v) (a .w) (c .before .before .kind .ensures) (c .before .kind2 .ensures) (c .if1 .left)
 
 pub same-value-spec : {M : Type 1} → statement M
 same-value-spec =
