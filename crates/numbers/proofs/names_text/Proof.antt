@@ -3,10 +3,7 @@ use mathlib.Core.Path.{refl}
 use Rattle.numbers.specs.Numbers.{namesText}
 use Rattle.numbers.proofs.names_text.Statement.{statement}
 use Rattle.numbers.proofs.names_text.Tie as tie
-use Rattle.numbers.proofs.names_text.Reads as reads
-use Rattle.numbers.proofs.names_text.Lts as lts
 
--- src/lib.rt:8:1
 returns : tie.Need-returns
 unfolding namesText
 returns c = refl
