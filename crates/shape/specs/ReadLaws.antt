@@ -9,7 +9,7 @@ use mir.Syntax.{w32}
 use mir.Val.{Fits}
 use lib.Dec.{leb, eqb}
 use Rattle.words.specs.Count.{allBelow}
-use Rattle.words.specs.CountLaws.{all-more, all-fails}
+use Rattle.words.specs.CountLaws.{all-fails}
 use Rattle.sheet.specs.Layout.{nodeCount}
 use Rattle.sheet.specs.Node.{kind, span, count, fieldA, fieldB, fieldC}
 use Rattle.shape.specs.Kinds.{lastKind, bound, expression, childKind}
