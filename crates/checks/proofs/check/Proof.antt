@@ -20,6 +20,10 @@ numbers-ok-requires c κs = search needs
 tree-requires : tie.Need-tree-requires
 tree-requires c κs = search needs
 
+-- First, and by `cc`, which names no test: where the tests stand in another order, it is this fact that fails.
+returns-4 : tie.Need-returns-4
+returns-4 c = sym (says-2 (c .before .before .before .before .before .args .s .now) (cc) (cc))
+
 returns : tie.Need-returns
 returns c =
     let s = c .before .before .before .before .before .before .before .before .before .before .args .s .now in
@@ -45,10 +49,6 @@ returns-3 c =
     let shape = sym (c .before .before .before .shape-ok .ensures) ∙ c .before .before .if2 .taken in
     let texts = sym (c .before .texts-ok .ensures) ∙ c .if3 .left in
     sym (says-3 s sizes shape texts)
-
--- by `cc`, which names no test: where the tests stand in another order, it is the fact that fails
-returns-4 : tie.Need-returns-4
-returns-4 c = sym (says-2 (c .before .before .before .before .before .args .s .now) (cc) (cc))
 
 returns-5 : tie.Need-returns-5
 returns-5 c =
