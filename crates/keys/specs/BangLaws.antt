@@ -36,17 +36,17 @@ cut y h =
 
 module _ (x y : List ℕ) where
   -- x and `!`, against y
-  pub bang-none : length y ≤ 0 → same (withBang x) y ≡ false
+  pub bang-none : length y ≡ 0 → same (withBang x) y ≡ false
   bang-none h = same-lengths (withBang x) y (λ e. omega (arith, long x))
 
-  pub bang-other : 0 < length y → (getD y (length y - 1) 0 ≡ bang → ⊥) → same (withBang x) y ≡ false
+  pub bang-other : (length y ≡ 0 → ⊥) → (getD y (length y - 1) 0 ≡ bang → ⊥) → same (withBang x) y ≡ false
   bang-other h n =
       same-false (withBang x) y
       (λ e.
       let l : length y - 1 ≡ length x = omega (arith, long x, ap length e) in
       n (ap (λ (z : List ℕ). getD z (length y - 1) 0) (sym e) ∙ ap (λ (i : ℕ). getD (withBang x) i 0) l ∙ getD-append-seam x bang [] 0))
 
-  pub bang-last : 0 < length y → getD y (length y - 1) 0 ≡ bang → same (withBang x) y ≡ same x (take (length y - 1) y)
+  pub bang-last : (length y ≡ 0 → ⊥) → getD y (length y - 1) 0 ≡ bang → same (withBang x) y ≡ same x (take (length y - 1) y)
   bang-last h e = by (same x (take (length y - 1) y)) refl
     where
       by : (t : Bool) → same x (take (length y - 1) y) ≡ t → same (withBang x) y ≡ t
@@ -54,7 +54,7 @@ module _ (x y : List ℕ) where
           let q : withBang x ≡ y =
           ap withBang (same-true x (take (length y - 1) y) k)
           ∙ ap (λ (b : ℕ). take (length y - 1) y ++ (b ∷ [])) (sym e)
-          ∙ sym (cut y h) in
+          ∙ sym (cut y (omega arith)) in
           ap (λ (z : List ℕ). same z y) q ∙ same-refl y
       by false k =
           same-false (withBang x) y

@@ -113,19 +113,36 @@ module _ (s : List ℕ) where
             number-not (kind s j) (fieldA s j) (fieldB s j) c (eqb-false (fieldA s c) (fieldA s j) f)
             ∙ sym (by-kind (constOf s j) (constOf s c) (λ q. eqb-false (kind s c) (kind s j) e (sym q)))
 
-    pub find-string :
+    find-string :
         kind s j ≡ stringKind → (ks : List ℕ)
         → firstWhere (isString s (text s (fieldA s j))) ks ≡ firstWhere (sameConst s (constOf s j)) (map (constOf s) ks)
     find-string h ks =
         first-alike (isString s (text s (fieldA s j))) (λ (c : ℕ). sameConst s (constOf s j) (constOf s c)) (is-string h) ks
         ∙ sym (first-map (sameConst s (constOf s j)) (constOf s) ks)
 
-    pub find-number :
+    find-number :
         (kind s j ≡ stringKind → ⊥) → (ks : List ℕ)
         → firstWhere (isNumber s (kind s j) (fieldA s j) (fieldB s j)) ks ≡ firstWhere (sameConst s (constOf s j)) (map (constOf s) ks)
     find-number n ks =
         first-alike (isNumber s (kind s j) (fieldA s j) (fieldB s j)) (λ (c : ℕ). sameConst s (constOf s j) (constOf s c)) (is-number n) ks
         ∙ sym (first-map (sameConst s (constOf s j)) (constOf s) ks)
+
+    -- the same of an answer of the code, by the kind and the fields that it read
+    module _ {k a r : ℕ} (e : k ≡ kind s j) (f : a ≡ fieldA s j) (ks : List ℕ) where
+      pub string-found :
+          {x : List ℕ} → x ≡ text s a → k ≡ stringKind → r ≡ firstWhere (isString s x) ks
+          → r ≡ firstWhere (sameConst s (constOf s j)) (map (constOf s) ks)
+      string-found g q h = h ∙ ap (λ (z : List ℕ). firstWhere (isString s z) ks) (g ∙ ap (text s) f) ∙ find-string (sym e ∙ q) ks
+
+      pub number-found :
+          {b : ℕ} → b ≡ fieldB s j → (k ≡ stringKind → ⊥) → r ≡ firstWhere (isNumber s k a b) ks
+          → r ≡ firstWhere (sameConst s (constOf s j)) (map (constOf s) ks)
+      number-found {b = b} g n h =
+          h
+          ∙ ap (λ (v : ℕ). firstWhere (isNumber s v a b) ks) e
+          ∙ ap (λ (v : ℕ). firstWhere (isNumber s (kind s j) v b) ks) f
+          ∙ ap (λ (v : ℕ). firstWhere (isNumber s (kind s j) (fieldA s j) v) ks) g
+          ∙ find-number (λ q. n (e ∙ q)) ks
 
     -- a node whose constant is not found is not among the nodes
     pub const-absent :

@@ -52,18 +52,23 @@ not-among P ks k p e i h q = true≢false (sym p ∙ ap P (sym q) ∙ none-pass 
 unfoldable pub seekFrom : (ℕ → Bool) → List ℕ → ℕ → ℕ
 seekFrom P ks i = i + firstWhere P (drop i ks)
 
+-- i keys are passed: the first from place i on is the first of all
+pub record Scan (P : ℕ → Bool) (ks : List ℕ) (i : ℕ) : Type 0 where
+  pub within : i ≤ length ks
+  pub rest : seekFrom P ks i ≡ firstWhere P ks
+
 module _ (P : ℕ → Bool) (ks : List ℕ) where
-  pub seek-starts : seekFrom P ks 0 ≡ firstWhere P ks
+  seek-starts : seekFrom P ks 0 ≡ firstWhere P ks
   unfolding seekFrom
   seek-starts = zero-add (firstWhere P ks)
 
-  pub seek-finds : (i : ℕ) → i < length ks → P (getD ks i 0) ≡ true → seekFrom P ks i ≡ i
+  seek-finds : (i : ℕ) → i < length ks → P (getD ks i 0) ≡ true → seekFrom P ks i ≡ i
   unfolding seekFrom
   seek-finds i h e =
       let at : firstWhere P (drop i ks) ≡ 0 = ap (firstWhere P) (drop-cons ks i 0 h) ∙ first-here P (getD ks i 0) (drop (suc i) ks) e in
       omega arith
 
-  pub seek-passes : (i : ℕ) → i < length ks → P (getD ks i 0) ≡ false → seekFrom P ks i ≡ seekFrom P ks (i + 1)
+  seek-passes : (i : ℕ) → i < length ks → P (getD ks i 0) ≡ false → seekFrom P ks i ≡ seekFrom P ks (i + 1)
   unfolding seekFrom
   seek-passes i h e =
       let at : firstWhere P (drop i ks) ≡ suc (firstWhere P (drop (suc i) ks)) =
@@ -71,9 +76,23 @@ module _ (P : ℕ → Bool) (ks : List ℕ) where
       let on : firstWhere P (drop (i + 1) ks) ≡ firstWhere P (drop (suc i) ks) = ap (λ (n : ℕ). firstWhere P (drop n ks)) (add-one i) in
       omega arith
 
-  pub seek-ends : (i : ℕ) → i ≤ length ks → length ks ≤ i → seekFrom P ks i ≡ i
+  seek-ends : (i : ℕ) → i ≤ length ks → length ks ≤ i → seekFrom P ks i ≡ i
   unfolding seekFrom firstWhere
   seek-ends i l h =
       let e : i ≡ length ks = omega arith in
       let at : firstWhere P (drop i ks) ≡ 0 = ap (λ (n : ℕ). firstWhere P (drop n ks)) e ∙ ap (firstWhere P) (drop-length ks) in
       omega arith
+
+  pub scan-starts : Scan P ks 0
+  scan-starts = record { within = omega arith; rest = seek-starts }
+
+  -- r is the code's test of key i
+  module _ (i : ℕ) {r : Bool} (s : Scan P ks i) (h : i < length ks) (is : r ≡ P (getD ks i 0)) where
+    pub scan-finds : r ≡ true → i ≡ firstWhere P ks
+    scan-finds e = sym (seek-finds i h (sym is ∙ e)) ∙ s .rest
+
+    pub scan-passes : r ≡ false → Scan P ks (i + 1)
+    scan-passes e = record { within = omega arith; rest = sym (seek-passes i h (sym is ∙ e)) ∙ s .rest }
+
+  pub scan-ends : (i : ℕ) → Scan P ks i → length ks ≤ i → i ≡ firstWhere P ks
+  scan-ends i s h = sym (seek-ends i (s .within) h) ∙ s .rest

@@ -1,17 +1,14 @@
 -- `keys::find_string` meets its contract. Invariant: what is found from key i on is what is found.
+use Prim.Native.Nat.{_-_}
+use Rattle.keys.specs.SeekLaws.{Scan, scan-starts, scan-finds, scan-passes, scan-ends}
 use borrow.Author.Needs.{needs}
-use Prim.Native.Nat.{_≤_, _-_}
-use mathlib.Core.Path.{_≡_}
 use lib.ListN.{length}
-use Rattle.lowering.specs.Pools.{firstWhere}
-use Rattle.keys.specs.SeekLaws.{seekFrom, seek-starts, seek-finds, seek-passes, seek-ends}
 use Rattle.keys.specs.Keys.{isString}
-use native.Mathlib.Omega.{arith}
 use Rattle.keys.proofs.find_string.Statement.{statement}
 use Rattle.keys.proofs.find_string.Tie as tie
 
 abbrev Inv-loop : tie.InvT-loop
-Inv-loop s ks x starts lengths bytes i₀ i = (i ≤ length ks) × (seekFrom (isString s x) ks i ≡ firstWhere (isString s x) ks)
+Inv-loop s ks x starts lengths bytes i₀ i = Scan (isString s x) ks i
 
 abbrev μ-loop : tie.MeasureT-loop
 μ-loop s ks x starts lengths bytes i₀ i = length ks - i
@@ -29,9 +26,7 @@ mul-bytes : tie.Need-mul-bytes Inv-loop μ-loop
 mul-bytes c = search needs
 
 loop-holds : tie.Need-loop-holds Inv-loop μ-loop
-loop-holds c =
-    let a = c .before .before .before .before .before .before .args in
-    (omega arith, cc (seek-starts (isString (a .s .now) (a .x .now)) (a .ks .now)))
+loop-holds c = let a = c .before .before .before .before .before .before .args in scan-starts (isString (a .s .now) (a .x .now)) (a .ks .now)
 
 mul-is-string : tie.Need-mul-is-string Inv-loop μ-loop
 mul-is-string c = search needs
@@ -45,8 +40,8 @@ is-string-requires c κs = search needs
 returns : tie.Need-returns Inv-loop μ-loop
 returns c =
     let a = c .before .before .before .before .before .before .before .before .before .before .before .args in
-    cc (seek-finds (isString (a .s .now) (a .x .now)) (a .ks .now) (c .before .before .before .before .loop .i)
-    (c .before .before .before .loop-test .taken) (cc))
+    let w = c .before .before .before .before .loop in
+    scan-finds (isString (a .s .now) (a .x .now)) (a .ks .now) (w .i) (w .inv) (c .before .before .before .loop-test .taken) (c .before .is-string .ensures) (c .if1 .taken)
 
 add-i : tie.Need-add-i Inv-loop μ-loop
 add-i c = search needs
@@ -56,16 +51,12 @@ loop-less c = search needs
 
 loop-again : tie.Need-loop-again Inv-loop μ-loop
 loop-again c =
-    let a = c .before .before .before .before .before .before .before .before .before .before .before .args in (
-      omega arith,
-      cc (seek-passes (isString (a .s .now) (a .x .now)) (a .ks .now) (c .before .before .before .before .loop .i)
-          (c .before .before .before .loop-test .taken) (cc)),
-    )
+    let a = c .before .before .before .before .before .before .before .before .before .before .before .args in
+    let w = c .before .before .before .before .loop in
+    scan-passes (isString (a .s .now) (a .x .now)) (a .ks .now) (w .i) (w .inv) (c .before .before .before .loop-test .taken) (c .before .is-string .ensures) (c .if1 .left)
 
 returns-2 : tie.Need-returns-2 Inv-loop μ-loop
-returns-2 c =
-    let a = c .before .before .before .before .before .before .before .before .args in
-    cc (seek-ends (isString (a .s .now) (a .x .now)) (a .ks .now) (c .before .loop .i) (omega arith) (omega arith))
+returns-2 c = let a = c .before .before .before .before .before .before .before .before .args in scan-ends (isString (a .s .now) (a .x .now)) (a .ks .now) (c .before .loop .i) (c .before .loop .inv) (c .loop-test .left)
 
 pub find-string-spec : {M : Type 1} → statement M
 find-string-spec =

@@ -1,6 +1,6 @@
 -- `keys::find_text` meets its contract: a text is a name with no mark.
+use Rattle.keys.specs.KeyLaws.{text-found}
 use borrow.Author.Needs.{needs}
-use Rattle.keys.specs.KeyLaws.{find-text}
 use Rattle.keys.proofs.find_text.Statement.{statement}
 use Rattle.keys.proofs.find_text.Tie as tie
 
@@ -11,7 +11,7 @@ find-bytes-requires : tie.Need-find-bytes-requires
 find-bytes-requires c κs = search needs
 
 returns : tie.Need-returns
-returns c = let a = c .before .before .before .before .args in cc (find-text (a .s .now) (a .t) (a .ks .now))
+returns c = let a = c .before .before .before .before .args in text-found (a .s .now) (a .t) (a .ks .now) (c .before .text .ensures) (c .find-bytes .ensures)
 
 pub find-text-spec : {M : Type 1} → statement M
 find-text-spec = tie.close (tie.spec text-requires find-bytes-requires returns)

@@ -1,7 +1,7 @@
 -- `keys::is_named` meets its contract: the name's bytes are its text, with `!` where it has the mark.
-use borrow.Author.Needs.{needs}
 use Rattle.keys.specs.Keys.{marked}
-use Rattle.keys.specs.KeyLaws.{named-as}
+use Rattle.keys.specs.KeyLaws.{named-by}
+use borrow.Author.Needs.{needs}
 use Rattle.keys.proofs.is_named.Statement.{statement}
 use Rattle.keys.proofs.is_named.Tie as tie
 
@@ -15,7 +15,9 @@ same-marked-requires : tie.Need-same-marked-requires
 same-marked-requires c κs = search needs
 
 returns : tie.Need-returns
-returns c = let a = c .before .before .before .before .before .args in cc (named-as (a .s .now) (marked (a .x .now) (a .m)) (a .k))
+returns c =
+    let a = c .before .before .before .before .before .args in
+    named-by (a .s .now) (marked (a .x .now) (a .m)) (a .k) (c .before .before .text-of .ensures) (c .before .text-from .ensures) (c .same-marked .ensures)
 
 pub is-named-spec : {M : Type 1} → statement M
 is-named-spec =

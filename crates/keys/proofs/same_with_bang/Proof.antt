@@ -1,13 +1,13 @@
 -- `keys::same_with_bang` meets its contract: the last byte, and the bytes before it.
-use mathlib.Core.Path.{sym}
+use mathlib.Core.Path.{sym, ap, _∙_}
+use Rattle.text.specs.Same.{same}
 use borrow.Author.Needs.{needs}
-use native.Mathlib.Omega.{arith}
 use Rattle.keys.specs.BangLaws.{bang-none, bang-other, bang-last}
 use Rattle.keys.proofs.same_with_bang.Statement.{statement}
 use Rattle.keys.proofs.same_with_bang.Tie as tie
 
 returns : tie.Need-returns
-returns c = sym (bang-none (c .before .before .before .args .x .now) (c .before .before .before .args .y .now) (omega arith))
+returns c = let a = c .before .before .before .args in sym (bang-none (a .x .now) (a .y .now) (c .if1 .taken))
 
 sub-last : tie.Need-sub-last
 sub-last c = search needs
@@ -24,12 +24,13 @@ same-bytes-requires c κs = search needs
 returns-2 : tie.Need-returns-2
 returns-2 c =
     let a = c .before .before .before .before .before .before .before .args in
-    cc (bang-last (a .x .now) (a .y .now) (omega arith) (cc))
+    let x = a .x .now in
+    c .same-bytes .ensures
+    ∙ ap (same x) (c .before .part .ensures)
+    ∙ sym (bang-last x (a .y .now) (c .before .before .before .before .if1 .left) (c .before .before .if2 .taken))
 
 returns-3 : tie.Need-returns-3
-returns-3 c =
-    let a = c .before .before .before .before .before .args in
-    sym (bang-other (a .x .now) (a .y .now) (omega arith) (c .if2 .left))
+returns-3 c = let a = c .before .before .before .before .before .args in sym (bang-other (a .x .now) (a .y .now) (c .before .before .if1 .left) (c .if2 .left))
 
 pub same-with-bang-spec : {M : Type 1} → statement M
 same-with-bang-spec =

@@ -1,6 +1,7 @@
 -- `keys::text_from` meets its contract: the bases are those of the sheet.
+use mathlib.Core.Path.{_∙_}
+use Rattle.keys.specs.KeyLaws.{text-by}
 use borrow.Author.Needs.{needs}
-use Rattle.sheet.specs.Text.{text, textStart, textLength}
 use Rattle.keys.proofs.text_from.Statement.{statement}
 use Rattle.keys.proofs.text_from.Tie as tie
 
@@ -29,8 +30,9 @@ part-requires : tie.Need-part-requires
 part-requires c κs = search needs
 
 returns : tie.Need-returns
-unfolding text textStart textLength
-returns c = cc
+returns c =
+    let a = c .before .before .before .before .args in
+    c .part .ensures ∙ text-by (a .s .now) (a .t) (c .before .before .before .before .pre) (c .before .before .word-at .ensures) (c .before .word-at2 .ensures)
 
 pub text-from-spec : {M : Type 1} → statement M
 text-from-spec =
