@@ -7,6 +7,7 @@ pub mod PlanLaws
 pub mod LinkLaws
 pub mod Count
 pub mod CodeLaws
+pub mod AnswerLaws
 pub mod Adds
 pub mod SiblingsAdd
 pub mod PlanAdds

@@ -1,13 +1,10 @@
 -- The cycle of calls of the count. The measure: four for each level left, and a step for each member between a node and its operands. Invariant of both loops: what is passed and what is left make the whole, cut off.
+use Prim.Native.Nat.{_+_, _*_, _-_}
+use mathlib.Core.Path.{sym, _∙_}
+use Rattle.counting.specs.CodeLaws.{tally-none, tally-coalesce, tally-chain}
+use Rattle.counting.specs.AnswerLaws.{SumLeft, sum-begins, sum-goes, sum-ends, WalkLeft, walk-begins, walk-goes, walk-stops, walk-failed, walk-lost, walk-ends, chain-stayed, chain-failed, chain-lowered, coalesce-counted, tally-parted}
 use borrow.Author.Needs.{needs}
 use native.Mathlib.Omega.{arith}
-use Prim.Native.Nat.{_+_, _*_, _-_, _≤_}
-use mathlib.Core.Path.{_≡_, sym, _∙_}
-use Rattle.sheet.specs.Limits.{maxDepth}
-use Rattle.lowering.specs.Flatten.{links}
-use Rattle.counting.specs.TallyLaws.{capped-capped, nothing-plus}
-use Rattle.counting.specs.CodeLaws.{nothing-capped, sum-starts, sum-more, sum-done, walk-more, walk-last, walk-fails, walk-nowhere, walk-done, chain-stays, chain-fails, chain-lowers, coalesce-counts, tally-none, tally-parts, tally-coalesce, tally-chain}
-use Rattle.counting.specs.Tally.{capped, plus}
 use Rattle.counting.specs.Count as counts
 use Prim.Native.Nat.{ℕ, _<_}
 use borrow.Fn.Kinds.{In}
@@ -114,7 +111,9 @@ chain-instructions-requires : (t : ℕ) → chain-lts.Need-instructions-requires
 chain-instructions-requires t c κs = search needs
 
 chain-returns : (t : ℕ) → chain-lts.Need-returns (chain-claims t) (chain-at t) chain.Post
-chain-returns t c = let a = c .before .before .before .before .args in cc (chain-stays (a .s .now) (counts.tally (a .levels) (a .s .now)) (a .j) (cc))
+chain-returns t c =
+    let a = c .before .before .before .before .args in
+    chain-stayed (a .s .now) (counts.tally (a .levels) (a .s .now)) (a .j) (c .before .before .reach .ensures) (c .before .if1 .taken) (c .instructions .ensures)
 
 chain-walk-requires : (t : ℕ) → chain-lts.Need-walk-requires (chain-claims t) (chain-at t) chain.Post
 chain-walk-requires t c κs = omega arith
@@ -129,7 +128,10 @@ chain-plus-requires : (t : ℕ) → chain-lts.Need-plus-requires (chain-claims t
 chain-plus-requires t c κs = search needs
 
 chain-returns-2 : (t : ℕ) → chain-lts.Need-returns-2 (chain-claims t) (chain-at t) chain.Post
-chain-returns-2 t c = let a = c .before .before .before .before .before .before .before .before .args in cc (chain-fails (a .s .now) (counts.tally (a .levels) (a .s .now)) (a .j) (cc))
+chain-returns-2 t c =
+    let a = c .before .before .before .before .before .before .before .before .args in
+    chain-failed (a .s .now) (counts.tally (a .levels) (a .s .now)) (a .j) (c .before .before .before .before .before .before .reach .ensures) (c .before .before .before .if2 .taken)
+    (c .before .before .before .before .walk .ensures) (c .before .before .taken-back .ensures) (c .before .instructions2 .ensures) (c .plus .ensures)
 
 chain-child-requires : (t : ℕ) → chain-lts.Need-child-requires (chain-claims t) (chain-at t) chain.Post
 chain-child-requires t c κs = search needs
@@ -150,7 +152,11 @@ chain-plus-requires-3 : (t : ℕ) → chain-lts.Need-plus-requires-3 (chain-clai
 chain-plus-requires-3 t c κs = search needs
 
 chain-returns-3 : (t : ℕ) → chain-lts.Need-returns-3 (chain-claims t) (chain-at t) chain.Post
-chain-returns-3 t c = let a = c .before .before .before .before .before .before .before .before .before .before .before .args in cc (chain-lowers (a .s .now) (counts.tally (a .levels) (a .s .now)) (a .j) (λ e. c .before .before .before .before .before .before .before .before .if1 .left (c .before .before .before .before .before .before .before .before .before .reach .ensures ∙ e)) (λ e. c .before .before .before .before .before .before .if2 .left (c .before .before .before .before .before .before .before .before .before .reach .ensures ∙ e)))
+chain-returns-3 t c =
+    let a = c .before .before .before .before .before .before .before .before .before .before .before .args in
+    chain-lowered (a .s .now) (counts.tally (a .levels) (a .s .now)) (a .j) (c .before .before .before .before .before .before .before .before .before .reach .ensures) (c .before .before .before .before .before .before .before .before .if1 .left) (c .before .before .before .before .before .before .if2 .left)
+    (c .before .before .before .before .before .before .before .walk .ensures) (c .before .before .before .before .before .child .ensures) (c .before .before .before .before .temporary .ensures) (c .before .before .before .siblings .ensures)
+    (c .before .before .plus2 .ensures) (c .before .instructions3 .ensures) (c .plus3 .ensures)
 
 coalesce-count-requires : (t : ℕ) → coalesce-lts.Need-count-requires (coalesce-claims t) (coalesce-at t) coalesce.Post
 coalesce-count-requires t c κs = search needs
@@ -174,10 +180,13 @@ coalesce-plus-requires : (t : ℕ) → coalesce-lts.Need-plus-requires (coalesce
 coalesce-plus-requires t c κs = search needs
 
 coalesce-returns : (t : ℕ) → coalesce-lts.Need-returns (coalesce-claims t) (coalesce-at t) coalesce.Post
-coalesce-returns t c = let a = c .before .before .before .before .before .before .before .before .args in cc (coalesce-counts (a .s .now) (counts.tally (a .levels) (a .s .now)) (a .j))
+coalesce-returns t c =
+    let a = c .before .before .before .before .before .before .before .before .args in
+    coalesce-counted (a .s .now) (counts.tally (a .levels) (a .s .now)) (a .j) (c .before .before .before .before .before .before .count .ensures) (c .before .before .before .before .before .one-less .ensures)
+    (c .before .before .before .before .child .ensures) (c .before .before .before .siblings .ensures) (c .before .before .skip .ensures) (c .before .tally .ensures) (c .plus .ensures)
 
 abbrev siblings-Inv-loop : siblings-lts.InvT-loop
-siblings-Inv-loop levels s gap n from sum₀ i₀ j₀ sum i j = (i ≤ n) × (capped sum ≡ sum) × (capped (plus sum (counts.siblings s (counts.tally levels s) gap (n - i) j)) ≡ capped (counts.siblings s (counts.tally levels s) gap n from))
+siblings-Inv-loop levels s gap n from sum₀ i₀ j₀ sum i j = SumLeft s (counts.tally levels s) gap n from sum i j
 
 abbrev siblings-μ-loop : siblings-lts.MeasureT-loop
 siblings-μ-loop levels s gap n from sum₀ i₀ j₀ sum i j = n - i
@@ -186,7 +195,9 @@ siblings-nothing-requires : (t : ℕ) → siblings-lts.Need-nothing-requires (si
 siblings-nothing-requires t c κs = search needs
 
 siblings-loop-holds : (t : ℕ) → siblings-lts.Need-loop-holds (siblings-claims t) (siblings-at t) siblings.Post siblings-Inv-loop siblings-μ-loop
-siblings-loop-holds t c = let a = c .before .before .args in (omega arith, cc nothing-capped, cc (sum-starts (a .s .now) (counts.tally (a .levels) (a .s .now)) (a .gap) (a .n) (a .from)))
+siblings-loop-holds t c =
+    let a = c .before .before .args in
+    sum-begins (a .s .now) (counts.tally (a .levels) (a .s .now)) (a .gap) (a .n) (a .from) (c .nothing .ensures)
 
 siblings-tally-requires : (t : ℕ) → siblings-lts.Need-tally-requires (siblings-claims t) (siblings-at t) siblings.Post siblings-Inv-loop siblings-μ-loop
 siblings-tally-requires t c κs = omega arith
@@ -210,16 +221,24 @@ siblings-loop-less : (t : ℕ) → siblings-lts.Need-loop-less (siblings-claims 
 siblings-loop-less t c = search needs
 
 siblings-loop-again : (t : ℕ) → siblings-lts.Need-loop-again (siblings-claims t) (siblings-at t) siblings.Post siblings-Inv-loop siblings-μ-loop
-siblings-loop-again t c = let a = c .before .before .before .before .before .before .before .before .before .args in let l = c .before .before .before .before .before .before .loop in (omega arith, cc (capped-capped (plus (l .sum) (c .before .before .plus .result))), cc (sum-more (a .s .now) (counts.tally (a .levels) (a .s .now)) (a .gap) (a .n) (l .i) (l .j) (l .sum) (c .before .before .before .before .before .loop-test .taken)))
+siblings-loop-again t c =
+    let a = c .before .before .before .before .before .before .before .before .before .args in
+    let l = c .before .before .before .before .before .before .loop in
+    sum-goes (a .s .now) (counts.tally (a .levels) (a .s .now)) (a .gap) (a .n) (a .from) (l .i) (l .j) (l .sum) (l .inv)
+    (c .before .before .before .before .before .loop-test .taken) (c .before .before .before .before .tally .ensures) (c .before .before .before .instructions .ensures) (c .before .before .plus .ensures) (c .before .plus2 .ensures)
+    (c .next .ensures)
 
 siblings-returns : (t : ℕ) → siblings-lts.Need-returns (siblings-claims t) (siblings-at t) siblings.Post siblings-Inv-loop siblings-μ-loop
-siblings-returns t c = let a = c .before .before .before .before .args in let l = c .before .loop in cc (sum-done (a .s .now) (counts.tally (a .levels) (a .s .now)) (a .gap) (a .n) (l .i) (l .j) (l .sum) (c .loop-test .left) (cc))
+siblings-returns t c =
+    let a = c .before .before .before .before .args in
+    let l = c .before .loop in
+    sum-ends (a .s .now) (counts.tally (a .levels) (a .s .now)) (a .gap) (a .n) (a .from) (l .i) (l .j) (l .sum) (l .inv) (c .loop-test .left)
 
 tally-instructions-requires : (t : ℕ) → tally-lts.Need-instructions-requires (tally-claims t) (tally-at t) tally.Post
 tally-instructions-requires t c κs = search needs
 
 tally-returns : (t : ℕ) → tally-lts.Need-returns (tally-claims t) (tally-at t) tally.Post
-tally-returns t c = let a = c .before .before .before .args in cc (tally-none (a .levels) (a .s .now) (a .j) (cc))
+tally-returns t c = let a = c .before .before .before .args in c .instructions .ensures ∙ tally-none (a .levels) (a .s .now) (a .j) (c .before .if1 .taken)
 
 tally-plan-of-requires : (t : ℕ) → tally-lts.Need-plan-of-requires (tally-claims t) (tally-at t) tally.Post
 tally-plan-of-requires t c κs = search needs
@@ -255,16 +274,25 @@ tally-chain-requires : (t : ℕ) → tally-lts.Need-chain-requires (tally-claims
 tally-chain-requires t c κs = omega arith
 
 tally-returns-2 : (t : ℕ) → tally-lts.Need-returns-2 (tally-claims t) (tally-at t) tally.Post
-tally-returns-2 t c = let a = c .before .before .before .before .before .before .before .before .args in cc (tally-parts (a .levels) (a .s .now) (a .j) _ _ _ _ (c .before .before .before .before .before .before .if1 .left) (sym (c .before .before .before .before .before .plan-of .ensures) ∙ c .before .before .before .by .given .1))
+tally-returns-2 t c =
+    let a = c .before .before .before .before .before .before .before .before .args in
+    tally-parted (a .levels) (a .s .now) (a .j) (c .before .before .before .before .before .before .if1 .left) (c .before .before .before .before .before .plan-of .ensures) (c .before .before .before .by .given .1)
+    (c .before .siblings .ensures) (c .plus .ensures)
 
 tally-returns-3 : (t : ℕ) → tally-lts.Need-returns-3 (tally-claims t) (tally-at t) tally.Post
-tally-returns-3 t c = let a = c .before .before .before .before .before .before .args in cc (tally-coalesce (a .levels) (a .s .now) (a .j) (c .before .before .before .before .if1 .left) (sym (c .before .before .before .plan-of .ensures) ∙ c .before .enum-told .given .1))
+tally-returns-3 t c =
+    let a = c .before .before .before .before .before .before .args in
+    let told = sym (c .before .before .before .plan-of .ensures) ∙ c .before .enum-told .given .1 in
+    c .coalesce .ensures ∙ tally-coalesce (a .levels) (a .s .now) (a .j) (c .before .before .before .before .if1 .left) told
 
 tally-returns-4 : (t : ℕ) → tally-lts.Need-returns-4 (tally-claims t) (tally-at t) tally.Post
-tally-returns-4 t c = let a = c .before .before .before .before .before .before .args in cc (tally-chain (a .levels) (a .s .now) (a .j) (c .before .before .before .before .if1 .left) (sym (c .before .before .before .plan-of .ensures) ∙ c .before .enum-told2 .given .1))
+tally-returns-4 t c =
+    let a = c .before .before .before .before .before .before .args in
+    let told = sym (c .before .before .before .plan-of .ensures) ∙ c .before .enum-told2 .given .1 in
+    c .chain .ensures ∙ tally-chain (a .levels) (a .s .now) (a .j) (c .before .before .before .before .if1 .left) told
 
 abbrev walk-Inv-loop : walk-lts.InvT-loop
-walk-Inv-loop levels s j sum₀ left₀ c₀ sum left c = (left ≤ maxDepth) × (capped sum ≡ sum) × (capped (plus sum (counts.walk s (counts.tally levels s) (links left s c))) ≡ capped (counts.walk s (counts.tally levels s) (links maxDepth s j)))
+walk-Inv-loop levels s j sum₀ left₀ c₀ sum left c = WalkLeft s (counts.tally levels s) j sum left c
 
 abbrev walk-μ-loop : walk-lts.MeasureT-loop
 walk-μ-loop levels s j sum₀ left₀ c₀ sum left c = left
@@ -273,7 +301,9 @@ walk-nothing-requires : (t : ℕ) → walk-lts.Need-nothing-requires (walk-claim
 walk-nothing-requires t c κs = search needs
 
 walk-loop-holds : (t : ℕ) → walk-lts.Need-loop-holds (walk-claims t) (walk-at t) walk.Post walk-Inv-loop walk-μ-loop
-walk-loop-holds t c = let a = c .before .before .args in (omega arith, cc nothing-capped, cc (nothing-plus (counts.walk (a .s .now) (counts.tally (a .levels) (a .s .now)) (links maxDepth (a .s .now) (a .j)))))
+walk-loop-holds t c =
+    let a = c .before .before .args in
+    walk-begins (a .s .now) (counts.tally (a .levels) (a .s .now)) (a .j) (c .nothing .ensures)
 
 walk-link-of-requires : (t : ℕ) → walk-lts.Need-link-of-requires (walk-claims t) (walk-at t) walk.Post walk-Inv-loop walk-μ-loop
 walk-link-of-requires t c κs = search needs
@@ -300,25 +330,46 @@ walk-loop-less : (t : ℕ) → walk-lts.Need-loop-less (walk-claims t) (walk-at 
 walk-loop-less t c = search needs
 
 walk-loop-again : (t : ℕ) → walk-lts.Need-loop-again (walk-claims t) (walk-at t) walk.Post walk-Inv-loop walk-μ-loop
-walk-loop-again t c = let a = c .before .before .before .before .before .before .before .before .before .before .before .before .before .args in let l = c .before .before .before .before .before .before .before .before .before .before .loop in (omega arith, cc (capped-capped (plus (l .sum) (c .before .before .before .before .siblings .result))), cc (walk-more (a .s .now) (counts.tally (a .levels) (a .s .now)) (l .left) (l .c) (l .sum) _ _ (c .before .before .before .before .before .before .before .before .before .loop-test .taken) (sym (c .before .before .before .before .before .before .before .before .link-of .ensures) ∙ c .before .before .before .before .before .before .l .given .1) (cc)))
+walk-loop-again t c =
+    let a = c .before .before .before .before .before .before .before .before .before .before .before .before .before .args in
+    let l = c .before .before .before .before .before .before .before .before .before .before .loop in
+    walk-goes (a .s .now) (counts.tally (a .levels) (a .s .now)) (a .j) (l .sum) (l .left) (l .c) (l .inv) (c .before .before .before .before .before .before .before .before .before .loop-test .taken)
+    (c .before .before .before .before .before .before .before .before .link-of .ensures) (c .before .before .before .before .before .before .l .given .1) (c .before .before .before .before .siblings .ensures) (c .before .before .before .plus .ensures)
+    (c .before .before .goes-on .ensures) (c .before .if1 .taken) (c .rest-of .ensures)
 
 walk-returns : (t : ℕ) → walk-lts.Need-returns (walk-claims t) (walk-at t) walk.Post walk-Inv-loop walk-μ-loop
-walk-returns t c = let a = c .before .before .before .before .before .before .before .before .before .before .before .before .args in let l = c .before .before .before .before .before .before .before .before .before .loop in cc (walk-last (a .s .now) (counts.tally (a .levels) (a .s .now)) (l .left) (l .c) (l .sum) _ _ (c .before .before .before .before .before .before .before .before .loop-test .taken) (sym (c .before .before .before .before .before .before .before .link-of .ensures) ∙ c .before .before .before .before .before .l .given .1) (cc))
+walk-returns t c =
+    let a = c .before .before .before .before .before .before .before .before .before .before .before .before .args in
+    let l = c .before .before .before .before .before .before .before .before .before .loop in
+    walk-stops (a .s .now) (counts.tally (a .levels) (a .s .now)) (a .j) (l .sum) (l .left) (l .c) (l .inv) (c .before .before .before .before .before .before .before .before .loop-test .taken)
+    (c .before .before .before .before .before .before .before .link-of .ensures) (c .before .before .before .before .before .l .given .1) (c .before .before .before .siblings .ensures) (c .before .before .plus .ensures)
+    (c .before .goes-on .ensures) (c .if1 .left)
 
 walk-enum-told : (t : ℕ) → walk-lts.Need-enum-told (walk-claims t) (walk-at t) walk.Post walk-Inv-loop walk-μ-loop
 walk-enum-told t c = search needs
 
 walk-returns-2 : (t : ℕ) → walk-lts.Need-returns-2 (walk-claims t) (walk-at t) walk.Post walk-Inv-loop walk-μ-loop
-walk-returns-2 t c = let a = c .before .before .before .before .before .before .before .args in let l = c .before .before .before .before .loop in cc (walk-fails (a .s .now) (counts.tally (a .levels) (a .s .now)) (l .left) (l .c) (l .sum) (c .before .before .before .loop-test .taken) (sym (c .before .before .link-of .ensures) ∙ c .enum-told .given .1) (cc))
+walk-returns-2 t c =
+    let a = c .before .before .before .before .before .before .before .args in
+    let l = c .before .before .before .before .loop in
+    walk-failed (a .s .now) (counts.tally (a .levels) (a .s .now)) (a .j) (l .sum) (l .left) (l .c) (l .inv) (c .before .before .before .loop-test .taken)
+    (c .before .before .link-of .ensures) (c .enum-told .given .1)
 
 walk-enum-told-2 : (t : ℕ) → walk-lts.Need-enum-told-2 (walk-claims t) (walk-at t) walk.Post walk-Inv-loop walk-μ-loop
 walk-enum-told-2 t c = search needs
 
 walk-returns-3 : (t : ℕ) → walk-lts.Need-returns-3 (walk-claims t) (walk-at t) walk.Post walk-Inv-loop walk-μ-loop
-walk-returns-3 t c = let a = c .before .before .before .before .before .before .before .args in let l = c .before .before .before .before .loop in cc (walk-nowhere (a .s .now) (counts.tally (a .levels) (a .s .now)) (l .left) (l .c) (l .sum) (c .before .before .before .loop-test .taken) (sym (c .before .before .link-of .ensures) ∙ c .enum-told2 .given .1) (cc))
+walk-returns-3 t c =
+    let a = c .before .before .before .before .before .before .before .args in
+    let l = c .before .before .before .before .loop in
+    walk-lost (a .s .now) (counts.tally (a .levels) (a .s .now)) (a .j) (l .sum) (l .left) (l .c) (l .inv) (c .before .before .before .loop-test .taken)
+    (c .before .before .link-of .ensures) (c .enum-told2 .given .1)
 
 walk-returns-4 : (t : ℕ) → walk-lts.Need-returns-4 (walk-claims t) (walk-at t) walk.Post walk-Inv-loop walk-μ-loop
-walk-returns-4 t c = let a = c .before .before .before .before .args in let l = c .before .loop in cc (walk-done (a .s .now) (counts.tally (a .levels) (a .s .now)) (l .left) (l .c) (l .sum) (c .loop-test .left) (cc))
+walk-returns-4 t c =
+    let a = c .before .before .before .before .args in
+    let l = c .before .loop in
+    walk-ends (a .s .now) (counts.tally (a .levels) (a .s .now)) (a .j) (l .sum) (l .left) (l .c) (l .inv) (c .loop-test .left)
 
 pub +chain+coalesce+siblings+tally+walk-spec : {M : Type 1} → statement M
 +chain+coalesce+siblings+tally+walk-spec =

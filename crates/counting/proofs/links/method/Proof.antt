@@ -1,4 +1,6 @@
 -- `counting::links::method` meets its contract: one law for each way.
+use mathlib.Core.Path.{sym, ap₂, _∙_}
+use Rattle.counting.specs.declared.links.Link.the-variants.{Lowers}
 use Rattle.counting.specs.PlanLaws.{method-lowers, method-fails}
 use borrow.Author.Needs.{needs}
 use Rattle.counting.proofs.links.method.Statement.{statement}
@@ -14,10 +16,13 @@ child-requires : tie.Need-child-requires
 child-requires c κs = search needs
 
 returns : tie.Need-returns
-returns c = let a = c .before .before .before .before .before .args in cc (method-lowers (a .s .now) (a .x) (cc))
+returns c =
+    let a = c .before .before .before .before .before .args in
+    ap₂ Lowers (c .before .count .ensures) (c .child .ensures)
+    ∙ method-lowers (a .s .now) (a .x) (sym (c .before .before .before .is-lowerable-method .ensures) ∙ c .before .before .if1 .taken)
 
 returns-2 : tie.Need-returns-2
-returns-2 c = let a = c .before .before .before .args in cc (method-fails (a .s .now) (a .x) (cc))
+returns-2 c = let a = c .before .before .before .args in method-fails (a .s .now) (a .x) (sym (c .before .is-lowerable-method .ensures) ∙ c .if1 .left)
 
 pub method-spec : {M : Type 1} → statement M
 method-spec =

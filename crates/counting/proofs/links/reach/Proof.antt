@@ -1,23 +1,17 @@
 -- `counting::links::reach` meets its contract. Invariant: how far the chain comes with the links passed and with those left is how far it comes.
+use Rattle.counting.specs.AnswerLaws.{ReachLeft, reach-begins, reach-goes, reach-stops, reach-ends}
 use borrow.Author.Needs.{needs}
-use native.Mathlib.Omega.{arith}
-use Prim.Native.Nat.{_≤_, min}
-use mathlib.Core.Path.{_≡_}
-use Rattle.sheet.specs.Limits.{maxDepth}
-use Rattle.lowering.specs.Flatten.{links}
-use Rattle.counting.specs.LinkLaws.{reach-starts, reach-more, reach-last, reach-done}
-use Rattle.counting.specs.Link.{least}
 use Rattle.counting.proofs.links.reach.Statement.{statement}
 use Rattle.counting.proofs.links.reach.Tie as tie
 
 abbrev Inv-loop : tie.InvT-loop
-Inv-loop s j least₀ left₀ c₀ least left c = (left ≤ maxDepth) × (least ≤ 2) × (min least (Rattle.counting.specs.Link.least s (links left s c)) ≡ Rattle.counting.specs.Link.least s (links maxDepth s j))
+Inv-loop s j least₀ left₀ c₀ least left c = ReachLeft s j least left c
 
 abbrev μ-loop : tie.MeasureT-loop
 μ-loop s j least₀ left₀ c₀ least left c = left
 
 loop-holds : tie.Need-loop-holds Inv-loop μ-loop
-loop-holds c = let a = c .before .args in (omega arith, omega arith, reach-starts (a .s .now) (links maxDepth (a .s .now) (a .j)))
+loop-holds c = let a = c .before .args in reach-begins (a .s .now) (a .j)
 
 link-of-requires : tie.Need-link-of-requires Inv-loop μ-loop
 link-of-requires c κs = search needs
@@ -41,13 +35,24 @@ loop-less : tie.Need-loop-less Inv-loop μ-loop
 loop-less c = search needs
 
 loop-again : tie.Need-loop-again Inv-loop μ-loop
-loop-again c = let a = c .before .before .before .before .before .before .before .before .before .args in let l = c .before .before .before .before .before .before .before .loop in (omega arith, omega arith, cc (reach-more (a .s .now) (l .left) (l .c) (l .least) (c .before .before .before .before .before .before .loop-test .taken) (cc)))
+loop-again c =
+    let a = c .before .before .before .before .before .before .before .before .before .args in
+    let l = c .before .before .before .before .before .before .before .loop in
+    reach-goes (a .s .now) (a .j) (l .least) (l .left) (l .c) (l .inv) (c .before .before .before .before .before .before .loop-test .taken) (c .before .before .before .before .before .link-of .ensures)
+    (c .before .before .before .before .grade .ensures) (c .before .before .before .lesser .ensures) (c .before .before .goes-on .ensures) (c .before .if1 .taken) (c .rest-of .ensures)
 
 returns : tie.Need-returns Inv-loop μ-loop
-returns c = let a = c .before .before .before .before .before .before .before .before .args in let l = c .before .before .before .before .before .before .loop in cc (reach-last (a .s .now) (l .left) (l .c) (l .least) (c .before .before .before .before .before .loop-test .taken) (cc))
+returns c =
+    let a = c .before .before .before .before .before .before .before .before .args in
+    let l = c .before .before .before .before .before .before .loop in
+    reach-stops (a .s .now) (a .j) (l .least) (l .left) (l .c) (l .inv) (c .before .before .before .before .before .loop-test .taken) (c .before .before .before .before .link-of .ensures)
+    (c .before .before .before .grade .ensures) (c .before .before .lesser .ensures) (c .before .goes-on .ensures) (c .if1 .left)
 
 returns-2 : tie.Need-returns-2 Inv-loop μ-loop
-returns-2 c = let a = c .before .before .before .args in let l = c .before .loop in cc (reach-done (a .s .now) (l .left) (l .c) (l .least) (c .loop-test .left) (omega arith))
+returns-2 c =
+    let a = c .before .before .before .args in
+    let l = c .before .loop in
+    reach-ends (a .s .now) (a .j) (l .least) (l .left) (l .c) (l .inv) (c .loop-test .left)
 
 pub reach-spec : {M : Type 1} → statement M
 reach-spec =

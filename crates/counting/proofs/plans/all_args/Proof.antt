@@ -1,4 +1,5 @@
 -- `counting::plans::all_args` meets its contract: the parts are those of the definition.
+use Rattle.counting.specs.AnswerLaws.{parts-path}
 use Rattle.counting.specs.Plan.{allArgs}
 use borrow.Author.Needs.{needs}
 use Rattle.counting.proofs.plans.all_args.Statement.{statement}
@@ -15,7 +16,7 @@ instructions-requires c κs = search needs
 
 returns : tie.Need-returns
 unfolding allArgs
-returns c = cc
+returns c = parts-path (c .before .before .count .ensures) (c .before .child .ensures) (c .instructions .ensures)
 
 pub all-args-spec : {M : Type 1} → statement M
 all-args-spec = tie.close (tie.spec count-requires child-requires instructions-requires returns)

@@ -1,6 +1,6 @@
 -- `counting::plans::array` meets its contract: one law for each way.
-use native.Mathlib.Omega.{arith}
-use Rattle.counting.specs.PlanLaws.{array-few, array-many}
+use mathlib.Core.Path.{_∙_}
+use Rattle.counting.specs.AnswerLaws.{array-parts, array-stays}
 use borrow.Author.Needs.{needs}
 use Rattle.counting.proofs.plans.array.Statement.{statement}
 use Rattle.counting.proofs.plans.array.Tie as tie
@@ -15,13 +15,15 @@ instructions-requires : tie.Need-instructions-requires
 instructions-requires c κs = search needs
 
 returns : tie.Need-returns
-returns c = let a = c .before .before .before .before .before .args in cc (array-few (a .s .now) (a .j) (omega arith))
+returns c =
+    let a = c .before .before .before .before .before .args in
+    array-parts (a .s .now) (a .j) (c .before .before .before .count .ensures) (c .before .before .if1 .taken) (c .before .child .ensures) (c .instructions .ensures)
 
 one-requires : tie.Need-one-requires
 one-requires c κs = search needs
 
 returns-2 : tie.Need-returns-2
-returns-2 c = let a = c .before .before .before .before .args in cc (array-many (a .s .now) (a .j) (omega arith))
+returns-2 c = let a = c .before .before .before .before .args in c .one .ensures ∙ array-stays (a .s .now) (a .j) (c .before .before .count .ensures) (c .before .if1 .left)
 
 pub array-spec : {M : Type 1} → statement M
 array-spec =

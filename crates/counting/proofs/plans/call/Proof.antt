@@ -1,9 +1,7 @@
 -- `counting::plans::call` meets its contract, receiver by receiver.
-use mathlib.Core.Path.{_≡_, sym, _∙_}
+use mathlib.Core.Path.{sym, ap, _∙_}
 use native.Mathlib.Omega.{arith}
 use Prim.Native.Nat.{_+_, _-_}
-use Rattle.sheet.specs.Node.{count}
-use Rattle.lowering.specs.Call.{receiver}
 use Rattle.rules.specs.Inverse.{firstFrom}
 use Rattle.counting.specs.PlanLaws.{call-at, rotates-least}
 use Rattle.counting.specs.Plan.{otherArgs, rotates, callBy}
@@ -56,7 +54,13 @@ returns c = let a = c .before .before .before .before .before .args in c .other-
 
 returns-2 : tie.Need-returns-2
 unfolding callBy firstFrom
-returns-2 c = let a = c .before .before .before .before .before .before .before .before .args in let h : otherArgs (a .s .now) (a .j) (2 + rotates (count (a .s .now) (a .j) - 1)) ≡ callBy (receiver (a .s .now) (a .j)) (a .s .now) (a .j) = call-at (a .s .now) (a .j) _ (sym (c .before .before .before .before .before .before .receiver .ensures) ∙ c .before .before .before .before .enum-told2 .given .1) in cc
+returns-2 c =
+    let a = c .before .before .before .before .before .before .before .before .args in
+    let s = a .s .now in
+    let others-is = c .before .before .one-less .ensures ∙ ap (λ n. n - 1) (c .before .before .before .count .ensures) in
+    c .other-args2 .ensures
+    ∙ ap (λ n. otherArgs s (a .j) (2 + n)) (c .before .rotates .ensures ∙ ap rotates others-is)
+    ∙ call-at s (a .j) _ (sym (c .before .before .before .before .before .before .receiver .ensures) ∙ c .before .before .before .before .enum-told2 .given .1)
 
 returns-3 : tie.Need-returns-3
 unfolding callBy firstFrom

@@ -1,4 +1,5 @@
 -- `counting::plans::interpolated` meets its contract: the parts are those of the definition.
+use Rattle.counting.specs.AnswerLaws.{parts-path}
 use Rattle.counting.specs.Plan.{interpolated}
 use borrow.Author.Needs.{needs}
 use Rattle.counting.proofs.plans.interpolated.Statement.{statement}
@@ -15,7 +16,7 @@ instructions-requires c κs = search needs
 
 returns : tie.Need-returns
 unfolding interpolated
-returns c = cc
+returns c = parts-path (c .before .before .count .ensures) (c .before .child .ensures) (c .instructions .ensures)
 
 pub interpolated-spec : {M : Type 1} → statement M
 interpolated-spec =

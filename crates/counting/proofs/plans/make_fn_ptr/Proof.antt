@@ -1,4 +1,6 @@
 -- `counting::plans::make_fn_ptr` meets its contract: the parts are those of the definition.
+use mathlib.Core.Path.{refl}
+use Rattle.counting.specs.AnswerLaws.{parts-path}
 use Rattle.counting.specs.Plan.{makeFnPtr}
 use borrow.Author.Needs.{needs}
 use Rattle.counting.proofs.plans.make_fn_ptr.Statement.{statement}
@@ -12,7 +14,7 @@ instructions-requires c κs = search needs
 
 returns : tie.Need-returns
 unfolding makeFnPtr
-returns c = cc
+returns c = parts-path refl (c .before .child .ensures) (c .instructions .ensures)
 
 pub make-fn-ptr-spec : {M : Type 1} → statement M
 make-fn-ptr-spec = tie.close (tie.spec child-requires instructions-requires returns)

@@ -1,5 +1,6 @@
 -- `counting::plans::one` meets its contract: the parts are those of the definition.
-use Rattle.counting.specs.Plan.{one}
+use mathlib.Core.Path.{ap, _∙_}
+use Rattle.counting.specs.Plan.{alone}
 use borrow.Author.Needs.{needs}
 use Rattle.counting.proofs.plans.one.Statement.{statement}
 use Rattle.counting.proofs.plans.one.Tie as tie
@@ -11,8 +12,7 @@ alone-requires : tie.Need-alone-requires
 alone-requires c κs = search needs
 
 returns : tie.Need-returns
-unfolding one
-returns c = cc
+returns c = c .alone .ensures ∙ ap alone (c .before .instructions .ensures)
 
 pub one-spec : {M : Type 1} → statement M
 one-spec = tie.close (tie.spec instructions-requires alone-requires returns)

@@ -1,4 +1,8 @@
 -- `counting::plans::other_args` meets its contract: the parts are those of the definition.
+use Prim.Native.Nat.{_-_}
+use mathlib.Core.Path.{ap, _∙_}
+use Rattle.sheet.specs.Node.{next}
+use Rattle.counting.specs.AnswerLaws.{parts-path}
 use Rattle.counting.specs.Plan.{otherArgs}
 use borrow.Author.Needs.{needs}
 use Rattle.counting.proofs.plans.other_args.Statement.{statement}
@@ -21,7 +25,11 @@ instructions-requires c κs = search needs
 
 returns : tie.Need-returns
 unfolding otherArgs
-returns c = cc
+returns c =
+    let s = c .before .before .before .before .before .before .args .s .now in
+    let n-is = c .before .before .before .one-less .ensures ∙ ap (λ n. n - 1) (c .before .before .before .before .count .ensures) in
+    let from-is = c .before .next .ensures ∙ ap (next s) (c .before .before .child .ensures) in
+    parts-path n-is from-is (c .instructions .ensures)
 
 pub other-args-spec : {M : Type 1} → statement M
 other-args-spec =
