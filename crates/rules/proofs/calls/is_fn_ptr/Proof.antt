@@ -1,4 +1,9 @@
 -- `rules::calls::is_fn_ptr` meets its contract: the tests are those of the definition.
+use mathlib.Core.Path.{ap, ap₂, _∙_}
+use mathlib.Core.Bool.{_&&_}
+use lib.Dec.{eqb}
+use Rattle.text.specs.Keyword.{isFn}
+use Rattle.sheet.specs.Text.{text}
 use Rattle.lowering.specs.Call.{isFnPtr}
 use borrow.Author.Needs.{needs}
 use Rattle.rules.proofs.calls.is_fn_ptr.Statement.{statement}
@@ -18,7 +23,10 @@ count-requires c κs = search needs
 
 returns : tie.Need-returns
 unfolding isFnPtr
-returns c = cc
+returns c =
+    let s = c .before .before .before .before .before .args .s .now in
+    let name-is = c .before .before .text .ensures ∙ ap (text s) (c .before .before .before .field-a .ensures) in
+    ap₂ (λ b n. b && eqb n 1) (c .before .is-fn .ensures ∙ ap isFn name-is) (c .count .ensures)
 
 pub is-fn-ptr-spec : {M : Type 1} → statement M
 is-fn-ptr-spec =

@@ -1,4 +1,11 @@
 -- `rules::calls::is_fn_ptr_call` meets its contract: the tests are those of the definition.
+use Prim.Native.Nat.{_+_}
+use mathlib.Core.Path.{ap, ap₂, _∙_}
+use mathlib.Core.Bool.{_&&_}
+use lib.Dec.{leb}
+use Rattle.text.specs.Keyword.{isCall}
+use Rattle.sheet.specs.Text.{text}
+use Rattle.lowering.specs.Limits.{maxArgs}
 use Rattle.lowering.specs.Call.{isFnPtrCall}
 use borrow.Author.Needs.{needs}
 use Rattle.rules.proofs.calls.is_fn_ptr_call.Statement.{statement}
@@ -21,7 +28,10 @@ add-result c = search needs
 
 returns : tie.Need-returns
 unfolding isFnPtrCall
-returns c = cc
+returns c =
+    let s = c .before .before .before .before .before .args .s .now in
+    let name-is = c .before .text .ensures ∙ ap (text s) (c .before .before .field-a .ensures) in
+    ap₂ (λ b n. b && leb 1 n && leb n (maxArgs + 1)) (c .is-call .ensures ∙ ap isCall name-is) (c .before .before .before .count .ensures)
 
 pub is-fn-ptr-call-spec : {M : Type 1} → statement M
 is-fn-ptr-call-spec =

@@ -1,4 +1,9 @@
 -- `rules::calls::receiver` meets its contract: the test is the definition's.
+use mathlib.Core.Path.{sym, ap, ap₂, _∙_}
+use mathlib.Core.Bool.{_&&_}
+use lib.Dec.{eqb, leb}
+use Rattle.lowering.specs.Call as Call
+use Rattle.rules.specs.Answers.{firstOf}
 use Rattle.rules.specs.RuleLaws.{receiver-first, receiver-none}
 use borrow.Author.Needs.{needs}
 use Rattle.rules.proofs.calls.receiver.Statement.{statement}
@@ -20,10 +25,21 @@ first-of-requires : tie.Need-first-of-requires
 first-of-requires c κs = search needs
 
 returns : tie.Need-returns
-returns c = let a = c .before .before .before .before .before .before .before .args in cc (receiver-first (a .s .now) (a .j) (cc))
+returns c =
+    let a = c .before .before .before .before .before .before .before .args in
+    let s = a .s .now in
+    let plain = ap₂ (λ x y. eqb x 0 && eqb y 0) (c .before .before .before .before .before .field-c .ensures) (c .before .before .before .before .field-b .ensures) in
+    let test-is = ap₂ _&&_ plain (ap (leb 1) (c .before .before .before .count .ensures)) in
+    c .first-of .ensures
+    ∙ ap (λ v. firstOf (Call.firstOf s v)) (c .before .child .ensures)
+    ∙ ap firstOf (sym (receiver-first s (a .j) (sym test-is ∙ c .before .before .if1 .taken)))
 
 returns-2 : tie.Need-returns-2
-returns-2 c = let a = c .before .before .before .before .before .args in receiver-none (a .s .now) (a .j) (cc)
+returns-2 c =
+    let a = c .before .before .before .before .before .args in
+    let plain = ap₂ (λ x y. eqb x 0 && eqb y 0) (c .before .before .before .field-c .ensures) (c .before .before .field-b .ensures) in
+    let test-is = ap₂ _&&_ plain (ap (leb 1) (c .before .count .ensures)) in
+    receiver-none (a .s .now) (a .j) (sym test-is ∙ c .if1 .left)
 
 pub receiver-spec : {M : Type 1} → statement M
 receiver-spec =

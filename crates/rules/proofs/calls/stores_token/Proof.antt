@@ -1,4 +1,7 @@
 -- `rules::calls::stores_token` meets its contract: the tests are those of the definition.
+use mathlib.Core.Path.{ap₂}
+use mathlib.Core.Bool.{_&&_, _||_, not}
+use lib.Dec.{eqb}
 use Rattle.lowering.specs.Call.{storesToken}
 use borrow.Author.Needs.{needs}
 use Rattle.rules.proofs.calls.stores_token.Statement.{statement}
@@ -12,7 +15,7 @@ field-c-requires c κs = search needs
 
 returns : tie.Need-returns
 unfolding storesToken
-returns c = cc
+returns c = ap₂ (λ x n. not (eqb x 0) && (eqb n 1 || eqb n 2)) (c .field-c .ensures) (c .before .count .ensures)
 
 pub stores-token-spec : {M : Type 1} → statement M
 stores-token-spec = tie.close (tie.spec count-requires field-c-requires returns)

@@ -1,4 +1,6 @@
 -- `rules::calls::syntactic` meets its contract: the tests are those of the definition.
+use mathlib.Core.Path.{ap₂}
+use mathlib.Core.Bool.{_||_}
 use Rattle.lowering.specs.Call.{syntactic}
 use borrow.Author.Needs.{needs}
 use Rattle.rules.proofs.calls.syntactic.Statement.{statement}
@@ -18,7 +20,7 @@ is-curry-requires c κs = search needs
 
 returns : tie.Need-returns
 unfolding syntactic
-returns c = cc
+returns c = ap₂ _||_ (ap₂ _||_ (ap₂ _||_ (c .before .before .before .is-eval .ensures) (c .before .before .is-fn .ensures)) (c .before .is-call .ensures)) (c .is-curry .ensures)
 
 pub syntactic-spec : {M : Type 1} → statement M
 syntactic-spec =

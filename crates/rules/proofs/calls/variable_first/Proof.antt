@@ -1,4 +1,8 @@
 -- `rules::calls::variable_first` meets its contract: by what the search among the locals answers.
+use mathlib.Core.Path.{sym, ap, _∙_}
+use Rattle.sheet.specs.Text.{text}
+use Rattle.lowering.specs.Slots.{resolve}
+use Rattle.slots.specs.Found.{found}
 use Rattle.rules.specs.RuleLaws.{variable-local, variable-named}
 use borrow.Author.Needs.{needs}
 use Rattle.rules.proofs.calls.variable_first.Statement.{statement}
@@ -20,10 +24,20 @@ enum-told : tie.Need-enum-told
 enum-told c = search needs
 
 returns : tie.Need-returns
-returns c = let a = c .before .before .before .before .before .before .before .args in variable-local (a .s .now) (a .v) _ (cc)
+returns c =
+    let a = c .before .before .before .before .before .before .before .args in
+    let s = a .s .now in
+    let name-is = c .before .before .before .before .text .ensures ∙ ap (text s) (c .before .before .before .before .before .field-a .ensures) in
+    let found-is = c .before .before .before .resolve .ensures ∙ ap (λ b. found (resolve s b)) name-is in
+    variable-local s (a .v) _ (sym found-is ∙ c .before .found .given .1)
 
 returns-2 : tie.Need-returns-2
-returns-2 c = let a = c .before .before .before .before .before .before .args in variable-named (a .s .now) (a .v) (cc)
+returns-2 c =
+    let a = c .before .before .before .before .before .before .args in
+    let s = a .s .now in
+    let name-is = c .before .before .before .text .ensures ∙ ap (text s) (c .before .before .before .before .field-a .ensures) in
+    let found-is = c .before .before .resolve .ensures ∙ ap (λ b. found (resolve s b)) name-is in
+    variable-named s (a .v) (sym found-is ∙ c .enum-told .given .1)
 
 pub variable-first-spec : {M : Type 1} → statement M
 variable-first-spec =

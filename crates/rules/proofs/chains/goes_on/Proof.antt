@@ -1,5 +1,8 @@
 -- `rules::chains::goes_on` meets its contract: the tests are those of the definition.
-use Rattle.lowering.specs.Flatten.{goesOn}
+use mathlib.Core.Path.{ap, ap₂, _∙_}
+use mathlib.Core.Bool.{_&&_, not}
+use Rattle.sheet.specs.Node.{kind}
+use Rattle.lowering.specs.Flatten.{isChain, goesOn}
 use borrow.Author.Needs.{needs}
 use Rattle.rules.proofs.chains.goes_on.Statement.{statement}
 use Rattle.rules.proofs.chains.goes_on.Tie as tie
@@ -18,7 +21,10 @@ is-chain-requires c κs = search needs
 
 returns : tie.Need-returns
 unfolding goesOn
-returns c = cc
+returns c =
+    let s = c .before .before .before .before .before .args .s .now in
+    let kind-is = c .before .kind .ensures ∙ ap (kind s) (c .before .before .rest-of .ensures) in
+    ap₂ (λ b k. not b && k) (c .before .before .before .breaks .ensures) (c .is-chain .ensures ∙ ap isChain kind-is)
 
 pub goes-on-spec : {M : Type 1} → statement M
 goes-on-spec =

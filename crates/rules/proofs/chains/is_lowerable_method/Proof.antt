@@ -1,4 +1,10 @@
 -- `rules::chains::is_lowerable_method` meets its contract: the tests are those of the definition.
+use mathlib.Core.Path.{ap, ap₂, _∙_}
+use mathlib.Core.Bool.{_&&_, _||_}
+use lib.Dec.{leb}
+use Rattle.text.specs.Keyword.{isCall, isCurry}
+use Rattle.sheet.specs.Text.{text}
+use Rattle.lowering.specs.Limits.{maxArgs}
 use Rattle.lowering.specs.Steps.{isLowerableMethod}
 use borrow.Author.Needs.{needs}
 use Rattle.rules.proofs.chains.is_lowerable_method.Statement.{statement}
@@ -24,7 +30,11 @@ count-requires c κs = search needs
 
 returns : tie.Need-returns
 unfolding isLowerableMethod
-returns c = cc
+returns c =
+    let s = c .before .before .before .before .before .before .before .args .s .now in
+    let name-is = c .before .before .before .before .text .ensures ∙ ap (text s) (c .before .before .before .before .before .field-a .ensures) in
+    let own-is = ap₂ _||_ (c .before .before .before .is-call .ensures ∙ ap isCall name-is) (c .before .before .is-curry .ensures ∙ ap isCurry name-is) in
+    ap₂ (λ b n. b && leb n maxArgs) (ap₂ _||_ own-is (c .before .is-lowerable-call .ensures)) (c .count .ensures)
 
 pub is-lowerable-method-spec : {M : Type 1} → statement M
 is-lowerable-method-spec =

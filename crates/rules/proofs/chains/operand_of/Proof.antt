@@ -1,4 +1,6 @@
 -- `rules::chains::operand_of` meets its contract: one law for each way.
+use mathlib.Core.Path.{sym, ap, _∙_}
+use Rattle.sheet.specs.Node.{child}
 use Rattle.rules.specs.RuleLaws.{operand-next, operand-rest}
 use borrow.Author.Needs.{needs}
 use Rattle.rules.proofs.chains.operand_of.Statement.{statement}
@@ -14,10 +16,16 @@ child-requires : tie.Need-child-requires
 child-requires c κs = search needs
 
 returns : tie.Need-returns
-returns c = let a = c .before .before .before .before .before .args in cc (operand-next (a .s .now) (a .c) (cc))
+returns c =
+    let a = c .before .before .before .before .before .args in
+    c .child .ensures
+    ∙ ap child (c .before .before .before .rest-of .ensures)
+    ∙ sym (operand-next (a .s .now) (a .c) (sym (c .before .before .goes-on .ensures) ∙ c .before .if1 .taken))
 
 returns-2 : tie.Need-returns-2
-returns-2 c = let a = c .before .before .before .before .args in cc (operand-rest (a .s .now) (a .c) (cc))
+returns-2 c =
+    let a = c .before .before .before .before .args in
+    c .before .before .rest-of .ensures ∙ sym (operand-rest (a .s .now) (a .c) (sym (c .before .goes-on .ensures) ∙ c .if1 .left))
 
 pub operand-of-spec : {M : Type 1} → statement M
 operand-of-spec =

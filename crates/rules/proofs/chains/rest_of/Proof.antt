@@ -1,4 +1,6 @@
 -- `rules::chains::rest_of` meets its contract: the rest is the second child.
+use mathlib.Core.Path.{ap, _∙_}
+use Rattle.sheet.specs.Node.{next}
 use Rattle.lowering.specs.Flatten.{restOf}
 use borrow.Author.Needs.{needs}
 use Rattle.rules.proofs.chains.rest_of.Statement.{statement}
@@ -12,7 +14,7 @@ next-requires c κs = search needs
 
 returns : tie.Need-returns
 unfolding restOf
-returns c = cc
+returns c = c .next .ensures ∙ ap (next (c .before .before .before .args .s .now)) (c .before .child .ensures)
 
 pub rest-of-spec : {M : Type 1} → statement M
 rest-of-spec = tie.close (tie.spec child-requires next-requires returns)
