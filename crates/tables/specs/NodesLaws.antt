@@ -1,6 +1,6 @@
 -- Siblings as a list, in the shapes of a walk, and where the parts of a Switch stand.
 use Prim.Native.Nat.{ℕ, zero, suc, _+_, _*_, _-_, _≤_, _<_, min}
-use mathlib.Core.Path.{_≡_, refl, sym, _∙_, ap}
+use mathlib.Core.Path.{_≡_, refl, sym, _∙_, ap, ap₂}
 use mathlib.Core.List.{List, [], _∷_}
 use native.Mathlib.Omega.{arith}
 use lib.ListN.{length, getD, take}
@@ -67,6 +67,9 @@ module _ (s : List ℕ) where
   pub cases-are : casesOf s ≡ nodesFrom s (caseCount s) (firstCase s)
   unfolding casesOf firstCase
   cases-are = refl
+
+  pub cases-from : {n j : ℕ} → n ≡ caseCount s → j ≡ firstCase s → nodesFrom s n j ≡ casesOf s
+  cases-from e h = ap₂ (nodesFrom s) e h ∙ sym cases-are
 
   pub ranges-are : rangeNodes s ≡ nodesFrom s (rangeCount s) (skip s (caseCount s) (firstCase s))
   unfolding rangeNodes firstCase

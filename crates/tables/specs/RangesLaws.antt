@@ -1,6 +1,6 @@
 -- Laws of the ranges that the code holds: their end points, and the blocks of those that cover a piece.
 use Prim.Native.Nat.{ℕ, _+_, _*_, _≤_, _<_, min}
-use mathlib.Core.Path.{_≡_, refl, sym, _∙_, ap}
+use mathlib.Core.Path.{_≡_, refl, sym, _∙_, ap, ap₂}
 use mathlib.Core.Bool.{Bool, true, false}
 use mathlib.Core.List.{List, [], _∷_, _++_, map}
 use native.Mathlib.Omega.{arith}
@@ -11,7 +11,7 @@ use mir.Syntax.{w64}
 use mir.Val.{SFits}
 use mir.ValLaws.{toZ-ofZ}
 use Rattle.sheet.specs.Node.{fieldA, fieldB, child, next}
-use Rattle.cases.specs.Excess.{excessOf}
+use Rattle.cases.specs.Excess.{excess, excessOf}
 use Rattle.cases.specs.Held as points
 use Rattle.cases.specs.OrderLaws.{asRead}
 use Rattle.cases.specs.Points.{points as pointsOf, sort, dedup, cuts}
@@ -34,6 +34,16 @@ module _ (s : List ℕ) (r : ℕ) (from to : ℤ) (i : Bool) (b : ℕ) (f : SFit
       → rangeIn (record { from = asRead from; to = asRead to; inclusive = i; block = b }) ≡ rangeOf s r
   unfolding rangeIn rangeOf
   range-is h k e q = rw (toZ-ofZ w64 from f, toZ-ofZ w64 to g, h, k, e, q)
+
+-- the same by the words that the code reads: those of the two ends, and its own two
+pub range-read :
+    (s : List ℕ) (r : ℕ) (from to : ℤ) {low high a b c d i k : ℕ} → SFits w64 from → SFits w64 to → low ≡ child r → high ≡ next s low
+    → a ≡ fieldA s low → b ≡ fieldB s low → excessOf from ≡ excess a b → c ≡ fieldA s high → d ≡ fieldB s high → excessOf to ≡ excess c d
+    → i ≡ fieldA s r → k ≡ fieldB s r → rangeIn (record { from = asRead from; to = asRead to; inclusive = eqb i 1; block = k }) ≡ rangeOf s r
+range-read s r from to f g low-is high-is a-is b-is from-is c-is d-is to-is i-is k-is =
+    let high-at = high-is ∙ ap (next s) low-is in
+    range-is s r from to _ _ f g (from-is ∙ ap₂ excess a-is b-is ∙ ap (intAt s) low-is) (to-is ∙ ap₂ excess c-is d-is ∙ ap (intAt s) high-at)
+    (ap (λ (n : ℕ). eqb n 1) i-is) k-is
 
 -- ---- end points
 

@@ -1,6 +1,6 @@
 -- Loops that put what they read at n siblings, by f, into an array of 64 places.
 use Prim.Native.Nat.{ℕ, _+_, _-_, _≤_, _<_, min}
-use mathlib.Core.Path.{_≡_, refl, sym, _∙_, ap}
+use mathlib.Core.Path.{_≡_, refl, sym, _∙_, ap, ap₂}
 use mathlib.Core.List.{List, [], _∷_, _++_, map}
 use native.Mathlib.Omega.{arith}
 use lib.ListN.{length, set, take, length-map, length-set}
@@ -80,3 +80,10 @@ module _ (s : List ℕ) where
   pub ranges-by : map (rangeOf s) (nodesFrom s (rangeCount s) (skip s (caseCount s) (firstCase s))) ≡ rangesOf s
   unfolding rangesOf
   ranges-by = ap (map (rangeOf s)) (sym (ranges-are s))
+
+  -- the same from the nodes that the code reads
+  pub blocks-from : (c : ℕ) {x j : ℕ} → x ≡ child c → j ≡ next s x → map (fieldA s) (nodesFrom s (count s c - 1) j) ≡ caseBlocks s c
+  blocks-from c e h = ap (λ (k : ℕ). map (fieldA s) (nodesFrom s (count s c - 1) k)) (h ∙ ap (next s) e) ∙ blocks-are c
+
+  pub ranges-from : {n j : ℕ} → n ≡ rangeCount s → j ≡ skip s (caseCount s) (firstCase s) → map (rangeOf s) (nodesFrom s n j) ≡ rangesOf s
+  ranges-from e h = ap₂ (λ (m k : ℕ). map (rangeOf s) (nodesFrom s m k)) e h ∙ ranges-by

@@ -2,7 +2,7 @@
 use Prim.Native.Nat.{_-_}
 use Rattle.lowering.specs.SwitchSheet.{caseBlocks}
 use Rattle.sheet.specs.Node.{fieldA, count}
-use Rattle.tables.specs.WalkLaws.{Stores, stores-start, stores-on, walks-end, blocks-are}
+use Rattle.tables.specs.WalkLaws.{Stores, stores-start, stores-on, walks-end, blocks-from}
 use borrow.Author.Needs.{needs}
 use native.Mathlib.Omega.{arith}
 use Rattle.tables.proofs.case_blocks.Statement.{statement}
@@ -57,7 +57,7 @@ returns c =
     let a = c .before .before .before .before .before .before .before .args in
     walks-end _ _ _ _ _ _ _ _ (c .before .loop .inv .walks) (count (a .s .now) (a .c) - 1) (caseBlocks (a .s .now) (a .c)) (c .loop-test .left)
     (c .before .before .before .before .before .ref-count .ensures)
-    (cc (blocks-are (a .s .now) (a .c)))
+    (blocks-from (a .s .now) (a .c) (c .before .before .before .child .ensures) (c .before .before .next .ensures))
 
 pub case-blocks-spec : {M : Type 1} → statement M
 case-blocks-spec =

@@ -3,7 +3,7 @@ use Prim.Native.Nat.{_-_}
 use Rattle.lowering.specs.SwitchSheet.{casesOf}
 use Rattle.tables.specs.HeadLoops.{NodeHeads, nodes-start, nodes-on, nodes-end}
 use Rattle.tables.specs.Heads.{caseKey}
-use Rattle.tables.specs.NodesLaws.{cases-are}
+use Rattle.tables.specs.NodesLaws.{cases-from}
 use borrow.Author.Needs.{needs}
 use lib.ListN.{take}
 use native.Mathlib.Omega.{arith}
@@ -56,7 +56,7 @@ returns c =
     let a = c .before .before .before .before .before .before .before .args in
     nodes-end _ _ _ _ _ _ _ _ (c .before .loop .inv) (c .before .before .before .before .before .field-b .result) (casesOf (a .s .now))
     (c .loop-test .left) (c .before .before .before .before .capped .ensures)
-    (cc (cases-are (a .s .now)))
+    (cases-from (a .s .now) (c .before .before .before .before .before .field-b .ensures) (c .before .before .first-case .ensures))
 
 pub case-heads-spec : {M : Type 1} → statement M
 case-heads-spec =

@@ -1,4 +1,7 @@
 -- `tables::guard_of` meets its contract. A law joins the two walks.
+use mathlib.Core.Path.{ap, _∙_}
+use Rattle.sheet.specs.Node.{next}
+use Rattle.sheet.specs.Walk.{skip}
 use Rattle.tables.specs.NodesLaws.{guard-at}
 use borrow.Author.Needs.{needs}
 use Rattle.tables.proofs.guard_of.Statement.{statement}
@@ -17,7 +20,13 @@ skip-requires-2 : tie.Need-skip-requires-2
 skip-requires-2 c κs = search needs
 
 returns : tie.Need-returns
-returns c = cc (guard-at (c .before .before .before .before .before .args .s .now) (c .before .before .before .before .before .args .k))
+returns c =
+    let a = c .before .before .before .before .before .args in
+    let s = a .s .now in
+    let first-is = c .before .before .skip .ensures ∙ ap (skip s (a .k)) (c .before .before .before .child .ensures) in
+    c .skip2 .ensures
+    ∙ ap (skip s (a .k)) (c .before .next .ensures ∙ ap (next s) first-is)
+    ∙ guard-at s (a .k)
 
 pub guard-of-spec : {M : Type 1} → statement M
 guard-of-spec =

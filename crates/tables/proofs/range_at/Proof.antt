@@ -1,6 +1,6 @@
 -- `tables::range_at` meets its contract. The four words are the two ends.
-use Rattle.tables.specs.RangesLaws.{range-is}
-use borrow.Author.Needs.{needs}
+use Rattle.tables.specs.RangesLaws.{range-read}
+use borrow.Author.Needs.{needs, sfits-of}
 use Rattle.tables.proofs.range_at.Statement.{statement}
 use Rattle.tables.proofs.range_at.Tie as tie
 
@@ -36,10 +36,10 @@ field-b-requires-3 c κs = search needs
 
 returns : tie.Need-returns
 returns c =
-    range-is (c .before .before .before .before .before .before .before .before .before .before .before .args .s .now)
-    (c .before .before .before .before .before .before .before .before .before .before .before .args .r)
-    (c .before .before .before .before .before .from-words .result) (c .before .before .from-words2 .result) _ (c .field-b3 .result) (search
-    needs) (search needs) (cc) (cc) (cc) (cc)
+    let a = c .before .before .before .before .before .before .before .before .before .before .before .args in
+    range-read (a .s .now) (a .r) (c .before .before .before .before .before .from-words .result) (c .before .before .from-words2 .result) (sfits-of (c .before .before .before .before .before .from-words .ok)) (sfits-of (c .before .before .from-words2 .ok))
+    (c .before .before .before .before .before .before .before .before .before .child .ensures) (c .before .before .before .before .before .before .before .before .next .ensures) (c .before .before .before .before .before .before .before .field-a .ensures) (c .before .before .before .before .before .before .field-b .ensures) (c .before .before .before .before .before .from-words .ensures)
+    (c .before .before .before .before .field-a2 .ensures) (c .before .before .before .field-b2 .ensures) (c .before .before .from-words2 .ensures) (c .before .field-a3 .ensures) (c .field-b3 .ensures)
 
 pub range-at-spec : {M : Type 1} → statement M
 range-at-spec =

@@ -2,7 +2,7 @@
 use Prim.Native.Nat.{_-_}
 use Rattle.lowering.specs.SwitchSheet.{rangeOf, rangesOf}
 use Rattle.tables.specs.Ranges.{rangesIn}
-use Rattle.tables.specs.WalkLaws.{Walks, walks-start, walks-on, walks-end, ranges-by}
+use Rattle.tables.specs.WalkLaws.{Walks, walks-start, walks-on, walks-end, ranges-from}
 use borrow.Author.Needs.{needs}
 use native.Mathlib.Omega.{arith}
 use Rattle.tables.proofs.ranges_of.Statement.{statement}
@@ -54,7 +54,7 @@ returns c =
     let a = c .before .before .before .before .before .before .before .args in
     walks-end _ _ _ _ _ _ _ _ (c .before .loop .inv) (c .before .before .before .before .before .range-count .result) (rangesOf (a .s .now))
     (c .loop-test .left) (c .before .before .before .before .capped .ensures)
-    (cc (ranges-by (a .s .now)))
+    (ranges-from (a .s .now) (c .before .before .before .before .before .range-count .ensures) (c .before .before .first-range .ensures))
 
 pub ranges-of-spec : {M : Type 1} → statement M
 ranges-of-spec =
