@@ -95,6 +95,14 @@ module _ {A : Type 0} (key : A → List ℕ) (d : A) where
     unfolding newIn
     new-yes e = rw (e, newIn)
 
+    -- the same by the code's list and its test
+    module _ {l : List ℕ} {t : Bool} (k : l ≡ key x) (m : t ≡ memberOf l met) where
+      pub met-not : t ≡ true → [] ≡ newIn key met x
+      met-not e = new-not (ap (λ (z : List ℕ). memberOf z met) (sym k) ∙ sym m ∙ e)
+
+      pub met-yes : t ≡ false → x ∷ [] ≡ newIn key met x
+      met-yes e = new-yes (ap (λ (z : List ℕ). memberOf z met) (sym k) ∙ sym m ∙ e)
+
     firsts-not : (xs : List A) → memberOf (key x) met ≡ true → firstsFrom key met (x ∷ xs) ≡ firstsFrom key met xs
     unfolding firstsFrom
     firsts-not xs e = rw (e, firstsFrom)

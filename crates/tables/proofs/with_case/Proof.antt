@@ -1,13 +1,9 @@
 -- `tables::with_case` meets its contract. It is there if its list was not met.
-use Prim.Native.Nat.{ℕ}
-use Rattle.lowering.specs.Arms.{memberOf}
 use Rattle.tables.specs.Heads.{caseKey, metOf}
-use Rattle.tables.specs.HeadsLaws.{new-not, new-yes}
+use Rattle.tables.specs.HeadsLaws.{met-not, met-yes}
 use Rattle.tables.specs.ListedLaws.{lists-same}
 use borrow.Author.Needs.{needs}
 use lib.ListN.{take}
-use mathlib.Core.List.{List}
-use mathlib.Core.Path.{sym, _∙_, ap}
 use Rattle.tables.proofs.with_case.Statement.{statement}
 use Rattle.tables.proofs.with_case.Tie as tie
 
@@ -26,8 +22,7 @@ returns c =
     let key = caseKey (a .s .now) in
     let xs = take (a .h .n) (a .h .at) in
     let met = metOf key 0 xs in
-    lists-same 64 xs _ _ _ _ (new-not key 0 met (a .c) (ap (λ (l : List ℕ). memberOf l met) (sym
-    (c .before .before .before .case-blocks .ensures .items)) ∙ sym (c .before .before .met-case .ensures) ∙ c .before .if1 .taken))
+    lists-same 64 xs _ _ _ _ (met-not key 0 met (a .c) (c .before .before .before .case-blocks .ensures .items) (c .before .before .met-case .ensures) (c .before .if1 .taken))
     (c .no-more-blocks .ensures)
 
 pushed-requires : tie.Need-pushed-requires
@@ -39,8 +34,7 @@ returns-2 c =
     let key = caseKey (a .s .now) in
     let xs = take (a .h .n) (a .h .at) in
     let met = metOf key 0 xs in
-    lists-same 64 xs _ _ _ _ (new-yes key 0 met (a .c) (ap (λ (l : List ℕ). memberOf l met) (sym
-    (c .before .before .before .case-blocks .ensures .items)) ∙ sym (c .before .before .met-case .ensures) ∙ c .before .if1 .left))
+    lists-same 64 xs _ _ _ _ (met-yes key 0 met (a .c) (c .before .before .before .case-blocks .ensures .items) (c .before .before .met-case .ensures) (c .before .if1 .left))
     (c .pushed .ensures)
 
 pub with-case-spec : {M : Type 1} → statement M

@@ -1,15 +1,11 @@
 -- `tables::with_head` meets its contract. It is there if its list was not met.
-use Prim.Native.Nat.{ℕ}
 use Rattle.cases.specs.Held.{held}
-use Rattle.lowering.specs.Arms.{memberOf}
 use Rattle.tables.specs.Heads.{runKey, noRun, metOf}
-use Rattle.tables.specs.HeadsLaws.{new-not, new-yes}
+use Rattle.tables.specs.HeadsLaws.{met-not, met-yes}
 use Rattle.tables.specs.ListedLaws.{lists-same}
 use Rattle.tables.specs.Ranges.{rangesIn}
 use borrow.Author.Needs.{needs}
 use lib.ListN.{take}
-use mathlib.Core.List.{List}
-use mathlib.Core.Path.{sym, _∙_, ap}
 use Rattle.tables.proofs.with_head.Statement.{statement}
 use Rattle.tables.proofs.with_head.Tie as tie
 
@@ -28,8 +24,7 @@ returns c =
     let key = runKey (rangesIn (a .g .at) (a .g .n)) (held (a .p .at) (a .p .n)) in
     let xs = take (a .h .n) (a .h .at) in
     let met = metOf key noRun xs in
-    lists-same 255 xs _ _ _ _ (new-not key noRun met (a .x) (ap (λ (l : List ℕ). memberOf l met) (sym
-    (c .before .before .before .piece-blocks .ensures .items)) ∙ sym (c .before .before .met-run .ensures) ∙ c .before .if1 .taken))
+    lists-same 255 xs _ _ _ _ (met-not key noRun met (a .x) (c .before .before .before .piece-blocks .ensures .items) (c .before .before .met-run .ensures) (c .before .if1 .taken))
     (c .no-more .ensures)
 
 with-run-requires : tie.Need-with-run-requires
@@ -41,8 +36,7 @@ returns-2 c =
     let key = runKey (rangesIn (a .g .at) (a .g .n)) (held (a .p .at) (a .p .n)) in
     let xs = take (a .h .n) (a .h .at) in
     let met = metOf key noRun xs in
-    lists-same 255 xs _ _ _ _ (new-yes key noRun met (a .x) (ap (λ (l : List ℕ). memberOf l met) (sym
-    (c .before .before .before .piece-blocks .ensures .items)) ∙ sym (c .before .before .met-run .ensures) ∙ c .before .if1 .left))
+    lists-same 255 xs _ _ _ _ (met-yes key noRun met (a .x) (c .before .before .before .piece-blocks .ensures .items) (c .before .before .met-run .ensures) (c .before .if1 .left))
     (c .with-run .ensures)
 
 pub with-head-spec : {M : Type 1} → statement M
