@@ -28,7 +28,7 @@ use Rattle.compile.specs.declared.calls.Way.{Way}
 use Rattle.compile.specs.declared.calls.Way.the-variants.{FnPtr, FnPtrCall, Local, Named, This, Value, Eval, Kept}
 use Rattle.compile.specs.Plain.{Plain}
 use Rattle.compile.specs.Ways.{opened, openedAt, closeNamed, closed}
-use Rattle.compile.specs.WayFacts.{Facts}
+use Rattle.compile.specs.WayFacts.{Facts, Calls}
 use Rattle.compile.specs.Doing.{growing-emit, does-placed, does-at}
 
 -- a token's place is far below the greatest word
@@ -90,13 +90,16 @@ module _ {s : List ℕ} {l : Layout} {xs ys : List ℕ} {st r : State} where
   rotate-some n h d = let k : eqb n 0 ≡ false = ne-eqb n 0 (λ e. omega arith) in rw (k, rotate) d
 
   module _ (j : ℕ) where
-    pub call-end-token : storesToken s j ≡ true → Does s l xs st ys r (callToken s j) → Does s l xs st ys r (callEnd s j)
+    pub call-end-token : storesToken s j ≡ true → (Plain s j → count s j < 256 → Valid s j → Does s l xs st ys r (callToken s j)) → Calls s j → Does s l xs st ys r (callEnd s j)
     unfolding callEnd
-    call-end-token h d = rw (h, callEnd) d
+    call-end-token h d f = rw (h, callEnd) (d (f .tokened h) (f .few) (f .valid))
 
-    pub call-end-plain : (b : ℕ) → storesToken s j ≡ false → b ≡ fieldB s j → Does s l xs st ys r (callAs s j 0 b) → Does s l xs st ys r (callEnd s j)
+    pub call-end-plain : (b : ℕ) → storesToken s j ≡ false → b ≡ fieldB s j → (nameOf s (3 * j + 0) ≡ name (fieldA s j) b → count s j < 256 → b < 2 → Valid s j → Does s l xs st ys r (callAs s j 0 b)) → Calls s j → Does s l xs st ys r (callEnd s j)
     unfolding callEnd
-    call-end-plain b h e d = rw (h, callEnd) (does-at (callAs s j 0) e d)
+    call-end-plain b h e d f =
+        let marked = f .marked h ∙ ap (name (fieldA s j)) (sym e) in
+        let low = subst (λ (m : ℕ). m < 2) (sym e) (f .capture) in
+        rw (h, callEnd) (does-at (callAs s j 0) e (d marked (f .few) low (f .valid)))
 
     pub close-pointer-does : (n b pos : ℕ) → n ≡ count s j - 1 → b ≡ fieldB s j → pos ≡ position s j → Does s l xs st ys r (emit (CallFnPtr n b) pos 0) → Does s l xs st ys r (closed FnPtrCall s j 0)
     unfolding closed

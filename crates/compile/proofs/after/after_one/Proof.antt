@@ -3,11 +3,6 @@ use Rattle.compile.specs.AfterLaws.{jump-on-false, jump-on-true, after-n
 use borrow.Author.Needs.{needs}
 use Rattle.compile.proofs.after.after_one.Statement.{statement}
 use Rattle.compile.proofs.after.after_one.Tie as tie
-use Rattle.compile.proofs.after.after_one.Reads as reads
-use Rattle.compile.proofs.after.after_one.Lts as lts
-use Rattle.compile.proofs.after.jump_on.Reads as jump-on-reads
-use Rattle.compile.proofs.after.unless.Reads as unless-reads
-use Rattle.store.proofs.emit.Reads as emit-reads
 
 -- src/after.rt:47:27
 enum-told : tie.Need-enum-told
@@ -51,7 +46,7 @@ unless-requires c κs = search needs
 
 -- src/after.rt:43:1
 returns : tie.Need-returns
-returns c = λ s. after-nothing _ _ _ (cc)
+returns c = λ s. after-nothing _ _ _ (c .enum-told .given .1)
 
 -- src/after.rt:43:1
 same-length : tie.Need-same-length
@@ -59,7 +54,7 @@ same-length c = search needs
 
 -- src/after.rt:43:1
 returns-2 : tie.Need-returns-2
-returns-2 c = λ s. after-check _ _ _ (cc) (c .before .before .emit .ensures s tt)
+returns-2 c = λ s. after-check _ _ _ (c .before .before .before .before .enum-told2 .given .1) (c .before .before .emit .ensures s tt)
 
 -- src/after.rt:43:1
 same-length-2 : tie.Need-same-length-2
@@ -67,7 +62,7 @@ same-length-2 c = search needs
 
 -- src/after.rt:43:1
 returns-3 : tie.Need-returns-3
-returns-3 c = λ s. after-append _ _ _ (cc) (c .before .before .emit2 .ensures s tt)
+returns-3 c = λ s. after-append _ _ _ (c .before .before .before .before .enum-told3 .given .1) (c .before .before .emit2 .ensures s tt)
 
 -- src/after.rt:43:1
 same-length-3 : tie.Need-same-length-3
@@ -83,7 +78,7 @@ same-length-4 c = search needs
 
 -- src/after.rt:43:1
 returns-5 : tie.Need-returns-5
-returns-5 c = λ s. after-unless _ _ _ _ (cc) (c .before .before .unless .ensures s _)
+returns-5 c = λ s. after-unless _ _ _ _ (c .before .before .before .before .before .by2 .given .1) (c .before .before .unless .ensures s _)
 
 pub after-one-spec : {M : Type 1} → statement M
 after-one-spec =

@@ -1,14 +1,9 @@
 -- With a token, or with the capture mark.
+use mathlib.Core.Path.{sym, _∙_}
 use Rattle.compile.specs.CallDoes.{call-end-token, call-end-plain}
 use borrow.Author.Needs.{needs}
 use Rattle.compile.proofs.calls.call_end.Statement.{statement}
 use Rattle.compile.proofs.calls.call_end.Tie as tie
-use Rattle.compile.proofs.calls.call_end.Reads as reads
-use Rattle.compile.proofs.calls.call_end.Lts as lts
-use Rattle.compile.proofs.calls.call_as.Reads as call-as-reads
-use Rattle.compile.proofs.calls.call_token.Reads as call-token-reads
-use Rattle.rules.proofs.calls.stores_token.Reads as stores-token-reads
-use Rattle.sheet.proofs.field_b.Reads as field-b-reads
 
 -- src/calls.rt:196:8
 stores-token-requires : tie.Need-stores-token-requires
@@ -24,7 +19,7 @@ same-length c = search needs
 
 -- src/calls.rt:197:9
 returns : tie.Need-returns
-returns c = λ f. call-end-token _ (cc) (c .before .before .call-token .ensures (f .tokened (cc)) (f .few) (f .valid))
+returns c = call-end-token _ (sym (c .before .before .before .before .before .stores-token .ensures) ∙ c .before .before .before .before .if1 .taken) (c .before .before .call-token .ensures)
 
 -- src/calls.rt:199:32
 field-b-requires : tie.Need-field-b-requires
@@ -40,7 +35,7 @@ same-length-2 c = search needs
 
 -- src/calls.rt:193:1
 returns-2 : tie.Need-returns-2
-returns-2 c = λ f. call-end-plain _ _ (cc) (cc) (c .before .before .call-as .ensures (rw (c .before .before .before .field-b .ensures) (f .marked (cc))) (f .few) (rw (c .before .before .before .field-b .ensures) (f .capture)) (f .valid))
+returns-2 c = call-end-plain _ _ (sym (c .before .before .before .before .before .before .stores-token .ensures) ∙ c .before .before .before .before .before .if1 .left) (c .before .before .before .field-b .ensures) (c .before .before .call-as .ensures)
 
 pub call-end-spec : {M : Type 1} → statement M
 call-end-spec =

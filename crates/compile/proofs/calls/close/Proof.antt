@@ -1,18 +1,10 @@
 -- One law for each way.
+use mathlib.Core.Path.{ap, _∙_}
+use Rattle.sheet.specs.Node.{position}
 use Rattle.compile.specs.CallDoes.{close-make, close-pointer, close-local, close-name, close-this, close-value, close-eval, close-kept}
 use borrow.Author.Needs.{needs}
 use Rattle.compile.proofs.calls.close.Statement.{statement}
 use Rattle.compile.proofs.calls.close.Tie as tie
-use Rattle.compile.proofs.calls.close.Reads as reads
-use Rattle.compile.proofs.calls.close.Lts as lts
-use Rattle.compile.proofs.calls.call_end.Reads as call-end-reads
-use Rattle.compile.proofs.calls.call_ref.Reads as call-ref-reads
-use Rattle.compile.proofs.calls.close_named.Reads as close-named-reads
-use Rattle.compile.proofs.calls.close_pointer.Reads as close-pointer-reads
-use Rattle.sheet.proofs.child.Reads as child-reads
-use Rattle.sheet.proofs.position.Reads as position-reads
-use Rattle.store.proofs.emit.Reads as emit-reads
-use Rattle.store.proofs.residual.Reads as residual-reads
 
 -- src/calls.rt:218:31
 enum-told : tie.Need-enum-told
@@ -92,7 +84,9 @@ same-length c = search needs
 
 -- src/calls.rt:214:1
 returns : tie.Need-returns
-returns c = close-make _ _ _ _ (cc) (cc) (c .before .before .emit .ensures _ tt)
+returns c =
+    let at-pos = c .before .before .before .position .ensures ∙ ap (position (c .before .before .before .before .before .before .before .before .before .before .args .s .now)) (c .before .before .before .before .child .ensures) in
+    close-make _ _ _ _ (c .before .before .before .before .before .before .enum-told .given .1) at-pos (c .before .before .emit .ensures _ tt)
 
 -- src/calls.rt:214:1
 same-length-2 : tie.Need-same-length-2
@@ -100,7 +94,7 @@ same-length-2 c = search needs
 
 -- src/calls.rt:214:1
 returns-2 : tie.Need-returns-2
-returns-2 c = close-pointer _ _ _ (cc) (c .before .before .close-pointer .ensures)
+returns-2 c = close-pointer _ _ _ (c .before .before .before .before .enum-told2 .given .1) (c .before .before .close-pointer .ensures)
 
 -- src/calls.rt:214:1
 same-length-3 : tie.Need-same-length-3
@@ -116,7 +110,7 @@ same-length-4 c = search needs
 
 -- src/calls.rt:214:1
 returns-4 : tie.Need-returns-4
-returns-4 c = close-name _ _ _ (cc) (c .before .before .close-named .ensures)
+returns-4 c = close-name _ _ _ (c .before .before .before .before .enum-told3 .given .1) (c .before .before .close-named .ensures)
 
 -- src/calls.rt:214:1
 same-length-5 : tie.Need-same-length-5
@@ -124,7 +118,7 @@ same-length-5 c = search needs
 
 -- src/calls.rt:214:1
 returns-5 : tie.Need-returns-5
-returns-5 c = close-this _ _ _ (cc) (c .before .before .call-ref2 .ensures)
+returns-5 c = close-this _ _ _ (c .before .before .before .before .enum-told4 .given .1) (c .before .before .call-ref2 .ensures)
 
 -- src/calls.rt:214:1
 same-length-6 : tie.Need-same-length-6
@@ -132,7 +126,7 @@ same-length-6 c = search needs
 
 -- src/calls.rt:214:1
 returns-6 : tie.Need-returns-6
-returns-6 c = close-value _ _ _ (cc) (c .before .before .call-end .ensures)
+returns-6 c = close-value _ _ _ (c .before .before .before .before .enum-told5 .given .1) (c .before .before .call-end .ensures)
 
 -- src/calls.rt:214:1
 same-length-7 : tie.Need-same-length-7
@@ -140,7 +134,7 @@ same-length-7 c = search needs
 
 -- src/calls.rt:214:1
 returns-7 : tie.Need-returns-7
-returns-7 c = close-eval _ _ _ (cc) (c .before .before .residual .ensures _)
+returns-7 c = close-eval _ _ _ (c .before .before .before .before .enum-told6 .given .1) (c .before .before .residual .ensures _)
 
 -- src/calls.rt:214:1
 same-length-8 : tie.Need-same-length-8
@@ -148,7 +142,7 @@ same-length-8 c = search needs
 
 -- src/calls.rt:214:1
 returns-8 : tie.Need-returns-8
-returns-8 c = close-kept _ _ _ (cc) (c .before .before .residual2 .ensures _)
+returns-8 c = close-kept _ _ _ (c .before .before .before .before .enum-told7 .given .1) (c .before .before .residual2 .ensures _)
 
 pub close-spec : {M : Type 1} → statement M
 close-spec =

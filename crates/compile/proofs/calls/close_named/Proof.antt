@@ -1,17 +1,11 @@
 -- LoadNamed, Rotate, CallRef.
+use Prim.Native.Nat.{ℕ, _-_}
+use mathlib.Core.Path.{ap, _∙_}
+use Rattle.sheet.specs.Node.{position}
 use Rattle.compile.specs.CallDoes.{close-named-does}
 use borrow.Author.Needs.{needs}
 use Rattle.compile.proofs.calls.close_named.Statement.{statement}
 use Rattle.compile.proofs.calls.close_named.Tie as tie
-use Rattle.compile.proofs.calls.close_named.Reads as reads
-use Rattle.compile.proofs.calls.close_named.Lts as lts
-use Rattle.compile.proofs.calls.call_ref.Reads as call-ref-reads
-use Rattle.compile.proofs.calls.rotate.Reads as rotate-reads
-use Rattle.counting.proofs.plans.one_less.Reads as one-less-reads
-use Rattle.sheet.proofs.child.Reads as child-reads
-use Rattle.sheet.proofs.count.Reads as count-reads
-use Rattle.sheet.proofs.position.Reads as position-reads
-use Rattle.store.proofs.emit.Reads as emit-reads
 
 -- src/calls.rt:158:59
 child-requires : tie.Need-child-requires
@@ -47,7 +41,11 @@ same-length c = search needs
 
 -- src/calls.rt:155:1
 returns : tie.Need-returns
-returns c = λ p n v. close-named-does _ _ _ _ (cc) (cc) (c .before .before .before .before .before .before .before .before .before .before .before .before .emit .ensures _ tt) (c .before .before .before .before .before .before .rotate .ensures _) (c .before .before .call-ref .ensures p n v)
+returns c =
+    let s = c .before .before .before .before .before .before .before .before .before .before .before .before .before .before .before .before .before .before .args .s .now in
+    let others = c .before .before .before .before .before .before .before .one-less .ensures ∙ ap (λ (n : ℕ). n - 1) (c .before .before .before .before .before .before .before .before .count .ensures) in
+    let at-pos = c .before .before .before .before .before .before .before .before .before .before .before .before .before .position .ensures ∙ ap (position s) (c .before .before .before .before .before .before .before .before .before .before .before .before .before .before .child .ensures) in
+    λ p n v. close-named-does _ _ _ _ others at-pos (c .before .before .before .before .before .before .before .before .before .before .before .before .emit .ensures _ tt) (c .before .before .before .before .before .before .rotate .ensures _) (c .before .before .call-ref .ensures p n v)
 
 pub close-named-spec : {M : Type 1} → statement M
 close-named-spec =

@@ -1,15 +1,10 @@
 -- CallFnPtr.
+use Prim.Native.Nat.{ℕ, _-_}
+use mathlib.Core.Path.{ap, _∙_}
 use Rattle.compile.specs.CallDoes.{close-pointer-does}
 use borrow.Author.Needs.{needs}
 use Rattle.compile.proofs.calls.close_pointer.Statement.{statement}
 use Rattle.compile.proofs.calls.close_pointer.Tie as tie
-use Rattle.compile.proofs.calls.close_pointer.Reads as reads
-use Rattle.compile.proofs.calls.close_pointer.Lts as lts
-use Rattle.counting.proofs.plans.one_less.Reads as one-less-reads
-use Rattle.sheet.proofs.count.Reads as count-reads
-use Rattle.sheet.proofs.field_b.Reads as field-b-reads
-use Rattle.sheet.proofs.position.Reads as position-reads
-use Rattle.store.proofs.emit.Reads as emit-reads
 
 -- src/calls.rt:207:24
 count-requires : tie.Need-count-requires
@@ -37,7 +32,9 @@ same-length c = search needs
 
 -- src/calls.rt:203:1
 returns : tie.Need-returns
-returns c = close-pointer-does _ _ _ _ (cc) (cc) (cc) (c .before .before .emit .ensures _ tt)
+returns c =
+    let others = c .before .before .before .before .before .before .one-less .ensures ∙ ap (λ (n : ℕ). n - 1) (c .before .before .before .before .before .before .before .count .ensures) in
+    close-pointer-does _ _ _ _ others (c .before .before .before .before .before .field-b .ensures) (c .before .before .before .position .ensures) (c .before .before .emit .ensures _ tt)
 
 pub close-pointer-spec : {M : Type 1} → statement M
 close-pointer-spec =

@@ -1,15 +1,11 @@
 -- One law for each way.
-use native.Mathlib.Omega.{arith}
+use mathlib.Core.Path.{ap, _∙_}
+use lib.Dec.{lit<}
+use Rattle.sheet.specs.Node.{position}
 use Rattle.compile.specs.CallDoes.{open-make, open-pointer, open-local, open-named, open-this, open-value, open-eval, open-kept}
 use borrow.Author.Needs.{needs}
 use Rattle.compile.proofs.calls.open.Statement.{statement}
 use Rattle.compile.proofs.calls.open.Tie as tie
-use Rattle.compile.proofs.calls.open.Reads as reads
-use Rattle.compile.proofs.calls.open.Lts as lts
-use Rattle.sheet.proofs.child.Reads as child-reads
-use Rattle.sheet.proofs.position.Reads as position-reads
-use Rattle.store.proofs.add_name.Reads as add-name-reads
-use Rattle.store.proofs.emit.Reads as emit-reads
 
 -- src/calls.rt:117:23
 enum-told : tie.Need-enum-told
@@ -65,11 +61,11 @@ enum-told-8 c = search needs
 
 -- src/calls.rt:112:1
 returns : tie.Need-returns
-returns c = open-make _ _ (cc)
+returns c = open-make _ _ (c .enum-told .given .1)
 
 -- src/calls.rt:112:1
 returns-2 : tie.Need-returns-2
-returns-2 c = open-pointer _ _ (cc)
+returns-2 c = open-pointer _ _ (c .enum-told2 .given .1)
 
 -- src/calls.rt:112:1
 returns-3 : tie.Need-returns-3
@@ -81,7 +77,9 @@ same-length c = search needs
 
 -- src/calls.rt:112:1
 returns-4 : tie.Need-returns-4
-returns-4 c = open-named _ _ _ _ (cc) (cc) (c .before .before .add-name .ensures .0 (omega arith)) (λ a u h. c .before .before .add-name .ensures .1 a (omega arith) u h)
+returns-4 c =
+    let named = c .before .before .add-name .ensures in
+    open-named _ _ _ _ (c .before .before .before .before .before .enum-told4 .given .1) (c .before .before .before .child .ensures) (named .0 (lit< tt)) (λ a u h. named .1 a (lit< tt) u h)
 
 -- src/calls.rt:112:1
 same-length-2 : tie.Need-same-length-2
@@ -89,19 +87,21 @@ same-length-2 c = search needs
 
 -- src/calls.rt:112:1
 returns-5 : tie.Need-returns-5
-returns-5 c = open-this _ _ _ (cc) (cc) (c .before .before .emit .ensures _ tt)
+returns-5 c =
+    let at-pos = c .before .before .before .position .ensures ∙ ap (position (c .before .before .before .before .before .before .before .before .before .before .args .s .now)) (c .before .before .before .before .child2 .ensures) in
+    open-this _ _ _ (c .before .before .before .before .before .before .enum-told5 .given .1) at-pos (c .before .before .emit .ensures _ tt)
 
 -- src/calls.rt:112:1
 returns-6 : tie.Need-returns-6
-returns-6 c = open-value _ _ (cc)
+returns-6 c = open-value _ _ (c .enum-told6 .given .1)
 
 -- src/calls.rt:112:1
 returns-7 : tie.Need-returns-7
-returns-7 c = open-eval _ _ (cc)
+returns-7 c = open-eval _ _ (c .enum-told7 .given .1)
 
 -- src/calls.rt:112:1
 returns-8 : tie.Need-returns-8
-returns-8 c = open-kept _ _ (cc)
+returns-8 c = open-kept _ _ (c .enum-told8 .given .1)
 
 pub open-spec : {M : Type 1} → statement M
 open-spec =

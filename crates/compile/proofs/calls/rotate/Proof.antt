@@ -4,13 +4,10 @@ use Rattle.compile.specs.CallDoes.{rotate-none, rotate-some}
 use borrow.Author.Needs.{needs}
 use Rattle.compile.proofs.calls.rotate.Statement.{statement}
 use Rattle.compile.proofs.calls.rotate.Tie as tie
-use Rattle.compile.proofs.calls.rotate.Reads as reads
-use Rattle.compile.proofs.calls.rotate.Lts as lts
-use Rattle.store.proofs.emit.Reads as emit-reads
 
 -- src/calls.rt:149:9
 returns : tie.Need-returns
-returns c = λ s. rotate-none _ (cc)
+returns c = λ s. rotate-none _ (c .if1 .taken)
 
 -- src/calls.rt:151:5
 emit-requires : tie.Need-emit-requires

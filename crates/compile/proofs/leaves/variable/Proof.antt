@@ -1,15 +1,14 @@
 -- A variable: a local, or a name.
+use Prim.Native.Nat.{ℕ}
+use mathlib.Core.List.{List}
+use mathlib.Core.Path.{ap, _∙_}
+use Rattle.sheet.specs.Text.{text}
+use Rattle.lowering.specs.Slots.{resolve}
+use Rattle.slots.specs.Found.{found}
 use Rattle.compile.specs.LeafDoes.{constant-does, load-named-does, variable-local, variable-named}
 use borrow.Author.Needs.{needs}
 use Rattle.compile.proofs.leaves.variable.Statement.{statement}
 use Rattle.compile.proofs.leaves.variable.Tie as tie
-use Rattle.compile.proofs.leaves.variable.Reads as reads
-use Rattle.compile.proofs.leaves.variable.Lts as lts
-use Rattle.compile.proofs.leaves.load_named.Reads as load-named-reads
-use Rattle.sheet.proofs.field_a.Reads as field-a-reads
-use Rattle.sheet.proofs.text.Reads as text-reads
-use Rattle.slots.proofs.resolve.Reads as resolve-reads
-use Rattle.store.proofs.emit.Reads as emit-reads
 
 -- src/leaves.rt:41:50
 field-a-requires : tie.Need-field-a-requires
@@ -45,7 +44,10 @@ same-length c = search needs
 
 -- src/leaves.rt:38:1
 returns : tie.Need-returns
-returns c = λ p v. variable-local _ _ _ (cc) (c .before .before .before .before .before .found .given .1) (c .before .before .emit .ensures _ tt)
+returns c =
+    let s = c .before .before .before .before .before .before .before .before .before .before .before .before .args .s .now in
+    let is = c .before .before .before .before .before .before .before .resolve .ensures ∙ ap (λ (b : List ℕ). found (resolve s b)) (c .before .before .before .before .before .before .before .before .text .ensures ∙ ap (text s) (c .before .before .before .before .before .before .before .before .before .field-a .ensures)) in
+    λ p v. variable-local _ _ _ is (c .before .before .before .before .before .found .given .1) (c .before .before .emit .ensures _ tt)
 
 -- src/leaves.rt:38:1
 same-length-2 : tie.Need-same-length-2
@@ -53,7 +55,10 @@ same-length-2 c = search needs
 
 -- src/leaves.rt:38:1
 returns-2 : tie.Need-returns-2
-returns-2 c = λ p v. variable-named _ _ (cc) (c .before .before .before .before .enum-told .given .1) (c .before .before .load-named .ensures p v)
+returns-2 c =
+    let s = c .before .before .before .before .before .before .before .before .before .before .before .args .s .now in
+    let is = c .before .before .before .before .before .before .resolve .ensures ∙ ap (λ (b : List ℕ). found (resolve s b)) (c .before .before .before .before .before .before .before .text .ensures ∙ ap (text s) (c .before .before .before .before .before .before .before .before .field-a .ensures)) in
+    λ p v. variable-named _ _ is (c .before .before .before .before .enum-told .given .1) (c .before .before .load-named .ensures p v)
 
 pub variable-spec : {M : Type 1} → statement M
 variable-spec =
