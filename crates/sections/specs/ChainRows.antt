@@ -1,6 +1,6 @@
 -- Laws of the section of chains, and of how many steps they have.
 use Prim.Native.Nat.{ℕ, zero, suc, _+_, _-_, _*_, _≤_, _<_}
-use mathlib.Core.Path.{_≡_, refl, sym, ap, _∙_}
+use mathlib.Core.Path.{_≡_, refl, sym, ap, subst, _∙_}
 use mathlib.Core.Bool.{Bool, true, false}
 use mathlib.Core.List.{List, [], _∷_, _++_, map}
 use native.Mathlib.Omega.{arith}
@@ -13,7 +13,7 @@ use Rattle.bytecode.specs.declared.Chain.{Chain}
 use Rattle.bytecode.specs.Chain.{chainWords}
 use Rattle.lowering.specs.Kinds.{variableKind}
 use Rattle.lowering.specs.Flatten.{goesOn, restOf, links}
-use Rattle.lowering.specs.Pools.{Name, sameName, name}
+use Rattle.lowering.specs.Pools.{Name, sameName, name, firstWhere}
 use Rattle.lowering.specs.Image.{section}
 use Rattle.chains.specs.FindLaws.{first-within}
 use Rattle.chains.specs.LinkLaws.{links-more, links-last, links-none}
@@ -23,6 +23,7 @@ use Rattle.chains.specs.KeptLaws.{chains-length, chains-snoc}
 use Rattle.chains.specs.StayLaws.{root-nameless}
 use Rattle.chains.specs.WordsLaws.{chain-six}
 use Rattle.keys.specs.Keys.{nameOf}
+use Rattle.keys.specs.KeyLaws.{find-in}
 use Rattle.sections.specs.Written.{Written}
 use Rattle.sections.specs.PutLaws.{putPart, written-next, written-all}
 use Rattle.sections.specs.RowLaws.{take-more, take-whole, section-snoc, section-length}
@@ -32,19 +33,26 @@ pub place-in : (s ks : List ℕ) (t : ℕ) → nameIn s (map (nameOf s) ks) t �
 unfolding nameIn
 place-in s ks t = omega (arith, first-within (sameName s (name t 0)) (map (nameOf s) ks), length-map ks (nameOf s))
 
+pub place-fits :
+    {r : ℕ} (s ks : List ℕ) (t : ℕ) → r ≡ firstWhere (sameName s (name t 0)) (map (nameOf s) ks) → length ks < 4294967296
+    → r < 4294967296
+place-fits s ks t e h = omega (arith, find-in s t ks, place-in s ks t)
+
 -- the root of node v, by the place of its name or, where it has none, by any
 module _ (s : List ℕ) (ns : List Name) where
-  pub root-named : (v i : ℕ) → i ≡ nameIn s ns (fieldA s v) → rootWith s v i ≡ rootIn s ns v
+  pub root-named : {t i : ℕ} (v : ℕ) → t ≡ fieldA s v → i ≡ nameIn s ns t → rootWith s v i ≡ rootIn s ns v
   unfolding rootIn
-  root-named v i e = ap (rootWith s v) e
+  root-named v f e = ap (rootWith s v) (e ∙ ap (nameIn s ns) f)
 
   pub root-plain : (v i : ℕ) → (kind s v ≡ variableKind → ⊥) → rootWith s v i ≡ rootIn s ns v
   unfolding rootIn
   root-plain v i n = root-nameless s v i (nameIn s ns (fieldA s v)) (ne-eqb (kind s v) variableKind n)
 
-  pub chain-placed : (j first i : ℕ) → rootWith s (child j) i ≡ rootIn s ns (child j) → chainWith s j i first ≡ chainIn s ns first j
+  pub chain-placed : (j first i v : ℕ) → v ≡ child j → rootWith s v i ≡ rootIn s ns v → chainWith s j i first ≡ chainIn s ns first j
   unfolding chainWith chainIn chainRoot
-  chain-placed j first i e = rw e
+  chain-placed j first i v is e =
+      let root = subst (λ (n : ℕ). rootWith s n i ≡ rootIn s ns n) is e in
+      rw root
 
 -- how many steps
 module _ (s : List ℕ) where

@@ -65,10 +65,10 @@ module _ (s : List ℕ) (ns : List Name) (j : ℕ) where
   left-within i n left c h e = omega (arith, next-step i n left c h e .at .within, steps-length s ns j)
 
   pub left-more :
-      (i n left c : ℕ) → 0 < left → goesOn s c ≡ true → Left s ns j i n left c
-      → Left s ns j (i + 1) (n + stepWidth s c) (left - 1) (restOf s c)
-  left-more i n left c h g e =
-      rw (add-one i) (sym (split (chainSteps s ns j) i _ _ (sym e ∙ steps-more s ns n left c h g) .behind))
+      (i n left c m d : ℕ) → 0 < left → goesOn s c ≡ true → m ≡ stepWidth s c → d ≡ restOf s c → Left s ns j i n left c
+      → Left s ns j (i + 1) (n + m) (left - 1) d
+  left-more i n left c m d h g p q e =
+      rw (add-one i, p, q) (sym (split (chainSteps s ns j) i _ _ (sym e ∙ steps-more s ns n left c h g) .behind))
 
   step-rows-length : (i : ℕ) → i ≤ linkCount s j → length (stepRows s ns j i) ≡ 6 * i
   step-rows-length i h =
@@ -118,27 +118,34 @@ module _ (s : List ℕ) (ns : List Name) (j : ℕ) where
       let k = ap length (sym l ∙ steps-done s ns n left c h) in
       all-words i e (omega (arith, length-drop i (chainSteps s ns j), steps-length s ns j)) v
 
+-- where a name of link c stands
+pub named-by :
+    (s : List ℕ) (ns : List Name) (c : ℕ) {o t i : ℕ} (field : ℕ → ℕ) → o ≡ operandOf s c → t ≡ field o → i ≡ nameIn s ns t
+    → i ≡ nameIn s ns (field (operandOf s c))
+named-by s ns c field e f g = g ∙ ap (nameIn s ns) (f ∙ ap field e)
+
 -- names that the step of link c does not have may stand at any place
-module _ (s : List ℕ) (ns : List Name) (c n : ℕ) where
-  pub step-index : (a b d : ℕ) → stepRule s c ≡ index → stepWith (stepRule s c) s c n a b d ≡ stepAs (stepRule s c) s ns c n
-  unfolding stepAs stepWith
-  step-index a b d h = rw h
+module _ (s : List ℕ) (ns : List Name) (c n a b d : ℕ) where
+  abbrev Is : Step → Type 0
+  Is x = x ≡ stepWith (stepRule s c) s c n a b d → x ≡ stepAs (stepRule s c) s ns c n
 
-  pub step-none : (a b d : ℕ) → stepRule s c ≡ flatten.none → stepWith (stepRule s c) s c n a b d ≡ stepAs (stepRule s c) s ns c n
+  pub step-index : {x : Step} → stepRule s c ≡ index → Is x
   unfolding stepAs stepWith
-  step-none a b d h = rw h
+  step-index h e = e ∙ rw h
 
-  pub step-method :
-      (a b d : ℕ) → stepRule s c ≡ method → a ≡ nameIn s ns (fieldA s (operandOf s c))
-      → stepWith (stepRule s c) s c n a b d ≡ stepAs (stepRule s c) s ns c n
+  pub step-none : {x : Step} → stepRule s c ≡ flatten.none → Is x
   unfolding stepAs stepWith
-  step-method a b d h p = rw (h, p)
+  step-none h e = e ∙ rw h
+
+  pub step-method : {x : Step} → stepRule s c ≡ method → a ≡ nameIn s ns (fieldA s (operandOf s c)) → Is x
+  unfolding stepAs stepWith
+  step-method h p e = e ∙ rw (h, p)
 
   pub step-property :
-      (a b d : ℕ) → a ≡ nameIn s ns (fieldA s (operandOf s c)) → b ≡ nameIn s ns (fieldB s (operandOf s c))
-      → d ≡ nameIn s ns (fieldC s (operandOf s c)) → stepWith (stepRule s c) s c n a b d ≡ stepAs (stepRule s c) s ns c n
+      {x : Step} → a ≡ nameIn s ns (fieldA s (operandOf s c)) → b ≡ nameIn s ns (fieldB s (operandOf s c))
+      → d ≡ nameIn s ns (fieldC s (operandOf s c)) → Is x
   unfolding stepAs
-  step-property a b d p q r = rw (p, q, r)
+  step-property p q r e = e ∙ rw (p, q, r)
 
 -- chain by chain
 abbrev pub allRows : List ℕ → List Name → List ℕ → ℕ → List ℕ

@@ -1,4 +1,5 @@
 -- `sections::chain_at` meets its contract: the chain by the place of its root's name.
+use mathlib.Core.Path.{_∙_}
 use borrow.Author.Needs.{needs}
 use mathlib.Core.List.{map}
 use Rattle.keys.specs.Keys.{nameOf}
@@ -18,7 +19,10 @@ chain-of-requires c κs = search needs
 returns : tie.Need-returns
 returns c =
     let a = c .before .before .before .before .before .args in
-    cc (chain-placed (a .s .now) (map (nameOf (a .s .now)) (a .ks .now)) (a .j) (a .first) (c .before .root-place .result) (cc))
+    let s = a .s .now in
+    let ns = map (nameOf s) (a .ks .now) in
+    c .chain-of .ensures
+    ∙ chain-placed s ns (a .j) (a .first) (c .before .root-place .result) _ (c .before .before .child .ensures) (c .before .root-place .ensures)
 
 pub chain-at-spec : {M : Type 1} → statement M
 chain-at-spec = tie.close (tie.spec child-requires root-place-requires chain-of-requires returns)

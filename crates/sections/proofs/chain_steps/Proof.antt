@@ -1,10 +1,10 @@
 -- `sections::chain_steps` meets its contract. Invariant: the first i rows are the first i steps, and those from link c on are left.
 use borrow.Author.Needs.{needs}
 use Prim.Native.Nat.{_≤_, _+_, _*_}
-use mathlib.Core.Path.{_≡_, refl}
+use mathlib.Core.Path.{_≡_, refl, sym, _∙_}
 use lib.ListN.{length}
 use Rattle.sections.specs.Written.{Written}
-use Rattle.sections.specs.PutLaws.{written-none, written-length}
+use Rattle.sections.specs.PutLaws.{written-none}
 use mathlib.Core.List.{map}
 use Rattle.keys.specs.Keys.{nameOf}
 use Rattle.sheet.specs.Limits.{maxDepth}
@@ -76,60 +76,43 @@ loop-less c = search needs
 
 loop-again : tie.Need-loop-again Inv-loop μ-loop
 loop-again c =
-    let a =
-    c .before .before .before .before .before .before .before .before .before .before .before .before .before .before .before .args in
-    let ns = map (nameOf (a .s .now)) (a .ks .now) in
-    let l = c .before .before .before .before .before .before .before .before .before .before .before .loop in
+    let put = c .before .before .before .before .before .before in
+    let at = put .before .before .before in
+    let l = at .before .before .loop in
+    let h = at .before .loop-test .taken in
+    let start = at .before .before .before .before .before .before in
+    let a = start .args in
+    let s = a .s .now in
+    let ns = map (nameOf s) (a .ks .now) in
+    let g = sym (c .before .before .goes-on .ensures) ∙ c .before .if1 .taken in
     let w =
-    step-next (a .s .now) ns (a .j) (l .i) (l .n) (l .left) (l .c)
-    (c .before .before .before .before .before .before .before .before .before .step-at .result)
-    (c .before .before .before .before .before .before .before .step-words .result)
-    (c .before .before .before .before .before .before .before .before .before .before .before .before .before .before .before .pre .0)
-    (c .before .before .before .before .before .before .before .before .before .before .loop-test .taken) (l .inv .2)
-    (c .before .before .before .before .before .before .before .before .before .step-at .ensures)
-    (c .before .before .before .before .before .before .before .step-words .ensures)
-    (c .before .before .before .before .before .before .put-six .ensures) (l .inv .4) in (
+    step-next s ns (a .j) (l .i) (l .n) (l .left) (l .c) _ _ (start .pre .0) h (l .inv .2) (at .step-at .ensures)
+    (put .before .step-words .ensures) (put .put-six .ensures) (l .inv .4) in (
       omega arith,
-      omega (arith, width-few (a .s .now) (l .c)),
-      cc (left-more (a .s .now) ns (a .j) (l .i) (l .n) (l .left) (l .c)
-          (c .before .before .before .before .before .before .before .before .before .before .loop-test .taken) (cc) (l .inv .2)),
-      written-length w,
+      omega (arith, width-few s (l .c)),
+      left-more s ns (a .j) (l .i) (l .n) (l .left) (l .c) _ _ h g (c .before .before .before .width .ensures) (c .rest-of .ensures) (l .inv .2),
+      put .put-six .kept .0 ∙ l .inv .3,
       w,
     )
 
 same-length : tie.Need-same-length Inv-loop μ-loop
-same-length c =
-    let a = c .before .before .before .before .before .before .before .before .before .before .before .before .before .before .args in
-    let ns = map (nameOf (a .s .now)) (a .ks .now) in
-    let l = c .before .before .before .before .before .before .before .before .before .before .loop in
-    let w =
-    step-next (a .s .now) ns (a .j) (l .i) (l .n) (l .left) (l .c)
-    (c .before .before .before .before .before .before .before .before .step-at .result)
-    (c .before .before .before .before .before .before .step-words .result)
-    (c .before .before .before .before .before .before .before .before .before .before .before .before .before .before .pre .0)
-    (c .before .before .before .before .before .before .before .before .before .loop-test .taken) (l .inv .2)
-    (c .before .before .before .before .before .before .before .before .step-at .ensures)
-    (c .before .before .before .before .before .before .step-words .ensures)
-    (c .before .before .before .before .before .put-six .ensures) (l .inv .4) in
-    written-length w
+same-length c = c .before .before .before .before .before .put-six .kept .0 ∙ c .before .before .before .before .before .before .before .before .before .before .loop .inv .3
 
 returns : tie.Need-returns Inv-loop μ-loop
 returns c =
-    let a = c .before .before .before .before .before .before .before .before .before .before .before .before .before .before .args in
-    let ns = map (nameOf (a .s .now)) (a .ks .now) in
-    let l = c .before .before .before .before .before .before .before .before .before .before .loop in
+    let put = c .before .before .before .before .before in
+    let at = put .before .before .before in
+    let l = at .before .before .loop in
+    let h = at .before .loop-test .taken in
+    let start = at .before .before .before .before .before .before in
+    let a = start .args in
+    let s = a .s .now in
+    let ns = map (nameOf s) (a .ks .now) in
+    let g = sym (c .before .goes-on .ensures) ∙ c .if1 .left in
     let w =
-    step-next (a .s .now) ns (a .j) (l .i) (l .n) (l .left) (l .c)
-    (c .before .before .before .before .before .before .before .before .step-at .result)
-    (c .before .before .before .before .before .before .step-words .result)
-    (c .before .before .before .before .before .before .before .before .before .before .before .before .before .before .pre .0)
-    (c .before .before .before .before .before .before .before .before .before .loop-test .taken) (l .inv .2)
-    (c .before .before .before .before .before .before .before .before .step-at .ensures)
-    (c .before .before .before .before .before .before .step-words .ensures)
-    (c .before .before .before .before .before .put-six .ensures) (l .inv .4) in
-    step-last (a .s .now) ns (a .j) (l .i) (l .n) (l .left) (l .c)
-    (c .before .before .before .before .before .before .before .before .before .before .before .before .before .before .pre .0)
-    (c .before .before .before .before .before .before .before .before .before .loop-test .taken) (cc) (l .inv .2) w
+    step-next s ns (a .j) (l .i) (l .n) (l .left) (l .c) _ _ (start .pre .0) h (l .inv .2) (at .step-at .ensures)
+    (put .before .step-words .ensures) (put .put-six .ensures) (l .inv .4) in
+    step-last s ns (a .j) (l .i) (l .n) (l .left) (l .c) (start .pre .0) h g (l .inv .2) w
 
 same-length-2 : tie.Need-same-length-2 Inv-loop μ-loop
 same-length-2 c = c .before .loop .inv .3

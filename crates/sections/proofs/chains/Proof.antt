@@ -1,10 +1,10 @@
 -- `sections::chains` meets its contract. Invariant: the first i rows are the chains of the first i nodes, and first is how many steps they have.
 use borrow.Author.Needs.{needs}
 use Prim.Native.Nat.{_≤_, _+_, _-_}
-use mathlib.Core.Path.{_≡_, refl}
+use mathlib.Core.Path.{_≡_, refl, sym, ap₂, _∙_}
 use lib.ListN.{length, take}
 use Rattle.sections.specs.Written.{Written}
-use Rattle.sections.specs.PutLaws.{written-none, written-length}
+use Rattle.sections.specs.PutLaws.{written-none}
 use mathlib.Core.List.{map}
 use Rattle.keys.specs.Keys.{nameOf}
 use Rattle.lowering.specs.Image.{section}
@@ -80,8 +80,9 @@ loop-again c =
     (c .before .before .before .put-six .ensures)
     (c .before .before .before .before .before .before .before .before .before .loop .inv .3) in (
       omega arith,
-      cc (count-more (a .s .now) (a .js .now) i (c .before .before .before .before .before .before .before .before .loop-test .taken)),
-      written-length w,
+      ap₂ _+_ (c .before .before .before .before .before .before .before .before .before .loop .inv .1) (c .link-count .ensures)
+          ∙ sym (count-more (a .s .now) (a .js .now) i (c .before .before .before .before .before .before .before .before .loop-test .taken)),
+      c .before .before .before .put-six .kept .0 ∙ c .before .before .before .before .before .before .before .before .before .loop .inv .2,
       w,
     )
 

@@ -1,14 +1,13 @@
 -- `sections::consts` meets its contract. Invariant: the first i rows are the constants of the first i nodes.
 use borrow.Author.Needs.{needs}
 use Prim.Native.Nat.{_≤_, _-_}
-use mathlib.Core.Path.{_≡_, refl}
+use mathlib.Core.Path.{_≡_, refl, _∙_}
 use lib.ListN.{length}
 use Rattle.sections.specs.Written.{Written}
-use Rattle.sections.specs.PutLaws.{written-none, written-length}
+use Rattle.sections.specs.PutLaws.{written-none}
 use Rattle.lowering.specs.Image.{section}
 use Rattle.sections.specs.RowLaws.{constRows, const-next, const-end}
 use native.Mathlib.Omega.{arith}
-use Prim.Native.Nat.{_≤_, _-_}
 use Rattle.sections.proofs.consts.Statement.{statement}
 use Rattle.sections.proofs.consts.Tie as tie
 
@@ -59,7 +58,7 @@ loop-again c =
     (c .before .before .before .before .before .kind .ensures) (c .before .before .before .before .field-a .ensures)
     (c .before .before .before .field-b .ensures) (c .before .before .put-three .ensures)
     (c .before .before .before .before .before .before .before .before .before .loop .inv .2) in
-    (omega arith, written-length w, w)
+    (omega arith, c .before .before .put-three .kept .0 ∙ c .before .before .before .before .before .before .before .before .before .loop .inv .1, w)
 
 same-length : tie.Need-same-length Inv-loop μ-loop
 same-length c = c .before .loop .inv .1

@@ -1,14 +1,13 @@
 -- `sections::names` meets its contract. Invariant: the first i rows are the names of the first i keys.
 use borrow.Author.Needs.{needs}
 use Prim.Native.Nat.{_≤_, _-_}
-use mathlib.Core.Path.{_≡_, refl}
+use mathlib.Core.Path.{_≡_, refl, _∙_}
 use lib.ListN.{length}
 use Rattle.sections.specs.Written.{Written}
-use Rattle.sections.specs.PutLaws.{written-none, written-length}
+use Rattle.sections.specs.PutLaws.{written-none}
 use Rattle.lowering.specs.Image.{section}
 use Rattle.sections.specs.RowLaws.{nameRows, name-next, name-end}
 use native.Mathlib.Omega.{arith}
-use Prim.Native.Nat.{_≤_, _-_}
 use Rattle.sections.proofs.names.Statement.{statement}
 use Rattle.sections.proofs.names.Tie as tie
 
@@ -55,7 +54,7 @@ loop-again c =
     (c .before .before .before .before .before .before .before .loop-test .taken) (c .before .before .before .before .text-of .ensures)
     (c .before .before .before .mark-of .ensures) (c .before .before .put-two .ensures)
     (c .before .before .before .before .before .before .before .before .loop .inv .2) in
-    (omega arith, written-length w, w)
+    (omega arith, c .before .before .put-two .kept .0 ∙ c .before .before .before .before .before .before .before .before .loop .inv .1, w)
 
 same-length : tie.Need-same-length Inv-loop μ-loop
 same-length c = c .before .loop .inv .1

@@ -1,4 +1,5 @@
 -- `sections::root_place` meets its contract: a variable by its name, any other root whatever the place.
+use mathlib.Core.Path.{_∙_}
 use borrow.Author.Needs.{needs}
 use mathlib.Core.List.{map}
 use Rattle.keys.specs.Keys.{nameOf}
@@ -18,12 +19,12 @@ place-requires c κs = search needs
 returns : tie.Need-returns
 returns c =
     let a = c .before .before .before .before .before .before .args in
-    root-named (a .s .now) (map (nameOf (a .s .now)) (a .ks .now)) (a .v) (c .place .result) (cc)
+    root-named (a .s .now) (map (nameOf (a .s .now)) (a .ks .now)) (a .v) (c .before .field-a .ensures) (c .place .ensures)
 
 returns-2 : tie.Need-returns-2
 returns-2 c =
     let a = c .before .before .before .before .args in
-    root-plain (a .s .now) (map (nameOf (a .s .now)) (a .ks .now)) (a .v) 0 (λ e. c .if1 .left (cc))
+    root-plain (a .s .now) (map (nameOf (a .s .now)) (a .ks .now)) (a .v) 0 (λ e. c .if1 .left (c .before .kind .ensures ∙ e))
 
 pub root-place-spec : {M : Type 1} → statement M
 root-place-spec =

@@ -3,10 +3,11 @@ use borrow.Author.Needs.{needs}
 use mathlib.Core.Path.{sym, _∙_}
 use mathlib.Core.List.{map}
 use Rattle.keys.specs.Keys.{nameOf}
+use Rattle.sheet.specs.Node.{fieldA, fieldB, fieldC}
 use Rattle.lowering.specs.Flatten.{stepRule}
 use Rattle.rules.specs.declared.chains.StepRule.the-variants.{Index, Method, Nothing}
 use Rattle.rules.specs.Inverse.{stepRuleFrom, step-is}
-use Rattle.sections.specs.StepRows.{step-index, step-none, step-method, step-property}
+use Rattle.sections.specs.StepRows.{named-by, step-index, step-none, step-method, step-property}
 use Rattle.sections.proofs.step_at.Statement.{statement}
 use Rattle.sections.proofs.step_at.Tie as tie
 
@@ -68,32 +69,40 @@ returns : tie.Need-returns
 unfolding stepRuleFrom
 returns c =
     let a = c .before .before .before .before .before .before .before .args in
-    let r =
-    sym (step-is (stepRule (a .s .now) (a .c)) Index (sym (c .before .before .before .before .step-rule .ensures) ∙ c .before .enum-told .given .1)) in
-    cc (step-index (a .s .now) (map (nameOf (a .s .now)) (a .ks .now)) (a .c) (a .n) 0 0 0 r)
+    let s = a .s .now in
+    let ns = map (nameOf s) (a .ks .now) in
+    let r = sym (step-is (stepRule s (a .c)) Index (sym (c .before .before .before .before .step-rule .ensures) ∙ c .before .enum-told .given .1)) in
+    step-index s ns (a .c) (a .n) 0 0 0 r (c .step-of .ensures)
 
 returns-2 : tie.Need-returns-2
 returns-2 c =
     let a = c .before .before .before .before .before .before .before .before .before .before .before .before .before .args in
-    cc (step-property (a .s .now) (map (nameOf (a .s .now)) (a .ks .now)) (a .c) (a .n)
-    (c .before .before .before .before .before .place .result) (c .before .before .before .place2 .result) (c .before .place3 .result) (cc)
-    (cc) (cc))
+    let s = a .s .now in
+    let ns = map (nameOf s) (a .ks .now) in
+    let o = c .before .before .before .before .before .before .before .before .before .operand-of .ensures in
+    let first = named-by s ns (a .c) (fieldA s) o (c .before .before .before .before .before .before .field-a .ensures) (c .before .before .before .before .before .place .ensures) in
+    let second = named-by s ns (a .c) (fieldB s) o (c .before .before .before .before .field-b .ensures) (c .before .before .before .place2 .ensures) in
+    let third = named-by s ns (a .c) (fieldC s) o (c .before .before .field-c .ensures) (c .before .place3 .ensures) in
+    step-property s ns (a .c) (a .n) _ _ _ first second third (c .step-of2 .ensures)
 
 returns-3 : tie.Need-returns-3
 unfolding stepRuleFrom
 returns-3 c =
     let a = c .before .before .before .before .before .before .before .before .before .args in
-    let r =
-    sym (step-is (stepRule (a .s .now) (a .c)) Method (sym (c .before .before .before .before .before .before .step-rule .ensures) ∙ c .before .before .before .enum-told3 .given .1)) in
-    cc (step-method (a .s .now) (map (nameOf (a .s .now)) (a .ks .now)) (a .c) (a .n) (c .before .place4 .result) 0 0 r (cc))
+    let s = a .s .now in
+    let ns = map (nameOf s) (a .ks .now) in
+    let r = sym (step-is (stepRule s (a .c)) Method (sym (c .before .before .before .before .before .before .step-rule .ensures) ∙ c .before .before .before .enum-told3 .given .1)) in
+    let first = named-by s ns (a .c) (fieldA s) (c .before .before .before .before .before .operand-of .ensures) (c .before .before .field-a2 .ensures) (c .before .place4 .ensures) in
+    step-method s ns (a .c) (a .n) _ 0 0 r first (c .step-of3 .ensures)
 
 returns-4 : tie.Need-returns-4
 unfolding stepRuleFrom
 returns-4 c =
     let a = c .before .before .before .before .before .before .before .args in
-    let r =
-    sym (step-is (stepRule (a .s .now) (a .c)) Nothing (sym (c .before .before .before .before .step-rule .ensures) ∙ c .before .enum-told4 .given .1)) in
-    cc (step-none (a .s .now) (map (nameOf (a .s .now)) (a .ks .now)) (a .c) (a .n) 0 0 0 r)
+    let s = a .s .now in
+    let ns = map (nameOf s) (a .ks .now) in
+    let r = sym (step-is (stepRule s (a .c)) Nothing (sym (c .before .before .before .before .step-rule .ensures) ∙ c .before .enum-told4 .given .1)) in
+    step-none s ns (a .c) (a .n) 0 0 0 r (c .step-of4 .ensures)
 
 pub step-at-spec : {M : Type 1} → statement M
 step-at-spec =

@@ -1,12 +1,11 @@
 -- `sections::step_count` meets its contract. Invariant: n is the count of the first i chains; each has few steps.
 use borrow.Author.Needs.{needs}
-use Prim.Native.Nat.{_≤_, _-_, _*_}
-use mathlib.Core.Path.{_≡_, refl}
+use Prim.Native.Nat.{_≤_, _+_, _-_, _*_}
+use mathlib.Core.Path.{_≡_, refl, sym, ap₂, _∙_}
 use lib.ListN.{length, take, getD}
 use Rattle.chains.specs.Kept.{stepCount}
 use Rattle.sections.specs.ChainRows.{links-most, count-more, count-whole}
 use native.Mathlib.Omega.{arith}
-use Prim.Native.Nat.{_≤_, _-_, _*_}
 use Rattle.sections.proofs.step_count.Statement.{statement}
 use Rattle.sections.proofs.step_count.Tie as tie
 
@@ -49,14 +48,14 @@ loop-less c = search needs
 loop-again : tie.Need-loop-again Inv-loop μ-loop
 loop-again c =
     let a = c .before .before .before .before .before .before .args in
-    let i = c .before .before .before .loop .i in (
+    let l = c .before .before .before .loop in (
       omega arith,
-      omega (arith, links-most (a .s .now) (getD (a .js .now) i 0)),
-      cc (count-more (a .s .now) (a .js .now) i (c .before .before .loop-test .taken)),
+      omega (arith, links-most (a .s .now) (getD (a .js .now) (l .i) 0)),
+      ap₂ _+_ (l .inv .2) (c .link-count .ensures) ∙ sym (count-more (a .s .now) (a .js .now) (l .i) (c .before .before .loop-test .taken)),
     )
 
 returns : tie.Need-returns Inv-loop μ-loop
-returns c = let a = c .before .before .before .before .args in cc (count-whole (a .s .now) (a .js .now) (c .before .loop .i) (c .loop-test .left))
+returns c = let a = c .before .before .before .before .args in c .before .loop .inv .2 ∙ count-whole (a .s .now) (a .js .now) (c .before .loop .i) (c .loop-test .left)
 
 pub step-count-spec : {M : Type 1} → statement M
 step-count-spec =
