@@ -49,9 +49,12 @@ module _ {s : List ℕ} (l : Layout) (xs : List ℕ) (st : State) (v i : ℕ) (s
     place = λ a h. let z = const-fits a h in at-end (sameConst s (constOf s v)) (constOf s) (region (constsAt l) (st .consts) xs) (st .consts) (h .pooled .const-keys .count) (omega arith) ∙ const-place v h;
   }
 
-module _ {s : List ℕ} (l : Layout) (xs : List ℕ) (st : State) (v i : ℕ) (sought : tokensAt l + st .tokens ≤ length xs → i ≡ firstWhere (eqb (fieldC s v)) (map (fieldC s) (region (tokensAt l) (st .tokens) xs))) where
+module _ {s : List ℕ} (l : Layout) (xs : List ℕ) (st : State) (v i t : ℕ) (is : t ≡ fieldC s v) (sought : tokensAt l + st .tokens ≤ length xs → i ≡ firstWhere (eqb t) (map (fieldC s) (region (tokensAt l) (st .tokens) xs))) where
   token-fits : (a : Made) → Holds s l xs st a → i ≡ firstWhere (eqb (fieldC s v)) (map (fieldC s) (region (tokensAt l) (st .tokens) xs))
-  token-fits a h = let space = h .fit .space in let few = keys-few (h .pooled .token-keys) in sought (omega arith)
+  token-fits a h =
+      let space = h .fit .space in
+      let few = keys-few (h .pooled .token-keys) in
+      sought (omega arith) ∙ ap (λ (k : ℕ). firstWhere (eqb k) (map (fieldC s) (region (tokensAt l) (st .tokens) xs))) is
 
   pub token-adds-old : i < st .tokens → Adds s l xs st xs (placed st i) (Valid s v) (addToken (fieldC s v)) (λ a. tokenAt (fieldC s v) (a .pools))
   token-adds-old less = record {

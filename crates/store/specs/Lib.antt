@@ -4,6 +4,7 @@ pub mod RegionLaws
 pub mod Holds
 pub mod Does
 pub mod States
+pub mod StateLaws
 pub mod GrowingLaws
 pub mod FrameLaws
 pub mod EmitLaws

@@ -88,7 +88,7 @@ module _ (which a b n : ℕ) where
   unfolding counted
   counted-none h1 h2 h3 h4 = rw (ne-eqb which 1 h1, ne-eqb which 2 h2, ne-eqb which 3 h3, ne-eqb which 4 h4, counted)
 
-  pub counted-small : Fits w32 a → Fits w32 n → counted which a b n < 4294967296
+  counted-small : Fits w32 a → Fits w32 n → counted which a b n < 4294967296
   counted-small ha hn = by (eqb which 1) refl (eqb which 2) refl (eqb which 3) refl (eqb which 4) refl
     where
       by : (t1 : Bool) → eqb which 1 ≡ t1 → (t2 : Bool) → eqb which 2 ≡ t2 → (t3 : Bool) → eqb which 3 ≡ t3 → (t4 : Bool) → eqb which 4 ≡ t4 → counted which a b n < 4294967296
@@ -104,11 +104,11 @@ module _ (which a b n : ℕ) where
 
 -- the entries of a kind
 module _ (e : List ℕ) (kind : ℕ) (h : e ≡ entries kind) where
-  pub pops-small : getD e 0 0 < 5
+  pops-small : getD e 0 0 < 5
   unfolding entries
   pops-small = rw h (table-small (3 * kind))
 
-  pub pushes-small : getD e 1 0 < 5
+  pushes-small : getD e 1 0 < 5
   unfolding entries
   pushes-small = rw h (table-small (3 * kind + 1))
 
@@ -117,6 +117,16 @@ module _ (w : List ℕ) (n d : ℕ) (e : List ℕ) (c : ℕ) (h : e ≡ entries 
   after-is : afterWords w n d ≡ d - (getD e 0 0 + c) + getD e 1 0
   unfolding afterWords
   after-is = rw (k, h)
+
+  -- the sums fit
+  pub pops-fit : Fits w32 (getD w 1 0) → Fits w32 n → Fits w64 (getD e 0 0 + c)
+  pops-fit ha hn =
+      let p = pops-small e (getD w 0 0) h in
+      let q = counted-small (getD e 2 0) (getD w 1 0) (getD w 2 0) n ha hn in
+      record { fits = omega arith }
+
+  pub result-fits : Fits w32 d → Fits w64 (d - (getD e 0 0 + c) + getD e 1 0)
+  result-fits hd = let p = pushes-small e (getD w 0 0) h in let q = hd .fits in record { fits = omega arith }
 
   pub after-some : d - (getD e 0 0 + c) + getD e 1 0 ≡ afterWords w n d
   after-some = sym after-is

@@ -1,22 +1,8 @@
 -- `store::add_token` meets its contract: one law where the entry is found, one where it is new.
-use Prim.Native.Nat.{ℕ}
-use mathlib.Core.Path.{ap, _∙_}
-use mathlib.Core.List.{map}
-use lib.Dec.{eqb}
-use Rattle.sheet.specs.Node.{fieldC}
-use Rattle.lowering.specs.Pools.{firstWhere}
-use Rattle.store.specs.Places.{tokensAt, region}
 use Rattle.store.specs.AddsLaws.{token-adds-old, token-adds-new}
 use borrow.Author.Needs.{needs}
 use Rattle.store.proofs.add_token.Statement.{statement}
 use Rattle.store.proofs.add_token.Tie as tie
-use Rattle.store.proofs.add_token.Reads as reads
-use Rattle.store.proofs.add_token.Lts as lts
-use Rattle.sheet.proofs.field_c.Reads as field-c-reads
-use Rattle.store.proofs.places.tokens_at.Reads as tokens-at-reads
-use Rattle.store.proofs.put.Reads as put-reads
-use Rattle.store.proofs.seek_token.Reads as seek-token-reads
-use Rattle.store.proofs.states.with_token.Reads as with-token-reads
 
 field-c-requires : tie.Need-field-c-requires
 field-c-requires c κs = search needs
@@ -37,7 +23,7 @@ returns : tie.Need-returns
 returns c =
     let sk = c .before .before in
     let a = sk .before .before .before .before .before .args in
-    token-adds-old (a .l) (a .x .now) (a .st) (a .j) (sk .seek-token .result) (λ h. sk .seek-token .ensures h ∙ ap (λ (t : ℕ). firstWhere (eqb t) (map (fieldC (a .s .now)) (region (tokensAt (a .l)) (a .st .tokens) (a .x .now)))) (sk .before .field-c .ensures)) (c .if1 .taken)
+    token-adds-old (a .l) (a .x .now) (a .st) (a .j) (sk .seek-token .result) _ (sk .before .field-c .ensures) (sk .seek-token .ensures) (c .if1 .taken)
 
 tokens-at-requires : tie.Need-tokens-at-requires
 tokens-at-requires c κs = search needs
@@ -64,7 +50,7 @@ returns-2 c =
     let el = at .before in
     let sk = el .before .before in
     let a = sk .before .before .before .before .before .args in
-    token-adds-new (a .l) (a .x .now) (a .st) (a .j) (sk .seek-token .result) (λ h. sk .seek-token .ensures h ∙ ap (λ (t : ℕ). firstWhere (eqb t) (map (fieldC (a .s .now)) (region (tokensAt (a .l)) (a .st .tokens) (a .x .now)))) (sk .before .field-c .ensures))
+    token-adds-new (a .l) (a .x .now) (a .st) (a .j) (sk .seek-token .result) _ (sk .before .field-c .ensures) (sk .seek-token .ensures)
     (at .tokens-at .result) (p .put .last .0) (c .with-token .result)
     (el .if1 .left) (at .tokens-at .ensures) (p .put .ensures) (c .with-token .ensures)
 

@@ -1,14 +1,8 @@
 -- `store::ops::after` meets its contract: one law for each way.
-use native.Mathlib.Omega.{arith}
-use lib.ListN.{getD}
-use Rattle.store.specs.TableLaws.{counted-small, pops-small, pushes-small, after-some, after-none}
+use Rattle.store.specs.TableLaws.{pops-fit, result-fits, after-some, after-none}
 use borrow.Author.Needs.{needs}
 use Rattle.store.proofs.ops.after.Statement.{statement}
 use Rattle.store.proofs.ops.after.Tie as tie
-use Rattle.store.proofs.ops.after.Reads as reads
-use Rattle.store.proofs.ops.after.Lts as lts
-use Rattle.store.proofs.ops.counted.Reads as counted-reads
-use Rattle.store.proofs.ops.effect.Reads as effect-reads
 
 array-read-effect : tie.Need-array-read-effect
 array-read-effect c = search needs
@@ -34,10 +28,7 @@ counted-requires c κs = search needs
 add-pops : tie.Need-add-pops
 add-pops c =
     let a = c .before .before .args in
-    let p = pops-small (c .before .effect .result) (getD (a .t1) 0 0) (c .before .effect .ensures) in
-    let q = counted-small (getD (c .before .effect .result) 2 0) (getD (a .t1) 1 0) (getD (a .t1) 2 0) (a .n) (search needs) (search needs) in
-    let e = c .counted .ensures in
-    record { fits = omega arith }
+    pops-fit (a .t1) (a .n) (a .d) (c .before .effect .result) (c .counted .result) (c .before .effect .ensures) (c .counted .ensures) (search needs) (c .before .before .fits .n)
 
 sub-result : tie.Need-sub-result
 sub-result c = search needs
@@ -48,9 +39,7 @@ array-read-result c = search needs
 add-result : tie.Need-add-result
 add-result c =
     let a = c .before .before .before .args in
-    let q = pushes-small (c .before .before .effect .result) (getD (a .t1) 0 0) (c .before .before .effect .ensures) in
-    let h = c .before .before .before .fits in
-    record { fits = omega arith }
+    result-fits (a .t1) (a .n) (a .d) (c .before .before .effect .result) (c .before .counted .result) (c .before .before .effect .ensures) (c .before .counted .ensures) (c .before .before .before .fits .d)
 
 returns : tie.Need-returns
 returns c =

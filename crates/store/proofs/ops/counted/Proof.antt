@@ -1,11 +1,9 @@
 -- `store::ops::counted` meets its contract: one law for each way.
+use mathlib.Core.Path.{_∙_}
 use Rattle.store.specs.TableLaws.{counted-argc, counted-ref, counted-a, counted-chain, counted-none}
 use borrow.Author.Needs.{needs}
 use Rattle.store.proofs.ops.counted.Statement.{statement}
 use Rattle.store.proofs.ops.counted.Tie as tie
-use Rattle.store.proofs.ops.counted.Reads as reads
-use Rattle.store.proofs.ops.counted.Lts as lts
-use Rattle.store.proofs.ops.ref_argc.Reads as ref-argc-reads
 
 cast-result : tie.Need-cast-result
 cast-result c = search needs
@@ -17,7 +15,7 @@ ref-argc-requires : tie.Need-ref-argc-requires
 ref-argc-requires c κs = search needs
 
 returns-2 : tie.Need-returns-2
-returns-2 c = cc (counted-ref (c .before .before .before .args .which) (c .before .before .before .args .a) (c .before .before .before .args .b) (c .before .before .before .args .n) (c .before .before .if1 .left) (c .before .if2 .taken))
+returns-2 c = c .ref-argc .ensures ∙ counted-ref _ _ _ _ (c .before .before .if1 .left) (c .before .if2 .taken)
 
 returns-3 : tie.Need-returns-3
 returns-3 c = counted-a _ _ _ _ (c .before .before .if1 .left) (c .before .if2 .left) (c .if3 .taken)

@@ -1,11 +1,8 @@
 -- `store::states::counted` meets its contract by what the calls ensure.
+use Rattle.store.specs.StateLaws.{counted-by}
 use borrow.Author.Needs.{needs}
 use Rattle.store.proofs.states.counted.Statement.{statement}
 use Rattle.store.proofs.states.counted.Tie as tie
-use Rattle.store.proofs.states.counted.Reads as reads
-use Rattle.store.proofs.states.counted.Lts as lts
-use Rattle.std.proofs.num.wrapping_add_u32.Reads as wrapping-add-u32-reads
-use Rattle.store.proofs.states.greater.Reads as greater-reads
 
 wrapping-add-u32-requires : tie.Need-wrapping-add-u32-requires
 wrapping-add-u32-requires c κs = search needs
@@ -20,7 +17,9 @@ greater-requires : tie.Need-greater-requires
 greater-requires c κs = search needs
 
 returns : tie.Need-returns
-returns c = cc
+returns c =
+    let a = c .before .before .before .args in
+    counted-by (a .st) (a .depth) (c .before .before .wrapping-add-u32 .ensures) (c .before .wrapping-add-u322 .ensures) (c .greater .ensures)
 
 pub counted-spec : {M : Type 1} → statement M
 counted-spec =
