@@ -1,6 +1,6 @@
 -- Laws of the table of guards: its rows, and how it is filled.
 use Prim.Native.Nat.{ℕ, _+_, _≤_, _<_}
-use mathlib.Core.Path.{_≡_, ap, _∙_}
+use mathlib.Core.Path.{_≡_, ap, ap₂, _∙_}
 use mathlib.Core.Bool.{false}
 use mathlib.Core.List.{List}
 use native.Mathlib.Decide.{ℕ-discrete}
@@ -43,6 +43,14 @@ module _ (s : List ℕ) (g : ℕ) where
       → record { kind = 2; len = counted-guard .len; emitted = counted-guard .emitted; defeated = counted-guard .defeated } ≡ knownOf s g
   unfolding knownBy guardIn
   known-tried e = ap (knownBy tried) (capped-left (tally maxDepth s g) (instructions 1)) ∙ known-as Tried e
+
+  -- by the sums that the code makes
+  pub known-counted : (t a b : Tally) → guardIn Tried ≡ guardKind s g → t ≡ capped (plus a b) → a ≡ capped (tally maxDepth s g) → b ≡ instructions 1
+      → record { kind = 2; len = t .len; emitted = t .emitted; defeated = t .defeated } ≡ knownOf s g
+  known-counted t a b e p q r =
+      ap (λ (x : Tally). record { kind = 2; len = x .len; emitted = x .emitted; defeated = x .defeated })
+      (p ∙ ap₂ (λ (x y : Tally). capped (plus x y)) q r)
+      ∙ known-tried e
 
 -- rows up to block k, and the guard of block k is node j
 pub record Filling (s : List ℕ) (at : List GuardRow) (k j : ℕ) : Type 0 where

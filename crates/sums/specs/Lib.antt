@@ -6,3 +6,4 @@ pub mod ReachLaws
 pub mod SumLaws
 pub mod BodyLaws
 pub mod WholeLaws
+pub mod LoopLaws
