@@ -1,4 +1,6 @@
 -- `places::case_target` meets its contract. The invariant is `Targeting`: the chain of the next list stands at the sum.
+use lib.Dec.{lit<}
+use Rattle.sums.specs.LoopLaws.{step-on, step-falls, step-below, step-fits-64, cut-off-at, cut-off-same, within-size}
 use Rattle.places.specs.TargetLaws.{Targeting, targeting-start, targeting-on, targeting-found, targeting-end, bound-as}
 use Rattle.sums.specs.Known.{Rows}
 use Rattle.totals.specs.Place.{bodyPlace}
@@ -10,10 +12,9 @@ use Rattle.lowering.specs.Limits.{maxEmitted}
 use Rattle.cases.specs.Split.{split}
 use Rattle.sheet.specs.Limits.{maxDepth}
 use lib.ListN.{length, take}
-use mathlib.Core.Path.{_≡_, refl}
-use Prim.Native.Nat.{_+_, _-_, _≤_}
-use borrow.Author.Needs.{needs}
-use native.Mathlib.Omega.{arith}
+use mathlib.Core.Path.{_≡_, refl, sym, _∙_}
+use Prim.Native.Nat.{_+_, _-_, _≤_, zero-le}
+use borrow.Author.Needs.{needs, scaled-fits}
 use Rattle.places.proofs.case_target.Statement.{statement}
 use Rattle.places.proofs.case_target.Tie as tie
 
@@ -28,45 +29,46 @@ abbrev μ-loop : tie.MeasureT-loop
 μ-loop s g want at start fallback b n y sum₀ i₀ sum i = n - i
 
 at-most-requires : tie.Need-at-most-requires Inv-loop μ-loop
-at-most-requires c κs = search needs
+at-most-requires c κs = tt
 
 length-only-requires : tie.Need-length-only-requires Inv-loop μ-loop
-length-only-requires c κs = search needs
+length-only-requires c κs = tt
 
 loop-holds : tie.Need-loop-holds Inv-loop μ-loop
 loop-holds c = let a = c .before .before .before .before .args in
-    let n = c .before .before .at-most .result in (
-      omega arith,
+    let n = c .before .before .at-most .result in
+    let long : length (a .h .at) ≡ 64 = search needs in (
+      zero-le,
       (
-        search needs,
+        long,
         (
-          omega arith,
-          λ w fit. targeting-start (a .s .now) (tally maxDepth (a .s .now)) (bodyPlace (a .s .now) (tally maxDepth (a .s .now)) (split (rangesOf (a .s .now)))) (a .fallback) (take (a .b .n) (a .b .at)) (caseKey (a .s .now)) 0 (a .h .at) n (a .start) (c .length-only .result .len) n 64 (search needs) (omega (arith, c .before .before .at-most .ensures)) fit
+          cut-off-at _ _ 64 (c .before .before .at-most .ensures),
+          λ w fit. targeting-start (a .s .now) (tally maxDepth (a .s .now)) (bodyPlace (a .s .now) (tally maxDepth (a .s .now)) (split (rangesOf (a .s .now)))) (a .fallback) (take (a .b .n) (a .b .at)) (caseKey (a .s .now)) 0 (a .h .at) n (a .start) (c .length-only .result .len) n 64 long (cut-off-same _ _ _ (c .before .before .at-most .ensures)) fit
               (c .length-only .ensures),
         ),
       ),
     )
 
 mul-case-blocks : tie.Need-mul-case-blocks Inv-loop μ-loop
-mul-case-blocks c = omega arith
+mul-case-blocks c = scaled-fits _ 64 _ (step-below _ _ (c .loop-test .taken) 64 (c .before .loop .inv .1 .1 .0)) (lit< tt)
 
 array-read-case-blocks : tie.Need-array-read-case-blocks Inv-loop μ-loop
-array-read-case-blocks c = omega arith
+array-read-case-blocks c = step-below _ _ (c .loop-test .taken) 64 (c .before .loop .inv .1 .1 .0)
 
 case-blocks-requires : tie.Need-case-blocks-requires Inv-loop μ-loop
-case-blocks-requires c κs = search needs
+case-blocks-requires c κs = tt
 
 same-blocks-requires : tie.Need-same-blocks-requires Inv-loop μ-loop
-same-blocks-requires c κs = search needs
+same-blocks-requires c κs = tt
 
 word-requires : tie.Need-word-requires Inv-loop μ-loop
-word-requires c κs = search needs
+word-requires c κs = tt
 
 chain-end-requires : tie.Need-chain-end-requires Inv-loop μ-loop
-chain-end-requires c κs = search needs
+chain-end-requires c κs = tt
 
 list-target-requires : tie.Need-list-target-requires Inv-loop μ-loop
-list-target-requires c κs = search needs
+list-target-requires c κs = tt
 
 returns : tie.Need-returns Inv-loop μ-loop
 returns c w bs few fit = let a = c .before .before .before .before .before .before .before .before .before .before .before .before .args in
@@ -76,35 +78,35 @@ returns c w bs few fit = let a = c .before .before .before .before .before .befo
     targeting-found (a .s .now) (tally maxDepth (a .s .now)) (bodyPlace (a .s .now) (tally maxDepth (a .s .now)) (split (rangesOf (a .s .now)))) (a .fallback) (take (a .b .n) (a .b .at)) (caseKey (a .s .now)) 0 (a .h .at) (n .result) (a .start) (l .sum .len) (l .i)
     (l .inv .1 .1 .1 w (bound-as (a .s .now) (tally maxDepth (a .s .now)) (caseKey (a .s .now)) (a .h .at) (n .result) (a .start) (a .h .n) 64
     (l .inv .1 .0) (n .ensures) fit))
-    (c .before .before .before .before .before .before .loop-test .taken) (omega (arith, l .inv .1 .0, l .inv .1 .1 .0)) (take (k .result .n) (k .result .at)) (k .ensures .items)
-    (c .list-target .result) (c .before .before .word .result) (a .h .n) 64 (cc) (c .before .before .word .ensures)
+    (c .before .before .before .before .before .before .loop-test .taken) (within-size _ _ _ (l .inv .1 .0) (l .inv .1 .1 .0)) (take (k .result .n) (k .result .at)) (k .ensures .items)
+    (c .list-target .result) (c .before .before .word .result) (a .h .n) 64 (sym (c .before .before .before .before .same-blocks .ensures) ∙ c .before .before .before .if1 .taken) (c .before .before .word .ensures)
     (c .list-target .ensures (take (k .result .n) (k .result .at)) (c .before .chain-end .ensures w) bs few) (l .inv .1 .0) (n .ensures)
 
 arm-requires : tie.Need-arm-requires Inv-loop μ-loop
-arm-requires c κs = search needs
+arm-requires c κs = tt
 
 plus-requires : tie.Need-plus-requires Inv-loop μ-loop
-plus-requires c κs = search needs
+plus-requires c κs = tt
 
 add-i : tie.Need-add-i Inv-loop μ-loop
-add-i c = omega arith
+add-i c = step-fits-64 _ _ (c .before .before .before .before .before .loop-test .taken) (c .before .before .before .before .before .before .loop .inv .1 .1 .0)
 
 loop-less : tie.Need-loop-less Inv-loop μ-loop
-loop-less c = omega arith
+loop-less c = step-falls _ _ (c .before .before .before .before .before .loop-test .taken)
 
 loop-again : tie.Need-loop-again Inv-loop μ-loop
 loop-again c = let a = c .before .before .before .before .before .before .before .before .before .before .before .args in
     let n = c .before .before .before .before .before .before .before .before .before .at-most in
     let l = c .before .before .before .before .before .before .loop in
     let k = c .before .before .before .before .case-blocks in (
-      omega arith,
+      step-on _ _ (c .before .before .before .before .before .loop-test .taken),
       (
         l .inv .1 .0,
         (
           l .inv .1 .1 .0,
           λ w fit. targeting-on (a .s .now) (tally maxDepth (a .s .now)) (bodyPlace (a .s .now) (tally maxDepth (a .s .now)) (split (rangesOf (a .s .now)))) (a .fallback) (take (a .b .n) (a .b .at)) (caseKey (a .s .now)) 0 (a .h .at) (n .result) (a .start) (l .sum .len) (l .i) (l .inv .1 .1 .1 w fit)
-              (c .before .before .before .before .before .loop-test .taken) (omega (arith, l .inv .1 .0, l .inv .1 .1 .0)) (take (k .result .n) (k .result .at)) (k .ensures .items)
-              (l .sum) (c .before .arm .result) (c .plus .result) (cc) refl (c .before .arm .ensures w) (c .plus .ensures),
+              (c .before .before .before .before .before .loop-test .taken) (within-size _ _ _ (l .inv .1 .0) (l .inv .1 .1 .0)) (take (k .result .n) (k .result .at)) (k .ensures .items)
+              (l .sum) (c .before .arm .result) (c .plus .result) (sym (c .before .before .before .same-blocks .ensures) ∙ c .before .before .if1 .left) refl (c .before .arm .ensures w) (c .plus .ensures),
         ),
       ),
     )
