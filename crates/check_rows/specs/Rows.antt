@@ -1,29 +1,14 @@
 -- The check of a sheet at its boundaries: for each number 1 to 8 sheets on both sides, worked out from the format's rules. One table,
 -- one theorem.
-use Prim.Native.Nat.{ℕ, _+_, _*_}
-use mathlib.Core.Path.{_≡_, refl}
-use mathlib.Core.Bool.{Bool, true, false, _&&_, and-eq-true-iff}
+use Prim.Native.Nat.{ℕ, _*_}
+use mathlib.Core.Path.{_≡_, refl, sym, _∙_}
+use mathlib.Core.Bool.{Bool, true, false}
 use mathlib.Core.List.{List, [], _∷_, _++_}
 use lib.Dec.{eqb}
-use lib.ListN.{take, set, replicate}
-use Rattle.checks.specs.Checked.{numberOf}
-use Rattle.words.specs.Word.{word}
-use Rattle.words.specs.Count.{allBelow}
-use Rattle.text.specs.Same.{same}
-use Rattle.text.specs.Keyword.{isEval, isFn, isCall, isCurry}
-use Rattle.text.specs.Utf8.{rowIn, rowOf, utf8Rest, utf8}
-use Rattle.sheet.specs.Node.{field, position, localText, child, next}
-use Rattle.sheet.specs.Text.{textStart, textLength, text}
-use Rattle.sheet.specs.Walk.{siblings, skip}
-use Rattle.sizes.specs.Sizes.{limitsOk, lengthOk, padOk, paddingOk, sizesOk}
-use Rattle.shape.specs.Kinds.{bound, scalar, expression, caseValue, switchChild, caseChild, childKind}
-use Rattle.shape.specs.Shape.{withinBounds, ownRule, fieldsOk, childFits, childOk, tiles, selfOk, nodeOk, rootOk, nodesOk, shapeOk}
-use Rattle.texts.specs.Texts.{textOk, textsOk}
-use Rattle.numbers.specs.Numbers.{namesText, exist, numberAmong, localOk, nodeNumbersOk, localsOk, numbersOk}
-use Rattle.depth.specs.Depth.{within, depthOk}
-use Rattle.switches.specs.Switch.{isSwitch, firstCase, refsOk, countsOk, entriesOk, sameValue, apart, distinct, casesOk}
-use Rattle.support.specs.Support.{refusedKind, longCurry, supported, supportedOk}
-use Rattle.checks.specs.Checked.{treeChecked, checked}
+use lib.ListN.{take, set}
+use Rattle.checks.specs.Checked.{numberOf, checked}
+use Rattle.quick.specs.Quick.{quickNumber}
+use Rattle.quick.specs.QuickLaws.{quick-is}
 use Rattle.check_rows.specs.Build.{NodeWords, leaf, node, copies, nest, sheetWith, sheetOf}
 
 pub record Row : Type 0 where
@@ -80,25 +65,20 @@ unfoldable pub agrees : List Row → Bool
 agrees [] = true
 agrees (r ∷ rs) = elim (eqb (numberOf (checked (r .sheet))) (r .number)) [ true ↦ agrees rs | false ↦ false ]
 
-agrees-cons : (r : Row) (rs : List Row) → agrees (r ∷ rs) ≡ (eqb (numberOf (checked (r .sheet))) (r .number) && agrees rs)
-unfolding agrees
-agrees-cons r rs = by (eqb (numberOf (checked (r .sheet))) (r .number))
-  where
-    by : (b : Bool) → elim b [ true ↦ agrees rs | false ↦ false ] ≡ (b && agrees rs)
-    by true = refl
-    by false = refl
+-- the same by the quick check, for the prover to compute
+unfoldable quickly : List Row → Bool
+quickly [] = true
+quickly (r ∷ rs) = elim (eqb (quickNumber (r .sheet)) (r .number)) [ true ↦ quickly rs | false ↦ false ]
 
--- tables that agree make one that agrees
-agree-both : (rs ts : List Row) → agrees rs ≡ true → agrees ts ≡ true → agrees (rs ++ ts) ≡ true
-agree-both [] ts g h = h
-agree-both (r ∷ rs) ts g h =
-    let one = eqb (numberOf (checked (r .sheet))) (r .number) in
-    let both = and-eq-true-iff one (agrees rs) .0 (rw agrees-cons at g) in
-    rw agrees-cons (and-eq-true-iff one (agrees (rs ++ ts)) .1 (both .0, agree-both rs ts (both .1) h))
+quickly-is : (rs : List Row) → quickly rs ≡ agrees rs
+unfolding quickly agrees
+quickly-is [] = refl
+quickly-is (r ∷ rs) =
+    λ i. elim (eqb (quick-is (r .sheet) i) (r .number)) [ true ↦ quickly-is rs i | false ↦ false ]
 
--- short sheets
-abbrev shortRows : List Row
-shortRows =
+-- the table
+abbrev rows : List Row
+rows =
     -- 1: the length to the byte, no node, and each padding byte
     row 0 (plain unit)
     ∷ row 1 []
@@ -174,6 +154,21 @@ shortRows =
     ∷ row 4 (plain (switch 1 1 2 (case (int 1 0) (ref 0 ∷ []) ∷ range 0 ∷ [])))
     ∷ row 4 (plain (switch 1 1 1 (case (int 1 0) (ref 1 ∷ []) ∷ range 0 ∷ [])))
     ∷ row 4 (plain (switch 1 1 1 (case (int 1 0) (ref 0 ∷ []) ∷ range 1 ∷ [])))
+    -- 5: depth 64 and 65
+    ∷ row 0 (plain (nest 63 unit))
+    ∷ row 5 (plain (nest 64 unit))
+    -- 6: 64 and 65 blocks
+    ∷ row 0 (plain (switch 64 0 0 []))
+    ∷ row 6 (plain (switch 65 0 0 []))
+    -- 6: 64 and 65 ranges
+    ∷ row 0 (plain (switch 1 0 0 (copies 64 (range 0))))
+    ∷ row 6 (plain (switch 1 0 0 (copies 65 (range 0))))
+    -- 6: 64 and 65 Refs in one case
+    ∷ row 0 (plain (switch 1 1 0 (case (int 1 0) (copies 64 (ref 0)) ∷ [])))
+    ∷ row 6 (plain (switch 1 1 0 (case (int 1 0) (copies 65 (ref 0)) ∷ [])))
+    -- 6 goes before 7: 64 equal cases are 7, and 65 are 6
+    ∷ row 7 (plain (switch 0 64 0 (copies 64 (case (int 1 0) []))))
+    ∷ row 6 (plain (switch 0 65 0 (copies 65 (case (int 1 0) []))))
     -- 7: equal kind and value
     ∷ row 0 (plain (switch 0 2 0 (case (int 97 0) [] ∷ case (int 97 1) [] ∷ [])))
     ∷ row 7 (plain (switch 0 2 0 (case (int 97 1) [] ∷ case (int 97 1) [] ∷ [])))
@@ -190,78 +185,9 @@ shortRows =
     ∷ row 0 (sheetOf (node 12 0 0 0 (copies 2 unit)) (curry ∷ []) [])
     ∷ []
 
--- 5: depth 64 and 65
-abbrev depthRows : List Row
-depthRows =
-    row 0 (plain (nest 63 unit))
-    ∷ row 5 (plain (nest 64 unit))
-    ∷ []
-
--- 6: 64 and 65 blocks
-abbrev blockRows : List Row
-blockRows =
-    row 0 (plain (switch 64 0 0 []))
-    ∷ row 6 (plain (switch 65 0 0 []))
-    ∷ []
-
--- 6: 64 ranges
-abbrev rangeRows : List Row
-rangeRows =
-    row 0 (plain (switch 1 0 0 (copies 64 (range 0))))
-    ∷ []
-
--- 6: 65 ranges
-abbrev rangesRows : List Row
-rangesRows =
-    row 6 (plain (switch 1 0 0 (copies 65 (range 0))))
-    ∷ []
-
--- 6: 64 and 65 Refs in one case
-abbrev refRows : List Row
-refRows =
-    row 0 (plain (switch 1 1 0 (case (int 1 0) (copies 64 (ref 0)) ∷ [])))
-    ∷ row 6 (plain (switch 1 1 0 (case (int 1 0) (copies 65 (ref 0)) ∷ [])))
-    ∷ []
-
--- 6 goes before 7: 64 equal cases are 7, and 65 are 6
-abbrev caseRows : List Row
-caseRows =
-    row 7 (plain (switch 0 64 0 (copies 64 (case (int 1 0) []))))
-    ∷ row 6 (plain (switch 0 65 0 (copies 65 (case (int 1 0) []))))
-    ∷ []
-
-shortRows-agree : agrees shortRows ≡ true
-unfolding agrees word allBelow same isEval isFn isCall isCurry rowIn rowOf utf8Rest utf8 field position localText child next textStart textLength text siblings skip limitsOk lengthOk padOk paddingOk sizesOk bound scalar expression caseValue switchChild caseChild childKind withinBounds ownRule fieldsOk childFits childOk tiles selfOk nodeOk rootOk nodesOk shapeOk textOk textsOk namesText exist numberAmong localOk nodeNumbersOk localsOk numbersOk within depthOk isSwitch firstCase refsOk countsOk entriesOk sameValue apart distinct casesOk refusedKind longCurry supported supportedOk treeChecked checked
-shortRows-agree = refl
-
-depthRows-agree : agrees depthRows ≡ true
-unfolding agrees word allBelow same isEval isFn isCall isCurry rowIn rowOf utf8Rest utf8 field position localText child next textStart textLength text siblings skip limitsOk lengthOk padOk paddingOk sizesOk bound scalar expression caseValue switchChild caseChild childKind withinBounds ownRule fieldsOk childFits childOk tiles selfOk nodeOk rootOk nodesOk shapeOk textOk textsOk namesText exist numberAmong localOk nodeNumbersOk localsOk numbersOk within depthOk isSwitch firstCase refsOk countsOk entriesOk sameValue apart distinct casesOk refusedKind longCurry supported supportedOk treeChecked checked
-depthRows-agree = refl
-
-blockRows-agree : agrees blockRows ≡ true
-unfolding agrees word allBelow same isEval isFn isCall isCurry rowIn rowOf utf8Rest utf8 field position localText child next textStart textLength text siblings skip limitsOk lengthOk padOk paddingOk sizesOk bound scalar expression caseValue switchChild caseChild childKind withinBounds ownRule fieldsOk childFits childOk tiles selfOk nodeOk rootOk nodesOk shapeOk textOk textsOk namesText exist numberAmong localOk nodeNumbersOk localsOk numbersOk within depthOk isSwitch firstCase refsOk countsOk entriesOk sameValue apart distinct casesOk refusedKind longCurry supported supportedOk treeChecked checked
-blockRows-agree = refl
-
-rangeRows-agree : agrees rangeRows ≡ true
-unfolding agrees word allBelow same isEval isFn isCall isCurry rowIn rowOf utf8Rest utf8 field position localText child next textStart textLength text siblings skip limitsOk lengthOk padOk paddingOk sizesOk bound scalar expression caseValue switchChild caseChild childKind withinBounds ownRule fieldsOk childFits childOk tiles selfOk nodeOk rootOk nodesOk shapeOk textOk textsOk namesText exist numberAmong localOk nodeNumbersOk localsOk numbersOk within depthOk isSwitch firstCase refsOk countsOk entriesOk sameValue apart distinct casesOk refusedKind longCurry supported supportedOk treeChecked checked
-rangeRows-agree = refl
-
-rangesRows-agree : agrees rangesRows ≡ true
-unfolding agrees word allBelow same isEval isFn isCall isCurry rowIn rowOf utf8Rest utf8 field position localText child next textStart textLength text siblings skip limitsOk lengthOk padOk paddingOk sizesOk bound scalar expression caseValue switchChild caseChild childKind withinBounds ownRule fieldsOk childFits childOk tiles selfOk nodeOk rootOk nodesOk shapeOk textOk textsOk namesText exist numberAmong localOk nodeNumbersOk localsOk numbersOk within depthOk isSwitch firstCase refsOk countsOk entriesOk sameValue apart distinct casesOk refusedKind longCurry supported supportedOk treeChecked checked
-rangesRows-agree = refl
-
-refRows-agree : agrees refRows ≡ true
-unfolding agrees word allBelow same isEval isFn isCall isCurry rowIn rowOf utf8Rest utf8 field position localText child next textStart textLength text siblings skip limitsOk lengthOk padOk paddingOk sizesOk bound scalar expression caseValue switchChild caseChild childKind withinBounds ownRule fieldsOk childFits childOk tiles selfOk nodeOk rootOk nodesOk shapeOk textOk textsOk namesText exist numberAmong localOk nodeNumbersOk localsOk numbersOk within depthOk isSwitch firstCase refsOk countsOk entriesOk sameValue apart distinct casesOk refusedKind longCurry supported supportedOk treeChecked checked
-refRows-agree = refl
-
-caseRows-agree : agrees caseRows ≡ true
-unfolding agrees word allBelow same isEval isFn isCall isCurry rowIn rowOf utf8Rest utf8 field position localText child next textStart textLength text siblings skip limitsOk lengthOk padOk paddingOk sizesOk bound scalar expression caseValue switchChild caseChild childKind withinBounds ownRule fieldsOk childFits childOk tiles selfOk nodeOk rootOk nodesOk shapeOk textOk textsOk namesText exist numberAmong localOk nodeNumbersOk localsOk numbersOk within depthOk isSwitch firstCase refsOk countsOk entriesOk sameValue apart distinct casesOk refusedKind longCurry supported supportedOk treeChecked checked
-caseRows-agree = refl
-
--- the whole table
-abbrev rows : List Row
-rows = shortRows ++ (depthRows ++ (blockRows ++ (rangeRows ++ (rangesRows ++ (refRows ++ (caseRows))))))
+computed : quickly rows ≡ true
+unfolding quickly quickNumber
+computed = refl
 
 pub rows-agree : agrees rows ≡ true
-rows-agree =
-    agree-both shortRows (depthRows ++ (blockRows ++ (rangeRows ++ (rangesRows ++ (refRows ++ (caseRows)))))) shortRows-agree (agree-both depthRows (blockRows ++ (rangeRows ++ (rangesRows ++ (refRows ++ (caseRows))))) depthRows-agree (agree-both blockRows (rangeRows ++ (rangesRows ++ (refRows ++ (caseRows)))) blockRows-agree (agree-both rangeRows (rangesRows ++ (refRows ++ (caseRows))) rangeRows-agree (agree-both rangesRows (refRows ++ (caseRows)) rangesRows-agree (agree-both refRows (caseRows) refRows-agree (caseRows-agree))))))
+rows-agree = sym (quickly-is rows) ∙ computed

@@ -1,0 +1,4 @@
+pub mod Parts
+pub mod PartsLaws
+pub mod Quick
+pub mod QuickLaws
