@@ -1,5 +1,6 @@
 pub mod Agree
 pub mod Chosen
+pub mod Right
 pub mod Table1
 pub mod Table2
 pub mod Table3
@@ -12,5 +13,7 @@ pub mod Table9
 pub mod Table10
 pub mod Table11
 pub mod Table12
+pub mod Ranges
+pub mod Stairs
 pub mod Refused10
 pub mod Refused11

@@ -5,6 +5,7 @@ use mathlib.Core.Bool.{true}
 use mathlib.Core.List.{List, [], _∷_}
 use Rattle.agreement.specs.Agree.{Row, row, allAgree}
 use Rattle.agreement.specs.Chosen.{allDemands}
+use Rattle.agreement.specs.Right.{allRight, right-agrees, right-demands}
 
 unfoldable pub table : List Row
 table =
@@ -80,10 +81,12 @@ table =
     ∷ row 68 0x010000000200000006000000000000000d00000001000000000000000000000001000000000000005d2a5e7d000000000100000001000000050000007963757272790000 39 4128 0 19 0x00000001_00000000_00000001_00000000_00000000_00000000_00000000_00000000_00000000_00000000_00000001_00000001_0000000c_00000000_00000100_00000000_7d5e2a5d_00000000_00000001
     ∷ []
 
+computed : allRight table ≡ true
+unfolding table allRight
+computed = refl
+
 pub agreed : allAgree table ≡ true
-unfolding table allAgree
-agreed = refl
+agreed = right-agrees table computed
 
 pub demanded : allDemands table ≡ true
-unfolding table allDemands
-demanded = refl
+demanded = right-demands table computed

@@ -5,6 +5,7 @@ use mathlib.Core.Bool.{true}
 use mathlib.Core.List.{List, [], _∷_}
 use Rattle.agreement.specs.Agree.{Row, row, allAgree}
 use Rattle.agreement.specs.Chosen.{allDemands}
+use Rattle.agreement.specs.Right.{allRight, right-agrees, right-demands}
 
 unfoldable pub table : List Row
 table =
@@ -80,10 +81,12 @@ table =
     ∷ row 88 0x01000000030000000900000002000000090000000100000000000000000000000000000000000000020001000000000005000000090000000500000004000000000000007072696e746576616c0000000200000002000000 39 4128 0 19 0x00000001_00000000_00000001_00000000_00000000_00000000_00000000_00000000_00000000_00000000_00000001_00000001_00000005_00000000_00000000_00000000_00010002_00000000_00000000
     ∷ []
 
+computed : allRight table ≡ true
+unfolding table allRight
+computed = refl
+
 pub agreed : allAgree table ≡ true
-unfolding table allAgree
-agreed = refl
+agreed = right-agrees table computed
 
 pub demanded : allDemands table ≡ true
-unfolding table allDemands
-demanded = refl
+demanded = right-demands table computed

@@ -5,6 +5,7 @@ use mathlib.Core.Bool.{true}
 use mathlib.Core.List.{List, [], _∷_}
 use Rattle.agreement.specs.Agree.{Row, row, allAgree}
 use Rattle.agreement.specs.Chosen.{allDemands}
+use Rattle.agreement.specs.Right.{allRight, right-agrees, right-demands}
 
 unfoldable pub table : List Row
 table =
@@ -70,10 +71,12 @@ table =
     ∷ row 64 0x01000000020000000000000001000000080000000100000000000000000000000000000000000000010001000000000000000000000000000000000000000000 52 4128 0 17 0x00000001_00000000_00000000_00000000_00000000_00000000_00000000_00000000_00000000_00000000_00000001_00000001_00000015_00000000_00000000_00000000_00010001
     ∷ []
 
+computed : allRight table ≡ true
+unfolding table allRight
+computed = refl
+
 pub agreed : allAgree table ≡ true
-unfolding table allAgree
-agreed = refl
+agreed = right-agrees table computed
 
 pub demanded : allDemands table ≡ true
-unfolding table allDemands
-demanded = refl
+demanded = right-demands table computed
