@@ -14,6 +14,6 @@ pub mod Table10
 pub mod Table11
 pub mod Table12
 pub mod Ranges
-pub mod Stairs
+pub mod Edge
 pub mod Refused10
 pub mod Refused11
