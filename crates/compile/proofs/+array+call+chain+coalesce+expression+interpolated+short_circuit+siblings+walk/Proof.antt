@@ -230,11 +230,11 @@ array-emit-requires t c κs = search needs
 
 -- src/lib.rt:80:9
 array-same-length : (t : ℕ) → array-lts.Need-same-length (array-claims t) (array-at t) array.Post
-array-same-length t c = search needs
+array-same-length t c = c .before .before .emit .kept .1 .0 ∙ c .before .before .before .before .before .before .before .siblings .kept .1 .1 .1 .0
 
 -- src/lib.rt:80:9
 array-returns : (t : ℕ) → array-lts.Need-returns (array-claims t) (array-at t) array.Post
-array-returns t c = λ C v. array-does _ _ _ _ _ C v (c .before .before .before .before .before .before .before .before .before .before .before .count .ensures) (omega arith) (c .before .before .before .before .before .before .before .before .child .ensures) (c .before .before .before .position .ensures) (c .before .before .before .before .before .before .before .siblings .ensures) (c .before .before .emit .ensures _ tt)
+array-returns t c = λ C v. array-does _ _ _ _ _ C v (c .before .before .before .before .before .before .before .before .before .before .before .count .ensures) (c .before .before .before .before .before .before .before .before .before .before .if1 .taken) (c .before .before .before .before .before .before .before .before .child .ensures) (c .before .before .before .position .ensures) (c .before .before .before .before .before .before .before .siblings .ensures) (c .before .before .emit .ensures _ tt)
 
 -- src/lib.rt:82:5
 array-residual-requires : (t : ℕ) → array-lts.Need-residual-requires (array-claims t) (array-at t) array.Post
@@ -242,11 +242,11 @@ array-residual-requires t c κs = search needs
 
 -- src/lib.rt:74:1
 array-same-length-2 : (t : ℕ) → array-lts.Need-same-length-2 (array-claims t) (array-at t) array.Post
-array-same-length-2 t c = search needs
+array-same-length-2 t c = c .before .before .residual .kept .1 .0
 
 -- src/lib.rt:74:1
 array-returns-2 : (t : ℕ) → array-lts.Need-returns-2 (array-claims t) (array-at t) array.Post
-array-returns-2 t c = λ C v. array-kept _ _ _ (c .before .before .before .before .before .count .ensures) (omega arith) (c .before .before .residual .ensures _)
+array-returns-2 t c = λ C v. array-kept _ _ _ (c .before .before .before .before .before .count .ensures) (c .before .before .before .before .if1 .left) (c .before .before .residual .ensures _)
 
 -- src/lib.rt:121:9
 call-way-of-requires : (t : ℕ) → call-lts.Need-way-of-requires (call-claims t) (call-at t) call.Post
@@ -274,7 +274,7 @@ call-close-requires t c κs = search needs
 
 -- src/lib.rt:118:1
 call-same-length : (t : ℕ) → call-lts.Need-same-length (call-claims t) (call-at t) call.Post
-call-same-length t c = search needs
+call-same-length t c = c .before .before .close .kept .1 .1 .0 ∙ c .before .before .before .before .before .before .siblings .kept .1 .1 .1 .0 ∙ c .before .before .before .before .before .before .before .before .before .before .before .before .«open» .kept .1 .1 .0
 
 -- src/lib.rt:118:1
 call-returns : (t : ℕ) → call-lts.Need-returns (call-claims t) (call-at t) call.Post
@@ -330,7 +330,7 @@ chain-residual-requires t c κs = search needs
 
 -- src/lib.rt:167:9
 chain-same-length-2 : (t : ℕ) → chain-lts.Need-same-length-2 (chain-claims t) (chain-at t) chain.Post
-chain-same-length-2 t c = search needs
+chain-same-length-2 t c = c .before .before .residual .kept .1 .0 ∙ c .before .before .before .before .before .before .before .before .before .walk .kept .1 .1 .1 .0 ∙ c .before .before .before .before .before .before .before .before .before .before .before .before .before .root-name .kept .1 .1 .0
 
 -- src/lib.rt:167:9
 chain-returns-2 : (t : ℕ) → chain-lts.Need-returns-2 (chain-claims t) (chain-at t) chain.Post
@@ -342,7 +342,7 @@ chain-residual-requires-2 t c κs = search needs
 
 -- src/lib.rt:155:1
 chain-same-length-3 : (t : ℕ) → chain-lts.Need-same-length-3 (chain-claims t) (chain-at t) chain.Post
-chain-same-length-3 t c = search needs
+chain-same-length-3 t c = c .before .before .residual2 .kept .1 .0
 
 -- src/lib.rt:155:1
 chain-returns-3 : (t : ℕ) → chain-lts.Need-returns-3 (chain-claims t) (chain-at t) chain.Post
@@ -374,7 +374,7 @@ coalesce-expression-requires t c κs = omega arith
 
 -- src/lib.rt:108:1
 coalesce-same-length : (t : ℕ) → coalesce-lts.Need-same-length (coalesce-claims t) (coalesce-at t) coalesce.Post
-coalesce-same-length t c = search needs
+coalesce-same-length t c = c .before .before .expression .kept .1 .1 .1 .0 ∙ c .before .before .before .before .before .before .before .siblings .kept .1 .1 .1 .0
 
 -- src/lib.rt:108:1
 coalesce-returns : (t : ℕ) → coalesce-lts.Need-returns (coalesce-claims t) (coalesce-at t) coalesce.Post
@@ -386,11 +386,11 @@ expression-residual-requires t c κs = search needs
 
 -- src/lib.rt:177:9
 expression-same-length : (t : ℕ) → expression-lts.Need-same-length (expression-claims t) (expression-at t) expression.Post
-expression-same-length t c = search needs
+expression-same-length t c = c .before .before .residual .kept .1 .0
 
 -- src/lib.rt:177:9
 expression-returns : (t : ℕ) → expression-lts.Need-returns (expression-claims t) (expression-at t) expression.Post
-expression-returns t c = λ C v. arm-none _ _ (omega arith) (c .before .before .residual .ensures _)
+expression-returns t c = λ C v. arm-none _ _ (c .before .before .before .before .if1 .taken) (c .before .before .residual .ensures _)
 
 -- src/lib.rt:179:9
 expression-rule-requires : (t : ℕ) → expression-lts.Need-rule-requires (expression-claims t) (expression-at t) expression.Post
@@ -550,7 +550,7 @@ expression-residual-requires-2 t c κs = search needs
 
 -- src/lib.rt:173:1
 expression-same-length-2 : (t : ℕ) → expression-lts.Need-same-length-2 (expression-claims t) (expression-at t) expression.Post
-expression-same-length-2 t c = search needs
+expression-same-length-2 t c = c .before .before .emit .kept .1 .0
 
 -- src/lib.rt:173:1
 expression-returns-2 : (t : ℕ) → expression-lts.Need-returns-2 (expression-claims t) (expression-at t) expression.Post
@@ -558,7 +558,7 @@ expression-returns-2 t c = λ C v. arm-boolean _ _ (c .before .before .before .b
 
 -- src/lib.rt:173:1
 expression-same-length-3 : (t : ℕ) → expression-lts.Need-same-length-3 (expression-claims t) (expression-at t) expression.Post
-expression-same-length-3 t c = search needs
+expression-same-length-3 t c = c .before .before .emit2 .kept .1 .0
 
 -- src/lib.rt:173:1
 expression-returns-3 : (t : ℕ) → expression-lts.Need-returns-3 (expression-claims t) (expression-at t) expression.Post
@@ -566,7 +566,7 @@ expression-returns-3 t c = λ C v. arm-unit _ _ (c .before .before .before .befo
 
 -- src/lib.rt:173:1
 expression-same-length-4 : (t : ℕ) → expression-lts.Need-same-length-4 (expression-claims t) (expression-at t) expression.Post
-expression-same-length-4 t c = search needs
+expression-same-length-4 t c = c .before .before .constant .kept .1 .1 .0
 
 -- src/lib.rt:173:1
 expression-returns-4 : (t : ℕ) → expression-lts.Need-returns-4 (expression-claims t) (expression-at t) expression.Post
@@ -574,7 +574,7 @@ expression-returns-4 t c = λ C v. arm-constant _ _ (c .before .before .before .
 
 -- src/lib.rt:173:1
 expression-same-length-5 : (t : ℕ) → expression-lts.Need-same-length-5 (expression-claims t) (expression-at t) expression.Post
-expression-same-length-5 t c = search needs
+expression-same-length-5 t c = c .before .before .interpolated .kept .1 .1 .1 .0
 
 -- src/lib.rt:173:1
 expression-returns-5 : (t : ℕ) → expression-lts.Need-returns-5 (expression-claims t) (expression-at t) expression.Post
@@ -582,7 +582,7 @@ expression-returns-5 t c = λ C v. arm-interpolated _ _ (c .before .before .befo
 
 -- src/lib.rt:173:1
 expression-same-length-6 : (t : ℕ) → expression-lts.Need-same-length-6 (expression-claims t) (expression-at t) expression.Post
-expression-same-length-6 t c = search needs
+expression-same-length-6 t c = c .before .before .array .kept .1 .1 .1 .0
 
 -- src/lib.rt:173:1
 expression-returns-6 : (t : ℕ) → expression-lts.Need-returns-6 (expression-claims t) (expression-at t) expression.Post
@@ -590,7 +590,7 @@ expression-returns-6 t c = λ C v. arm-array _ _ (c .before .before .before .bef
 
 -- src/lib.rt:173:1
 expression-same-length-7 : (t : ℕ) → expression-lts.Need-same-length-7 (expression-claims t) (expression-at t) expression.Post
-expression-same-length-7 t c = search needs
+expression-same-length-7 t c = c .before .before .variable .kept .1 .1 .0
 
 -- src/lib.rt:173:1
 expression-returns-7 : (t : ℕ) → expression-lts.Need-returns-7 (expression-claims t) (expression-at t) expression.Post
@@ -598,7 +598,7 @@ expression-returns-7 t c = λ C v. arm-variable _ _ (c .before .before .before .
 
 -- src/lib.rt:173:1
 expression-same-length-8 : (t : ℕ) → expression-lts.Need-same-length-8 (expression-claims t) (expression-at t) expression.Post
-expression-same-length-8 t c = search needs
+expression-same-length-8 t c = c .before .before .emit3 .kept .1 .0
 
 -- src/lib.rt:173:1
 expression-returns-8 : (t : ℕ) → expression-lts.Need-returns-8 (expression-claims t) (expression-at t) expression.Post
@@ -606,7 +606,7 @@ expression-returns-8 t c = λ C v. arm-this _ _ (c .before .before .before .befo
 
 -- src/lib.rt:173:1
 expression-same-length-9 : (t : ℕ) → expression-lts.Need-same-length-9 (expression-claims t) (expression-at t) expression.Post
-expression-same-length-9 t c = search needs
+expression-same-length-9 t c = c .before .before .call .kept .1 .1 .1 .0
 
 -- src/lib.rt:173:1
 expression-returns-9 : (t : ℕ) → expression-lts.Need-returns-9 (expression-claims t) (expression-at t) expression.Post
@@ -614,7 +614,7 @@ expression-returns-9 t c = λ C v. arm-call _ _ (c .before .before .before .befo
 
 -- src/lib.rt:173:1
 expression-same-length-10 : (t : ℕ) → expression-lts.Need-same-length-10 (expression-claims t) (expression-at t) expression.Post
-expression-same-length-10 t c = search needs
+expression-same-length-10 t c = c .before .before .chain .kept .1 .1 .1 .0
 
 -- src/lib.rt:173:1
 expression-returns-10 : (t : ℕ) → expression-lts.Need-returns-10 (expression-claims t) (expression-at t) expression.Post
@@ -622,7 +622,7 @@ expression-returns-10 t c = λ C v. arm-chain _ _ (c .before .before .before .be
 
 -- src/lib.rt:173:1
 expression-same-length-11 : (t : ℕ) → expression-lts.Need-same-length-11 (expression-claims t) (expression-at t) expression.Post
-expression-same-length-11 t c = search needs
+expression-same-length-11 t c = c .before .before .short-circuit .kept .1 .1 .1 .0
 
 -- src/lib.rt:173:1
 expression-returns-11 : (t : ℕ) → expression-lts.Need-returns-11 (expression-claims t) (expression-at t) expression.Post
@@ -630,7 +630,7 @@ expression-returns-11 t c = λ C v. arm-and _ _ (c .before .before .before .befo
 
 -- src/lib.rt:173:1
 expression-same-length-12 : (t : ℕ) → expression-lts.Need-same-length-12 (expression-claims t) (expression-at t) expression.Post
-expression-same-length-12 t c = search needs
+expression-same-length-12 t c = c .before .before .short-circuit2 .kept .1 .1 .1 .0
 
 -- src/lib.rt:173:1
 expression-returns-12 : (t : ℕ) → expression-lts.Need-returns-12 (expression-claims t) (expression-at t) expression.Post
@@ -638,7 +638,7 @@ expression-returns-12 t c = λ C v. arm-or _ _ (c .before .before .before .befor
 
 -- src/lib.rt:173:1
 expression-same-length-13 : (t : ℕ) → expression-lts.Need-same-length-13 (expression-claims t) (expression-at t) expression.Post
-expression-same-length-13 t c = search needs
+expression-same-length-13 t c = c .before .before .coalesce .kept .1 .1 .1 .0
 
 -- src/lib.rt:173:1
 expression-returns-13 : (t : ℕ) → expression-lts.Need-returns-13 (expression-claims t) (expression-at t) expression.Post
@@ -646,7 +646,7 @@ expression-returns-13 t c = λ C v. arm-coalesce _ _ (c .before .before .before 
 
 -- src/lib.rt:173:1
 expression-same-length-14 : (t : ℕ) → expression-lts.Need-same-length-14 (expression-claims t) (expression-at t) expression.Post
-expression-same-length-14 t c = search needs
+expression-same-length-14 t c = c .before .before .residual2 .kept .1 .0
 
 -- src/lib.rt:173:1
 expression-returns-14 : (t : ℕ) → expression-lts.Need-returns-14 (expression-claims t) (expression-at t) expression.Post
@@ -674,7 +674,7 @@ interpolated-emit-requires-2 t c κs = search needs
 
 -- src/lib.rt:86:1
 interpolated-same-length : (t : ℕ) → interpolated-lts.Need-same-length (interpolated-claims t) (interpolated-at t) interpolated.Post
-interpolated-same-length t c = search needs
+interpolated-same-length t c = c .before .before .emit2 .kept .1 .0 ∙ c .before .before .before .before .before .before .siblings .kept .1 .1 .1 .0 ∙ c .before .before .before .before .before .before .before .before .before .before .before .before .emit .kept .1 .0
 
 -- src/lib.rt:86:1
 interpolated-returns : (t : ℕ) → interpolated-lts.Need-returns (interpolated-claims t) (interpolated-at t) interpolated.Post
@@ -702,7 +702,7 @@ short-circuit-verdict-requires t c κs = omega arith
 
 -- src/lib.rt:95:1
 short-circuit-same-length : (t : ℕ) → short-circuit-lts.Need-same-length (short-circuit-claims t) (short-circuit-at t) short-circuit.Post
-short-circuit-same-length t c = search needs
+short-circuit-same-length t c = c .before .before .verdict .kept .1 .0 ∙ c .before .before .before .before .before .before .siblings .kept .1 .1 .1 .0
 
 -- src/lib.rt:95:1
 short-circuit-returns : (t : ℕ) → short-circuit-lts.Need-returns (short-circuit-claims t) (short-circuit-at t) short-circuit.Post
@@ -744,15 +744,15 @@ siblings-loop-less t c = omega arith
 
 -- src/lib.rt:64:5
 siblings-loop-again : (t : ℕ) → siblings-lts.Need-loop-again (siblings-claims t) (siblings-at t) siblings.Post siblings-Inv-loop siblings-μ-loop
-siblings-loop-again t c = let w = c .before .before .before .before .before .before .before .before .before .before .before .loop in (omega arith, c .before .before .before .after-one .kept .1 .0 ∙ c .before .before .before .before .before .before .before .before .expression .kept .1 .1 .1 .0 ∙ w .inv .1, skip-more _ _ _ _ _ (w .inv .2) (c .next .ensures), λ C R. rows-more _ _ _ _ _ _ _ (omega arith) (w .inv .2) (c .before .before .before .before .position .ensures) R (w .inv .3 C R) (λ u. c .before .before .before .before .before .before .before .before .expression .ensures C u) (c .before .before .before .after-one .ensures _))
+siblings-loop-again t c = let w = c .before .before .before .before .before .before .before .before .before .before .before .loop in (omega arith, c .before .before .before .after-one .kept .1 .0 ∙ c .before .before .before .before .before .before .before .before .expression .kept .1 .1 .1 .0 ∙ w .inv .1, skip-more _ _ _ _ _ (w .inv .2) (c .next .ensures), λ C R. rows-more _ _ _ _ _ _ _ (c .before .before .before .before .before .before .before .before .before .before .loop-test .taken) (w .inv .2) (c .before .before .before .before .position .ensures) R (w .inv .3 C R) (λ u. c .before .before .before .before .before .before .before .before .expression .ensures C u) (c .before .before .before .after-one .ensures _))
 
 -- src/lib.rt:58:1
 siblings-same-length : (t : ℕ) → siblings-lts.Need-same-length (siblings-claims t) (siblings-at t) siblings.Post siblings-Inv-loop siblings-μ-loop
-siblings-same-length t c = search needs
+siblings-same-length t c = c .before .loop .inv .1
 
 -- src/lib.rt:58:1
 siblings-returns : (t : ℕ) → siblings-lts.Need-returns (siblings-claims t) (siblings-at t) siblings.Post siblings-Inv-loop siblings-μ-loop
-siblings-returns t c = let w = c .before .loop in λ C R. rows-done _ _ _ _ _ (w .inv .0) (omega arith) (w .inv .3 C R)
+siblings-returns t c = let w = c .before .loop in λ C R. rows-done _ _ _ _ _ (w .inv .0) (c .loop-test .left) (w .inv .3 C R)
 
 abbrev walk-Inv-loop : walk-lts.InvT-loop
 walk-Inv-loop levels s l x₀ j q₀ left₀ c₀ x q left c = (left ≤ maxDepth) × (length x ≡ length x₀) × (Right s → chain-nodes.Link s j → Walking s l levels x₀ q₀ j x q left c)
@@ -798,7 +798,7 @@ walk-loop-less t c = omega arith
 
 -- src/lib.rt:134:5
 walk-loop-again : (t : ℕ) → walk-lts.Need-loop-again (walk-claims t) (walk-at t) walk.Post walk-Inv-loop walk-μ-loop
-walk-loop-again t c = let w = c .before .before .before .before .before .before .before .before .before .before .before .before .before .before .before .before .loop in (omega arith, c .before .before .before .before .before .step-names .kept .1 .1 .0 ∙ c .before .before .before .before .before .before .before .before .before .siblings .kept .1 .1 .1 .0 ∙ w .inv .1, λ C L. walk-on _ _ _ _ _ _ C (w .inv .2 C L) (sym (c .before .before .before .before .before .before .before .before .before .before .before .before .before .before .link-of .ensures) ∙ c .before .before .before .before .before .before .before .before .before .before .before .before .k .given .1) (c .before .before .before .before .before .before .before .before .before .siblings .ensures) (c .before .before .before .before .before .step-names .ensures) _ (c .rest-of .ensures) (omega arith) (sym (c .before .before .goes-on .ensures) ∙ c .before .if1 .taken))
+walk-loop-again t c = let w = c .before .before .before .before .before .before .before .before .before .before .before .before .before .before .before .before .loop in (omega arith, c .before .before .before .before .before .step-names .kept .1 .1 .0 ∙ c .before .before .before .before .before .before .before .before .before .siblings .kept .1 .1 .1 .0 ∙ w .inv .1, λ C L. walk-on _ _ _ _ _ _ C (w .inv .2 C L) (sym (c .before .before .before .before .before .before .before .before .before .before .before .before .before .before .link-of .ensures) ∙ c .before .before .before .before .before .before .before .before .before .before .before .before .k .given .1) (c .before .before .before .before .before .before .before .before .before .siblings .ensures) (c .before .before .before .before .before .step-names .ensures) _ (c .rest-of .ensures) (c .before .before .before .before .before .before .before .before .before .before .before .before .before .before .before .loop-test .taken) (sym (c .before .before .goes-on .ensures) ∙ c .before .if1 .taken))
 
 -- src/lib.rt:144:21
 walk-same-length : (t : ℕ) → walk-lts.Need-same-length (walk-claims t) (walk-at t) walk.Post walk-Inv-loop walk-μ-loop
@@ -806,7 +806,7 @@ walk-same-length t c = let w = c .before .before .before .before .before .before
 
 -- src/lib.rt:144:21
 walk-returns : (t : ℕ) → walk-lts.Need-returns (walk-claims t) (walk-at t) walk.Post walk-Inv-loop walk-μ-loop
-walk-returns t c = let w = c .before .before .before .before .before .before .before .before .before .before .before .before .before .before .before .loop in λ C L. walk-ends _ _ _ _ _ _ C (w .inv .2 C L) (sym (c .before .before .before .before .before .before .before .before .before .before .before .before .before .link-of .ensures) ∙ c .before .before .before .before .before .before .before .before .before .before .before .k .given .1) (c .before .before .before .before .before .before .before .before .siblings .ensures) (c .before .before .before .before .step-names .ensures) (omega arith) (sym (c .before .goes-on .ensures) ∙ c .if1 .left)
+walk-returns t c = let w = c .before .before .before .before .before .before .before .before .before .before .before .before .before .before .before .loop in λ C L. walk-ends _ _ _ _ _ _ C (w .inv .2 C L) (sym (c .before .before .before .before .before .before .before .before .before .before .before .before .before .link-of .ensures) ∙ c .before .before .before .before .before .before .before .before .before .before .before .k .given .1) (c .before .before .before .before .before .before .before .before .siblings .ensures) (c .before .before .before .before .step-names .ensures) (c .before .before .before .before .before .before .before .before .before .before .before .before .before .before .loop-test .taken) (sym (c .before .goes-on .ensures) ∙ c .if1 .left)
 
 -- src/lib.rt:147:28
 walk-enum-told : (t : ℕ) → walk-lts.Need-enum-told (walk-claims t) (walk-at t) walk.Post walk-Inv-loop walk-μ-loop
@@ -814,11 +814,11 @@ walk-enum-told t c = search needs
 
 -- src/lib.rt:147:28
 walk-same-length-2 : (t : ℕ) → walk-lts.Need-same-length-2 (walk-claims t) (walk-at t) walk.Post walk-Inv-loop walk-μ-loop
-walk-same-length-2 t c = search needs
+walk-same-length-2 t c = c .before .before .before .before .loop .inv .1
 
 -- src/lib.rt:147:28
 walk-returns-2 : (t : ℕ) → walk-lts.Need-returns-2 (walk-claims t) (walk-at t) walk.Post walk-Inv-loop walk-μ-loop
-walk-returns-2 t c = let w = c .before .before .before .before .loop in λ C L. walk-fails _ _ _ _ (w .inv .2 C L) (omega arith) (link-fails _ _ (sym (c .before .before .link-of .ensures) ∙ c .enum-told .given .1))
+walk-returns-2 t c = let w = c .before .before .before .before .loop in λ C L. walk-fails _ _ _ _ (w .inv .2 C L) (c .before .before .before .loop-test .taken) (link-fails _ _ (sym (c .before .before .link-of .ensures) ∙ c .enum-told .given .1))
 
 -- src/lib.rt:148:30
 walk-enum-told-2 : (t : ℕ) → walk-lts.Need-enum-told-2 (walk-claims t) (walk-at t) walk.Post walk-Inv-loop walk-μ-loop
@@ -826,19 +826,19 @@ walk-enum-told-2 t c = search needs
 
 -- src/lib.rt:148:30
 walk-same-length-3 : (t : ℕ) → walk-lts.Need-same-length-3 (walk-claims t) (walk-at t) walk.Post walk-Inv-loop walk-μ-loop
-walk-same-length-3 t c = search needs
+walk-same-length-3 t c = c .before .before .before .before .loop .inv .1
 
 -- src/lib.rt:148:30
 walk-returns-3 : (t : ℕ) → walk-lts.Need-returns-3 (walk-claims t) (walk-at t) walk.Post walk-Inv-loop walk-μ-loop
-walk-returns-3 t c = let w = c .before .before .before .before .loop in λ C L. walk-fails _ _ _ _ (w .inv .2 C L) (omega arith) (link-nowhere _ _ (sym (c .before .before .link-of .ensures) ∙ c .enum-told2 .given .1))
+walk-returns-3 t c = let w = c .before .before .before .before .loop in λ C L. walk-fails _ _ _ _ (w .inv .2 C L) (c .before .before .before .loop-test .taken) (link-nowhere _ _ (sym (c .before .before .link-of .ensures) ∙ c .enum-told2 .given .1))
 
 -- src/lib.rt:128:1
 walk-same-length-4 : (t : ℕ) → walk-lts.Need-same-length-4 (walk-claims t) (walk-at t) walk.Post walk-Inv-loop walk-μ-loop
-walk-same-length-4 t c = search needs
+walk-same-length-4 t c = c .before .loop .inv .1
 
 -- src/lib.rt:128:1
 walk-returns-4 : (t : ℕ) → walk-lts.Need-returns-4 (walk-claims t) (walk-at t) walk.Post walk-Inv-loop walk-μ-loop
-walk-returns-4 t c = let w = c .before .loop in λ C L. walk-done _ _ _ _ (w .inv .2 C L) (omega arith)
+walk-returns-4 t c = let w = c .before .loop in λ C L. walk-done _ _ _ _ (w .inv .2 C L) (c .loop-test .left)
 
 pub +array+call+chain+coalesce+expression+interpolated+short-circuit+siblings+walk-spec :
     {M : Type 1} → statement M
