@@ -30,6 +30,9 @@ use Rattle.dispatch.specs.Parts.{droppedIn, endArm, isAlways, isTried, t
 
 -- ---- an instruction that is counted and has no code
 
+pub dropped-by : {n : ℕ} (st : State) → n ≡ (st .emitted + 1) % 4294967296 → record { code = st .code; consts = st .consts; names = st .names; tokens = st .tokens; residuals = st .residuals; chains = st .chains; emitted = n; depth = st .depth; deepest = st .deepest } ≡ droppedIn st
+dropped-by st e = rw e
+
 pub dropped-holds : {s : List ℕ} {l : Layout} {xs : List ℕ} {st : State} {a : Made} → Fits l (dropped a) → Holds s l xs st a
     → Holds s l xs (droppedIn st) (dropped a)
 unfolding dropped emits

@@ -17,6 +17,10 @@ Inv-loop s l x₀ t fallback drop n at q₀ any₀ i₀ x q any i =
 abbrev μ-loop : tie.MeasureT-loop
 μ-loop s l x₀ t fallback drop n at q₀ any₀ i₀ x q any i = n - i
 
+-- the array's length
+long : (c : tie.Start Inv-loop μ-loop) → length (c .args .ks .at) ≡ 64
+long c = search (needs, c .good .1 .1 .1 .1 .1 .0)
+
 capped-requires : tie.Need-capped-requires Inv-loop μ-loop
 capped-requires c κs = search needs
 
@@ -45,7 +49,7 @@ end-arm-requires : tie.Need-end-arm-requires Inv-loop μ-loop
 end-arm-requires c κs = search needs
 
 same-length : tie.Need-same-length Inv-loop μ-loop
-same-length c = search needs
+same-length c = c .before .before .end-arm .kept .1 .0 ∙ c .before .before .before .before .before .before .before .before .before .before .loop .inv .1
 
 returns : tie.Need-returns Inv-loop μ-loop
 returns c =
@@ -53,13 +57,9 @@ returns c =
     let w = c .before .before .before .before .before .before .before .before .before .before .loop in
     let lt = c .before .before .before .before .before .before .before .before .before .loop-test .taken in
     let a = c .before .before .before .before .before .before .before .before .before .before .before .before .before .before .before .args in
-    let long : length (a .ks .at) ≡ 64 = search (
-      needs,
-      c .before .before .before .before .before .before .before .before .before .before .before .before .before .before .before
-          .good .1 .1 .1 .1 .1 .0,
-    ) in
-    λ C. arm-whole (a .t) (a .fallback) (a .drop) (cap-same (a .ks .at) (n .result) (a .ks .n) 64 long (n .ensures)) (λ N. arm-stop (w .inv .2 C N)
-    _ _ _ _ C N (cap-lt (a .ks .at) (n .result) (a .ks .n) 64 long (n .ensures) _ lt) (cap-at (a .ks .at) (n .result) (a .ks .n) 64 long
+    let wide = long (c .before .before .before .before .before .before .before .before .before .before .before .before .before .before .before) in
+    λ C. arm-whole (a .t) (a .fallback) (a .drop) (cap-same (a .ks .at) (n .result) (a .ks .n) 64 wide (n .ensures)) (λ N. arm-stop (w .inv .2 C N)
+    _ _ _ _ C N (cap-lt (a .ks .at) (n .result) (a .ks .n) 64 wide (n .ensures) _ lt) (cap-at (a .ks .at) (n .result) (a .ks .n) 64 wide
     (n .ensures) (w .i) 0 lt) (c .before .before .before .before .before .before .before .before .guard-of .ensures)
     (c .before .before .before .before .before .before .before .guard-kind .ensures)
     (c .before .before .before .before .before .before .place .ensures) (sym (c .before .before .before .before .before .always .ensures) ∙
@@ -84,15 +84,11 @@ loop-again c =
     let lt = c .before .before .before .before .before .before .before .before .before .before .loop-test .taken in
     let a = c .before .before .before .before .before .before .before .before .before .before .before .before .before .before .before .before .args
     in
-    let long : length (a .ks .at) ≡ 64 = search (
-      needs,
-      c .before .before .before .before .before .before .before .before .before .before .before .before .before .before .before
-          .before .good .1 .1 .1 .1 .1 .0,
-    ) in (
+    let wide = long (c .before .before .before .before .before .before .before .before .before .before .before .before .before .before .before .before) in (
       omega arith,
       c .before .before .before .try-one .kept .1 .1 .0 ∙ w .inv .1,
       λ C N. arm-on (w .inv .2 C N) _ _ _ _ C N (cap-lt (a .ks .at)
-          (n .result) (a .ks .n) 64 long (n .ensures) _ lt) (cap-at (a .ks .at) (n .result) (a .ks .n) 64 long (n .ensures) (w .i) 0 lt)
+          (n .result) (a .ks .n) 64 wide (n .ensures) _ lt) (cap-at (a .ks .at) (n .result) (a .ks .n) 64 wide (n .ensures) (w .i) 0 lt)
           (c .before .before .before .before .before .before .before .before .before .guard-of .ensures)
           (c .before .before .before .before .before .before .before .before .guard-kind .ensures)
           (c .before .before .before .before .before .before .before .place .ensures) _ (c .tried .ensures) (sym
@@ -104,18 +100,15 @@ end-arm-requires-2 : tie.Need-end-arm-requires-2 Inv-loop μ-loop
 end-arm-requires-2 c κs = search needs
 
 same-length-2 : tie.Need-same-length-2 Inv-loop μ-loop
-same-length-2 c = search needs
+same-length-2 c = c .before .before .end-arm2 .kept .1 .0 ∙ c .before .before .before .before .before .loop .inv .1
 
 returns-2 : tie.Need-returns-2 Inv-loop μ-loop
 returns-2 c =
     let n = c .before .before .before .before .before .before .before .capped in
     let a = c .before .before .before .before .before .before .before .before .before .before .args in
-    let long : length (a .ks .at) ≡ 64 = search (
-      needs,
-      c .before .before .before .before .before .before .before .before .before .before .good .1 .1 .1 .1 .1 .0,
-    ) in
-    λ C. arm-whole (a .t) (a .fallback) (a .drop) (cap-same (a .ks .at) (n .result) (a .ks .n) 64 long (n .ensures)) (λ N. arm-end
-    (c .before .before .before .before .before .loop .inv .2 C N) (cap-le (a .ks .at) (n .result) (a .ks .n) 64 long (n .ensures) _ (omega arith))
+    let wide = long (c .before .before .before .before .before .before .before .before .before .before) in
+    λ C. arm-whole (a .t) (a .fallback) (a .drop) (cap-same (a .ks .at) (n .result) (a .ks .n) 64 wide (n .ensures)) (λ N. arm-end
+    (c .before .before .before .before .before .loop .inv .2 C N) (cap-le (a .ks .at) (n .result) (a .ks .n) 64 wide (n .ensures) _ (c .before .before .before .before .loop-test .left))
     (c .before .before .end-arm2 .ensures _))
 
 pub arm-spec : {M : Type 1} → statement M

@@ -20,6 +20,10 @@ Inv-loop s l x₀ t falls n last a q₀ i₀ x q i =
 abbrev μ-loop : tie.MeasureT-loop
 μ-loop s l x₀ t falls n last a q₀ i₀ x q i = n - i
 
+-- the array's length
+long : (c : tie.Start Inv-loop μ-loop) → length (c .args .h .at) ≡ 64
+long c = search (needs, c .good .1 .1 .1 .1 .1 .0)
+
 capped-requires : tie.Need-capped-requires Inv-loop μ-loop
 capped-requires c κs = search needs
 
@@ -56,31 +60,28 @@ loop-again c =
     let w = c .before .before .before .before .before .before .loop in
     let lt = c .before .before .before .before .before .loop-test .taken in
     let a = c .before .before .before .before .before .before .before .before .before .before .before .before .args in
-    let long : length (a .h .at) ≡ 64 = search (
-      needs,
-      c .before .before .before .before .before .before .before .before .before .before .before .before .good .1 .1 .1 .1 .1 .0,
-    ) in (
+    let wide = long (c .before .before .before .before .before .before .before .before .before .before .before .before) in (
       omega arith,
       c .before .before .arm .kept .1 .1 .0 ∙ w .inv .1,
-      λ C N. arms-on (w .inv .2 C N) (map-lt (a .h .at) (n .result) (a .h .n) 64 long
+      λ C N. arms-on (w .inv .2 C N) (map-lt (a .h .at) (n .result) (a .h .n) 64 wide
           (n .ensures) (caseKey (a .s .now)) _ lt) (c .before .before .before .before .case-blocks .ensures .items ∙ map-at (a .h .at) (n .result)
-          (a .h .n) 64 long (n .ensures) (caseKey (a .s .now)) (w .i) 0 [] lt) (drop-same (a .s .now) (keys (caseKey (a .s .now)) (take (n .result)
+          (a .h .n) 64 wide (n .ensures) (caseKey (a .s .now)) (w .i) 0 [] lt) (drop-same (a .s .now) (keys (caseKey (a .s .now)) (take (n .result)
           (a .h .at))) (keys (caseKey (a .s .now)) (take (a .h .n) (a .h .at))) (ap (map (caseKey (a .s .now))) (cap-same (a .h .at) (n .result) (a .h .n)
-          64 long (n .ensures))) (w .i) _ (a .falls) (c .before .before .before .before .before .before .before .before .last-case .ensures)) C N
+          64 wide (n .ensures))) (w .i) _ (a .falls) (c .before .before .before .before .before .before .before .before .last-case .ensures)) C N
           (c .before .before .arm .ensures),
     )
 
 same-length : tie.Need-same-length Inv-loop μ-loop
-same-length c = search needs
+same-length c = c .before .loop .inv .1
 
 returns : tie.Need-returns Inv-loop μ-loop
 returns c =
     let n = c .before .before .before .before .capped in
     let a = c .before .before .before .before .before .before .before .args in
-    let long : length (a .h .at) ≡ 64 = search (needs, c .before .before .before .before .before .before .before .good .1 .1 .1 .1 .1 .0) in
-    λ C. arms-whole (a .t) (a .t .fallback) (a .falls) (ap (map (caseKey (a .s .now))) (cap-same (a .h .at) (n .result) (a .h .n) 64 long
-    (n .ensures))) (λ N. arms-end (c .before .loop .inv .2 C N) (map-le (a .h .at) (n .result) (a .h .n) 64 long (n .ensures) (caseKey (a .s .now))
-    _ (omega arith)))
+    let wide = long (c .before .before .before .before .before .before .before) in
+    λ C. arms-whole (a .t) (a .t .fallback) (a .falls) (ap (map (caseKey (a .s .now))) (cap-same (a .h .at) (n .result) (a .h .n) 64 wide
+    (n .ensures))) (λ N. arms-end (c .before .loop .inv .2 C N) (map-le (a .h .at) (n .result) (a .h .n) 64 wide (n .ensures) (caseKey (a .s .now))
+    _ (c .loop-test .left)))
 
 pub case-arms-spec : {M : Type 1} → statement M
 case-arms-spec =

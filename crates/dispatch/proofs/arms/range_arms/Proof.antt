@@ -24,6 +24,10 @@ Inv-loop s l x₀ t g p n a q₀ i₀ x q i =
 abbrev μ-loop : tie.MeasureT-loop
 μ-loop s l x₀ t g p n a q₀ i₀ x q i = n - i
 
+-- the array's length
+long : (c : tie.Start Inv-loop μ-loop) → length (c .args .h .at) ≡ 255
+long c = search (needs, length-mapped, c .good .1 .1 .1 .1 .1 .1 .1 .0)
+
 capped-runs-requires : tie.Need-capped-runs-requires Inv-loop μ-loop
 capped-runs-requires c κs = search needs
 
@@ -54,34 +58,26 @@ loop-again c =
     let w = c .before .before .before .before .before .before .before .loop in
     let lt = c .before .before .before .before .before .before .loop-test .taken in
     let a = c .before .before .before .before .before .before .before .before .before .before .before .before .args in
-    let long : length (a .h .at) ≡ 255 = search (
-      needs,
-      length-mapped,
-      c .before .before .before .before .before .before .before .before .before .before .before .before .good .1 .1 .1 .1 .1 .1 .1 .0,
-    ) in (
+    let wide = long (c .before .before .before .before .before .before .before .before .before .before .before .before) in (
       omega arith,
       c .before .before .arm .kept .1 .1 .0 ∙ w .inv .1,
       λ C N. arms-on (w .inv .2 C N) (map-lt (a .h .at) (n .result) (a .h .n) 255
-          long (n .ensures) (runKey (rangesIn (a .g .at) (a .g .n)) (held (a .p .at) (a .p .n))) _ lt)
-          (c .before .before .before .before .piece-blocks .ensures .items ∙ map-at (a .h .at) (n .result) (a .h .n) 255 long (n .ensures) (runKey
+          wide (n .ensures) (runKey (rangesIn (a .g .at) (a .g .n)) (held (a .p .at) (a .p .n))) _ lt)
+          (c .before .before .before .before .piece-blocks .ensures .items ∙ map-at (a .h .at) (n .result) (a .h .n) 255 wide (n .ensures) (runKey
           (rangesIn (a .g .at) (a .g .n)) (held (a .p .at) (a .p .n))) (w .i) noRun [] lt) refl C N (c .before .before .arm .ensures),
     )
 
 same-length : tie.Need-same-length Inv-loop μ-loop
-same-length c = search needs
+same-length c = c .before .loop .inv .1
 
 returns : tie.Need-returns Inv-loop μ-loop
 returns c =
     let n = c .before .before .before .capped-runs in
     let a = c .before .before .before .before .before .before .args in
-    let long : length (a .h .at) ≡ 255 = search (
-      needs,
-      length-mapped,
-      c .before .before .before .before .before .before .good .1 .1 .1 .1 .1 .1 .1 .0,
-    ) in
+    let wide = long (c .before .before .before .before .before .before) in
     λ C. arms-whole (a .t) (a .t .default) false (ap (map (runKey (rangesIn (a .g .at) (a .g .n)) (held (a .p .at) (a .p .n)))) (cap-same (a .h .at)
-    (n .result) (a .h .n) 255 long (n .ensures))) (λ N. arms-end (c .before .loop .inv .2 C N) (map-le (a .h .at) (n .result) (a .h .n) 255 long
-    (n .ensures) (runKey (rangesIn (a .g .at) (a .g .n)) (held (a .p .at) (a .p .n))) _ (omega arith)))
+    (n .result) (a .h .n) 255 wide (n .ensures))) (λ N. arms-end (c .before .loop .inv .2 C N) (map-le (a .h .at) (n .result) (a .h .n) 255 wide
+    (n .ensures) (runKey (rangesIn (a .g .at) (a .g .n)) (held (a .p .at) (a .p .n))) _ (c .loop-test .left)))
 
 pub range-arms-spec : {M : Type 1} → statement M
 range-arms-spec =
