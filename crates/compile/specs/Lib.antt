@@ -18,3 +18,4 @@ pub mod WaySays
 pub mod WayLaws
 pub mod StepDoes
 pub mod EndDoes
+pub mod Falls

@@ -1,3 +1,6 @@
+-- Each function does to the scratch what its definition does. The measure: four times the levels, plus the function's rank among its callers.
+use Rattle.compile.specs.Falls.{sibling-falls, last-falls, one-falls, walk-falls, root-falls, arm-falls, chain-falls, some-left}
+use lib.Dec.{lit<}
 use Rattle.compile.specs.EndDoes.{end-right}
 use Rattle.compile.specs.StepDoes.{link-fails, link-nowhere}
 use Rattle.compile.specs.WalkDoes.{walk-starts, walk-done, walk-fails, walk-on, walk-ends}
@@ -218,7 +221,7 @@ array-child-requires t c κs = search needs
 
 -- src/lib.rt:79:13
 array-siblings-requires : (t : ℕ) → array-lts.Need-siblings-requires (array-claims t) (array-at t) array.Post
-array-siblings-requires t c κs = omega arith
+array-siblings-requires t c κs = (sibling-falls _ (c .before .before .before .before .before .before .pre .0), tt)
 
 -- src/lib.rt:80:48
 array-position-requires : (t : ℕ) → array-lts.Need-position-requires (array-claims t) (array-at t) array.Post
@@ -266,7 +269,7 @@ call-first-arg-requires t c κs = search needs
 
 -- src/lib.rt:123:9
 call-siblings-requires : (t : ℕ) → call-lts.Need-siblings-requires (call-claims t) (call-at t) call.Post
-call-siblings-requires t c κs = omega arith
+call-siblings-requires t c κs = (sibling-falls _ (c .before .before .before .before .before .before .before .before .before .before .pre .0), tt)
 
 -- src/lib.rt:124:5
 call-close-requires : (t : ℕ) → call-lts.Need-close-requires (call-claims t) (call-at t) call.Post
@@ -294,7 +297,7 @@ chain-root-name-requires t c κs = search needs
 
 -- src/lib.rt:161:13
 chain-walk-requires : (t : ℕ) → chain-lts.Need-walk-requires (chain-claims t) (chain-at t) chain.Post
-chain-walk-requires t c κs = omega arith
+chain-walk-requires t c κs = (walk-falls _ (c .before .before .before .before .before .before .before .before .before .before .pre .0), tt)
 
 -- src/lib.rt:162:12
 chain-lowers-requires : (t : ℕ) → chain-lts.Need-lowers-requires (chain-claims t) (chain-at t) chain.Post
@@ -306,7 +309,7 @@ chain-temporary-requires t c κs = search needs
 
 -- src/lib.rt:163:17
 chain-siblings-requires : (t : ℕ) → chain-lts.Need-siblings-requires (chain-claims t) (chain-at t) chain.Post
-chain-siblings-requires t c κs = omega arith
+chain-siblings-requires t c κs = (root-falls _ (c .before .before .before .before .before .before .before .before .before .before .before .before .before .before .before .before .before .pre .0), tt)
 
 -- src/lib.rt:164:13
 chain-close-chain-requires : (t : ℕ) → chain-lts.Need-close-chain-requires (chain-claims t) (chain-at t) chain.Post
@@ -362,7 +365,7 @@ coalesce-child-requires t c κs = search needs
 
 -- src/lib.rt:113:9
 coalesce-siblings-requires : (t : ℕ) → coalesce-lts.Need-siblings-requires (coalesce-claims t) (coalesce-at t) coalesce.Post
-coalesce-siblings-requires t c κs = omega arith
+coalesce-siblings-requires t c κs = (sibling-falls _ (c .before .before .before .before .before .before .pre .0), tt)
 
 -- src/lib.rt:114:36
 coalesce-skip-requires : (t : ℕ) → coalesce-lts.Need-skip-requires (coalesce-claims t) (coalesce-at t) coalesce.Post
@@ -370,7 +373,7 @@ coalesce-skip-requires t c κs = search needs
 
 -- src/lib.rt:114:5
 coalesce-expression-requires : (t : ℕ) → coalesce-lts.Need-expression-requires (coalesce-claims t) (coalesce-at t) coalesce.Post
-coalesce-expression-requires t c κs = omega arith
+coalesce-expression-requires t c κs = (last-falls _ (c .before .before .before .before .before .before .before .before .before .before .before .pre .0), tt)
 
 -- src/lib.rt:108:1
 coalesce-same-length : (t : ℕ) → coalesce-lts.Need-same-length (coalesce-claims t) (coalesce-at t) coalesce.Post
@@ -430,11 +433,11 @@ expression-enum-told-4 t c = search needs
 
 -- src/lib.rt:184:44
 expression-sub-interpolated : (t : ℕ) → expression-lts.Need-sub-interpolated (expression-claims t) (expression-at t) expression.Post
-expression-sub-interpolated t c = omega arith
+expression-sub-interpolated t c = some-left _ (c .before .before .before .if1 .left)
 
 -- src/lib.rt:184:31
 expression-interpolated-requires : (t : ℕ) → expression-lts.Need-interpolated-requires (expression-claims t) (expression-at t) expression.Post
-expression-interpolated-requires t c κs = omega arith
+expression-interpolated-requires t c κs = (arm-falls _ (c .before .before .before .before .if1 .left) (c .before .before .before .before .before .before .before .pre .0), tt)
 
 -- src/lib.rt:185:30
 expression-enum-told-5 : (t : ℕ) → expression-lts.Need-enum-told-5 (expression-claims t) (expression-at t) expression.Post
@@ -442,11 +445,11 @@ expression-enum-told-5 t c = search needs
 
 -- src/lib.rt:185:30
 expression-sub-array : (t : ℕ) → expression-lts.Need-sub-array (expression-claims t) (expression-at t) expression.Post
-expression-sub-array t c = omega arith
+expression-sub-array t c = some-left _ (c .before .before .before .if1 .left)
 
 -- src/lib.rt:185:24
 expression-array-requires : (t : ℕ) → expression-lts.Need-array-requires (expression-claims t) (expression-at t) expression.Post
-expression-array-requires t c κs = omega arith
+expression-array-requires t c κs = (arm-falls _ (c .before .before .before .before .if1 .left) (c .before .before .before .before .before .before .before .pre .0), tt)
 
 -- src/lib.rt:186:42
 expression-enum-told-6 : (t : ℕ) → expression-lts.Need-enum-told-6 (expression-claims t) (expression-at t) expression.Post
@@ -474,11 +477,11 @@ expression-enum-told-8 t c = search needs
 
 -- src/lib.rt:188:30
 expression-sub-call : (t : ℕ) → expression-lts.Need-sub-call (expression-claims t) (expression-at t) expression.Post
-expression-sub-call t c = omega arith
+expression-sub-call t c = some-left _ (c .before .before .before .if1 .left)
 
 -- src/lib.rt:188:25
 expression-call-requires : (t : ℕ) → expression-lts.Need-call-requires (expression-claims t) (expression-at t) expression.Post
-expression-call-requires t c κs = omega arith
+expression-call-requires t c κs = (arm-falls _ (c .before .before .before .before .if1 .left) (c .before .before .before .before .before .before .before .pre .0), tt)
 
 -- src/lib.rt:189:30
 expression-enum-told-9 : (t : ℕ) → expression-lts.Need-enum-told-9 (expression-claims t) (expression-at t) expression.Post
@@ -486,11 +489,11 @@ expression-enum-told-9 t c = search needs
 
 -- src/lib.rt:189:30
 expression-sub-chain : (t : ℕ) → expression-lts.Need-sub-chain (expression-claims t) (expression-at t) expression.Post
-expression-sub-chain t c = omega arith
+expression-sub-chain t c = some-left _ (c .before .before .before .if1 .left)
 
 -- src/lib.rt:189:24
 expression-chain-requires : (t : ℕ) → expression-lts.Need-chain-requires (expression-claims t) (expression-at t) expression.Post
-expression-chain-requires t c κs = omega arith
+expression-chain-requires t c κs = (chain-falls _ (c .before .before .before .before .if1 .left) (c .before .before .before .before .before .before .before .pre .0), tt)
 
 -- src/lib.rt:190:36
 expression-enum-told-10 : (t : ℕ) → expression-lts.Need-enum-told-10 (expression-claims t) (expression-at t) expression.Post
@@ -498,7 +501,7 @@ expression-enum-told-10 t c = search needs
 
 -- src/lib.rt:190:36
 expression-sub-short-circuit : (t : ℕ) → expression-lts.Need-sub-short-circuit (expression-claims t) (expression-at t) expression.Post
-expression-sub-short-circuit t c = omega arith
+expression-sub-short-circuit t c = some-left _ (c .before .before .before .if1 .left)
 
 -- src/lib.rt:190:64
 expression-end-of-requires : (t : ℕ) → expression-lts.Need-end-of-requires (expression-claims t) (expression-at t) expression.Post
@@ -506,7 +509,7 @@ expression-end-of-requires t c κs = search needs
 
 -- src/lib.rt:190:22
 expression-short-circuit-requires : (t : ℕ) → expression-lts.Need-short-circuit-requires (expression-claims t) (expression-at t) expression.Post
-expression-short-circuit-requires t c κs = (omega arith, omega arith)
+expression-short-circuit-requires t c κs = (arm-falls _ (c .before .before .before .before .before .if1 .left) (c .before .before .before .before .before .before .before .before .pre .0), lit< tt)
 
 -- src/lib.rt:191:35
 expression-enum-told-11 : (t : ℕ) → expression-lts.Need-enum-told-11 (expression-claims t) (expression-at t) expression.Post
@@ -514,7 +517,7 @@ expression-enum-told-11 t c = search needs
 
 -- src/lib.rt:191:35
 expression-sub-short-circuit-2 : (t : ℕ) → expression-lts.Need-sub-short-circuit-2 (expression-claims t) (expression-at t) expression.Post
-expression-sub-short-circuit-2 t c = omega arith
+expression-sub-short-circuit-2 t c = some-left _ (c .before .before .before .if1 .left)
 
 -- src/lib.rt:191:63
 expression-end-of-requires-2 : (t : ℕ) → expression-lts.Need-end-of-requires-2 (expression-claims t) (expression-at t) expression.Post
@@ -522,7 +525,7 @@ expression-end-of-requires-2 t c κs = search needs
 
 -- src/lib.rt:191:21
 expression-short-circuit-requires-2 : (t : ℕ) → expression-lts.Need-short-circuit-requires-2 (expression-claims t) (expression-at t) expression.Post
-expression-short-circuit-requires-2 t c κs = (omega arith, omega arith)
+expression-short-circuit-requires-2 t c κs = (arm-falls _ (c .before .before .before .before .before .if1 .left) (c .before .before .before .before .before .before .before .before .pre .0), lit< tt)
 
 -- src/lib.rt:192:36
 expression-enum-told-12 : (t : ℕ) → expression-lts.Need-enum-told-12 (expression-claims t) (expression-at t) expression.Post
@@ -530,7 +533,7 @@ expression-enum-told-12 t c = search needs
 
 -- src/lib.rt:192:36
 expression-sub-coalesce : (t : ℕ) → expression-lts.Need-sub-coalesce (expression-claims t) (expression-at t) expression.Post
-expression-sub-coalesce t c = omega arith
+expression-sub-coalesce t c = some-left _ (c .before .before .before .if1 .left)
 
 -- src/lib.rt:192:61
 expression-end-of-requires-3 : (t : ℕ) → expression-lts.Need-end-of-requires-3 (expression-claims t) (expression-at t) expression.Post
@@ -538,7 +541,7 @@ expression-end-of-requires-3 t c κs = search needs
 
 -- src/lib.rt:192:27
 expression-coalesce-requires : (t : ℕ) → expression-lts.Need-coalesce-requires (expression-claims t) (expression-at t) expression.Post
-expression-coalesce-requires t c κs = omega arith
+expression-coalesce-requires t c κs = (arm-falls _ (c .before .before .before .before .before .if1 .left) (c .before .before .before .before .before .before .before .before .pre .0), tt)
 
 -- src/lib.rt:193:39
 expression-enum-told-13 : (t : ℕ) → expression-lts.Need-enum-told-13 (expression-claims t) (expression-at t) expression.Post
@@ -666,7 +669,7 @@ interpolated-child-requires t c κs = search needs
 
 -- src/lib.rt:90:9
 interpolated-siblings-requires : (t : ℕ) → interpolated-lts.Need-siblings-requires (interpolated-claims t) (interpolated-at t) interpolated.Post
-interpolated-siblings-requires t c κs = omega arith
+interpolated-siblings-requires t c κs = (sibling-falls _ (c .before .before .before .before .before .before .before .before .before .pre .0), tt)
 
 -- src/lib.rt:91:5
 interpolated-emit-requires-2 : (t : ℕ) → interpolated-lts.Need-emit-requires-2 (interpolated-claims t) (interpolated-at t) interpolated.Post
@@ -694,11 +697,11 @@ short-circuit-child-requires t c κs = search needs
 
 -- src/lib.rt:103:9
 short-circuit-siblings-requires : (t : ℕ) → short-circuit-lts.Need-siblings-requires (short-circuit-claims t) (short-circuit-at t) short-circuit.Post
-short-circuit-siblings-requires t c κs = omega arith
+short-circuit-siblings-requires t c κs = (sibling-falls _ (c .before .before .before .before .before .before .pre .0), tt)
 
 -- src/lib.rt:104:5
 short-circuit-verdict-requires : (t : ℕ) → short-circuit-lts.Need-verdict-requires (short-circuit-claims t) (short-circuit-at t) short-circuit.Post
-short-circuit-verdict-requires t c κs = omega arith
+short-circuit-verdict-requires t c κs = c .before .before .before .before .before .before .before .before .before .before .pre .1
 
 -- src/lib.rt:95:1
 short-circuit-same-length : (t : ℕ) → short-circuit-lts.Need-same-length (short-circuit-claims t) (short-circuit-at t) short-circuit.Post
@@ -720,7 +723,7 @@ siblings-loop-holds t c = (omega arith, refl, skip-first _ _, λ C R. rows-start
 
 -- src/lib.rt:65:13
 siblings-expression-requires : (t : ℕ) → siblings-lts.Need-expression-requires (siblings-claims t) (siblings-at t) siblings.Post siblings-Inv-loop siblings-μ-loop
-siblings-expression-requires t c κs = omega arith
+siblings-expression-requires t c κs = (one-falls _ (c .before .before .before .before .before .pre .0), tt)
 
 -- src/lib.rt:66:39
 siblings-position-requires : (t : ℕ) → siblings-lts.Need-position-requires (siblings-claims t) (siblings-at t) siblings.Post siblings-Inv-loop siblings-μ-loop
@@ -774,7 +777,7 @@ walk-enum-known-k t c = search needs
 
 -- src/lib.rt:138:21
 walk-siblings-requires : (t : ℕ) → walk-lts.Need-siblings-requires (walk-claims t) (walk-at t) walk.Post walk-Inv-loop walk-μ-loop
-walk-siblings-requires t c κs = omega arith
+walk-siblings-requires t c κs = (sibling-falls _ (c .before .before .before .before .before .before .before .before .before .pre .0), tt)
 
 -- src/lib.rt:139:17
 walk-step-names-requires : (t : ℕ) → walk-lts.Need-step-names-requires (walk-claims t) (walk-at t) walk.Post walk-Inv-loop walk-μ-loop
