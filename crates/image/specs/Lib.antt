@@ -3,3 +3,4 @@ pub mod Puts
 pub mod Reach
 pub mod RowLengths
 pub mod FrontLaws
+pub mod RoomLaws

@@ -1,71 +1,71 @@
+-- `image::put_consts` meets its contract: a part of the image becomes the section.
+use Rattle.image.specs.RoomLaws.{end-fits, place-fits, inside, from-start, three-fits, rows-length, none-puts}
 use Rattle.image.specs.RowLengths.{const-rows}
 use Rattle.lowering.specs.Image.{section, constWords}
 use Rattle.lowering.specs.Pools.{constOf}
--- `image::put_consts` meets its contract: a part of the image becomes the section.
-use Rattle.image.specs.Puts.{puts-part, puts-none}
+use Rattle.image.specs.Puts.{puts-part}
 use Rattle.store.specs.RegionLaws.{part-is}
 use Rattle.store.specs.Places.{region}
 use Prim.Native.Nat.{ℕ, _*_}
 use mathlib.Core.List.{List, map}
 use mathlib.Core.Path.{refl, ap, _∙_}
-use native.Mathlib.Omega.{arith}
 use borrow.Author.Needs.{needs}
 use Rattle.image.proofs.put_consts.Statement.{statement}
 use Rattle.image.proofs.put_consts.Tie as tie
 
 beyond-requires : tie.Need-beyond-requires
-beyond-requires c κs = search needs
+beyond-requires c κs = tt
 
 returns : tie.Need-returns
-returns c = λ h. absurd (omega (arith, c .before .beyond .ensures .beyond (c .if1 .taken), h))
+returns c = λ h. absurd (inside _ _ _ h (c .before .beyond .ensures .beyond (c .if1 .taken)))
 
 mul-beyond : tie.Need-mul-beyond
-mul-beyond c = search needs
+mul-beyond c = three-fits _ (c .before .before .before .before .before .fits .n)
 
 beyond-requires-2 : tie.Need-beyond-requires-2
-beyond-requires-2 c κs = search needs
+beyond-requires-2 c κs = tt
 
 returns-2 : tie.Need-returns-2
 returns-2 c =
     let a = c .before .before .before .before .before .before .before .args in
-    λ h. puts-none (a .image .now) (a .at) (section constWords (map (constOf (a .s .now)) (region (a .b) (a .n) (a .x .now))))
-    (omega (arith, c .before .beyond2 .ensures .beyond (c .if2 .taken), const-rows (a .s .now) (a .x .now) (a .b) (a .n) h))
+    λ h. none-puts (a .image .now) (a .at) (3 * a .n) (section constWords (map (constOf (a .s .now)) (region (a .b) (a .n) (a .x .now))))
+    (const-rows (a .s .now) (a .x .now) (a .b) (a .n) h) (c .before .beyond2 .ensures .beyond (c .if2 .taken))
 
 add-f : tie.Need-add-f
-add-f c = omega (arith, c .before .before .before .beyond .ensures .within (c .before .before .if1 .left))
+add-f c = end-fits _ _ _ (c .before .before .before .beyond .ensures .within (c .before .before .if1 .left)) (c .before .before .before .before .before .before .before .good .1 .0 .0)
 
 mul-e : tie.Need-mul-e
-mul-e c = search needs
+mul-e c = three-fits _ (c .before .before .before .before .before .before .before .fits .n)
 
 add-e : tie.Need-add-e
-add-e c = omega (arith, c .before .beyond2 .ensures .within (c .if2 .left))
+add-e c = end-fits _ _ _ (c .before .beyond2 .ensures .within (c .if2 .left)) (c .before .before .before .before .before .before .before .good .1 .1 .1 .1 .0 .0)
 
 mul-consts : tie.Need-mul-consts
-mul-consts c = omega (arith, c .before .beyond2 .ensures .within (c .if2 .left))
+mul-consts c = place-fits _ _ _ (c .before .beyond2 .ensures .within (c .if2 .left)) (c .before .before .before .before .before .before .before .good .1 .1 .1 .1 .0 .1)
 
 sub-consts : tie.Need-sub-consts
-sub-consts c = search needs
+sub-consts c = from-start _ _
 
 part-consts-start : tie.Need-part-consts-start
-part-consts-start c = search needs
+part-consts-start c = from-start _ _
 
 part-consts-end : tie.Need-part-consts-end
-part-consts-end c = omega (arith, c .before .beyond2 .ensures .within (c .if2 .left))
+part-consts-end c = c .before .beyond2 .ensures .within (c .if2 .left)
 
 mul-consts-2 : tie.Need-mul-consts-2
-mul-consts-2 c = omega (arith, c .before .before .before .before .beyond .ensures .within (c .before .before .before .if1 .left))
+mul-consts-2 c = place-fits _ _ _ (c .before .before .before .before .beyond .ensures .within (c .before .before .before .if1 .left)) (c .before .before .before .before .before .before .before .before .good .1 .0 .1)
 
 sub-consts-2 : tie.Need-sub-consts-2
-sub-consts-2 c = search needs
+sub-consts-2 c = from-start _ _
 
 part-consts-start-2 : tie.Need-part-consts-start-2
-part-consts-start-2 c = search needs
+part-consts-start-2 c = from-start _ _
 
 part-consts-end-2 : tie.Need-part-consts-end-2
-part-consts-end-2 c = omega (arith, c .before .before .before .before .beyond .ensures .within (c .before .before .before .if1 .left))
+part-consts-end-2 c = c .before .before .before .before .beyond .ensures .within (c .before .before .before .if1 .left)
 
 consts-requires : tie.Need-consts-requires
-consts-requires c κs = search needs
+consts-requires c κs = rows-length _ _ _ _ 3 _ _ (c .before .before .before .beyond2 .ensures .within (c .before .before .if2 .left)) (c .before .before .before .before .before .beyond .ensures .within (c .before .before .before .before .if1 .left)) refl
 
 same-length : tie.Need-same-length
 same-length c = search needs

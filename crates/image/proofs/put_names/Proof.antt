@@ -1,71 +1,71 @@
+-- `image::put_names` meets its contract: a part of the image becomes the section.
+use Rattle.image.specs.RoomLaws.{end-fits, place-fits, inside, from-start, two-fits, rows-length, none-puts}
 use Rattle.image.specs.RowLengths.{name-rows}
 use Rattle.lowering.specs.Image.{section, nameWords}
 use Rattle.keys.specs.Keys.{nameOf}
--- `image::put_names` meets its contract: a part of the image becomes the section.
-use Rattle.image.specs.Puts.{puts-part, puts-none}
+use Rattle.image.specs.Puts.{puts-part}
 use Rattle.store.specs.RegionLaws.{part-is}
 use Rattle.store.specs.Places.{region}
 use Prim.Native.Nat.{ℕ, _*_}
 use mathlib.Core.List.{List, map}
 use mathlib.Core.Path.{refl, ap, _∙_}
-use native.Mathlib.Omega.{arith}
 use borrow.Author.Needs.{needs}
 use Rattle.image.proofs.put_names.Statement.{statement}
 use Rattle.image.proofs.put_names.Tie as tie
 
 beyond-requires : tie.Need-beyond-requires
-beyond-requires c κs = search needs
+beyond-requires c κs = tt
 
 returns : tie.Need-returns
-returns c = λ h. absurd (omega (arith, c .before .beyond .ensures .beyond (c .if1 .taken), h))
+returns c = λ h. absurd (inside _ _ _ h (c .before .beyond .ensures .beyond (c .if1 .taken)))
 
 mul-beyond : tie.Need-mul-beyond
-mul-beyond c = search needs
+mul-beyond c = two-fits _ (c .before .before .before .before .before .fits .n)
 
 beyond-requires-2 : tie.Need-beyond-requires-2
-beyond-requires-2 c κs = search needs
+beyond-requires-2 c κs = tt
 
 returns-2 : tie.Need-returns-2
 returns-2 c =
     let a = c .before .before .before .before .before .before .before .args in
-    λ h. puts-none (a .image .now) (a .at) (section nameWords (map (nameOf (a .s .now)) (region (a .b) (a .n) (a .x .now))))
-    (omega (arith, c .before .beyond2 .ensures .beyond (c .if2 .taken), name-rows (a .s .now) (a .x .now) (a .b) (a .n) h))
+    λ h. none-puts (a .image .now) (a .at) (2 * a .n) (section nameWords (map (nameOf (a .s .now)) (region (a .b) (a .n) (a .x .now))))
+    (name-rows (a .s .now) (a .x .now) (a .b) (a .n) h) (c .before .beyond2 .ensures .beyond (c .if2 .taken))
 
 add-f : tie.Need-add-f
-add-f c = omega (arith, c .before .before .before .beyond .ensures .within (c .before .before .if1 .left))
+add-f c = end-fits _ _ _ (c .before .before .before .beyond .ensures .within (c .before .before .if1 .left)) (c .before .before .before .before .before .before .before .good .1 .0 .0)
 
 mul-e : tie.Need-mul-e
-mul-e c = search needs
+mul-e c = two-fits _ (c .before .before .before .before .before .before .before .fits .n)
 
 add-e : tie.Need-add-e
-add-e c = omega (arith, c .before .beyond2 .ensures .within (c .if2 .left))
+add-e c = end-fits _ _ _ (c .before .beyond2 .ensures .within (c .if2 .left)) (c .before .before .before .before .before .before .before .good .1 .1 .1 .1 .0 .0)
 
 mul-names : tie.Need-mul-names
-mul-names c = omega (arith, c .before .beyond2 .ensures .within (c .if2 .left))
+mul-names c = place-fits _ _ _ (c .before .beyond2 .ensures .within (c .if2 .left)) (c .before .before .before .before .before .before .before .good .1 .1 .1 .1 .0 .1)
 
 sub-names : tie.Need-sub-names
-sub-names c = search needs
+sub-names c = from-start _ _
 
 part-names-start : tie.Need-part-names-start
-part-names-start c = search needs
+part-names-start c = from-start _ _
 
 part-names-end : tie.Need-part-names-end
-part-names-end c = omega (arith, c .before .beyond2 .ensures .within (c .if2 .left))
+part-names-end c = c .before .beyond2 .ensures .within (c .if2 .left)
 
 mul-names-2 : tie.Need-mul-names-2
-mul-names-2 c = omega (arith, c .before .before .before .before .beyond .ensures .within (c .before .before .before .if1 .left))
+mul-names-2 c = place-fits _ _ _ (c .before .before .before .before .beyond .ensures .within (c .before .before .before .if1 .left)) (c .before .before .before .before .before .before .before .before .good .1 .0 .1)
 
 sub-names-2 : tie.Need-sub-names-2
-sub-names-2 c = search needs
+sub-names-2 c = from-start _ _
 
 part-names-start-2 : tie.Need-part-names-start-2
-part-names-start-2 c = search needs
+part-names-start-2 c = from-start _ _
 
 part-names-end-2 : tie.Need-part-names-end-2
-part-names-end-2 c = omega (arith, c .before .before .before .before .beyond .ensures .within (c .before .before .before .if1 .left))
+part-names-end-2 c = c .before .before .before .before .beyond .ensures .within (c .before .before .before .if1 .left)
 
 names-requires : tie.Need-names-requires
-names-requires c κs = search needs
+names-requires c κs = rows-length _ _ _ _ 2 _ _ (c .before .before .before .beyond2 .ensures .within (c .before .before .if2 .left)) (c .before .before .before .before .before .beyond .ensures .within (c .before .before .before .before .if1 .left)) refl
 
 same-length : tie.Need-same-length
 same-length c = search needs

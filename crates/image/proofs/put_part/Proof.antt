@@ -1,60 +1,60 @@
 -- `image::put_part` meets its contract: a part of the image becomes the section.
-use Rattle.image.specs.Puts.{puts-part, puts-none}
+use Rattle.image.specs.RoomLaws.{end-fits, place-fits, inside, from-start, part-length, none-puts}
+use Rattle.image.specs.Puts.{puts-part}
 use Rattle.store.specs.RegionLaws.{part-is, region-length}
 use Rattle.store.specs.Places.{region}
-use mathlib.Core.Path.{refl, _∙_}
-use native.Mathlib.Omega.{arith}
+use mathlib.Core.Path.{refl, sym, _∙_}
 use borrow.Author.Needs.{needs}
 use Rattle.image.proofs.put_part.Statement.{statement}
 use Rattle.image.proofs.put_part.Tie as tie
 
 beyond-requires : tie.Need-beyond-requires
-beyond-requires c κs = search needs
+beyond-requires c κs = tt
 
 returns : tie.Need-returns
-returns c = λ h. absurd (omega (arith, c .before .beyond .ensures .beyond (c .if1 .taken), h))
+returns c = λ h. absurd (inside _ _ _ h (c .before .beyond .ensures .beyond (c .if1 .taken)))
 
 beyond-requires-2 : tie.Need-beyond-requires-2
-beyond-requires-2 c κs = search needs
+beyond-requires-2 c κs = tt
 
 returns-2 : tie.Need-returns-2
 returns-2 c =
     let a = c .before .before .before .before .before .before .args in
-    λ h. puts-none (a .image .now) (a .at) (region (a .b) (a .n) (a .x .now))
-    (omega (arith, c .before .beyond2 .ensures .beyond (c .if2 .taken), region-length (a .b) (a .n) (a .x .now) h))
+    λ h. none-puts (a .image .now) (a .at) (a .n) (region (a .b) (a .n) (a .x .now))
+    (region-length (a .b) (a .n) (a .x .now) h) (c .before .beyond2 .ensures .beyond (c .if2 .taken))
 
 add-f : tie.Need-add-f
-add-f c = omega (arith, c .before .before .before .beyond .ensures .within (c .before .before .if1 .left))
+add-f c = end-fits _ _ _ (c .before .before .before .beyond .ensures .within (c .before .before .if1 .left)) (c .before .before .before .before .before .before .good .0 .0)
 
 add-e : tie.Need-add-e
-add-e c = omega (arith, c .before .beyond2 .ensures .within (c .if2 .left))
+add-e c = end-fits _ _ _ (c .before .beyond2 .ensures .within (c .if2 .left)) (c .before .before .before .before .before .before .good .1 .1 .1 .0 .0)
 
 mul-copy : tie.Need-mul-copy
-mul-copy c = omega (arith, c .before .beyond2 .ensures .within (c .if2 .left))
+mul-copy c = place-fits _ _ _ (c .before .beyond2 .ensures .within (c .if2 .left)) (c .before .before .before .before .before .before .good .1 .1 .1 .0 .1)
 
 sub-copy : tie.Need-sub-copy
-sub-copy c = search needs
+sub-copy c = from-start _ _
 
 part-copy-start : tie.Need-part-copy-start
-part-copy-start c = search needs
+part-copy-start c = from-start _ _
 
 part-copy-end : tie.Need-part-copy-end
-part-copy-end c = omega (arith, c .before .beyond2 .ensures .within (c .if2 .left))
+part-copy-end c = c .before .beyond2 .ensures .within (c .if2 .left)
 
 mul-copy-2 : tie.Need-mul-copy-2
-mul-copy-2 c = omega (arith, c .before .before .before .before .beyond .ensures .within (c .before .before .before .if1 .left))
+mul-copy-2 c = place-fits _ _ _ (c .before .before .before .before .beyond .ensures .within (c .before .before .before .if1 .left)) (c .before .before .before .before .before .before .before .good .0 .1)
 
 sub-copy-2 : tie.Need-sub-copy-2
-sub-copy-2 c = search needs
+sub-copy-2 c = from-start _ _
 
 part-copy-start-2 : tie.Need-part-copy-start-2
-part-copy-start-2 c = search needs
+part-copy-start-2 c = from-start _ _
 
 part-copy-end-2 : tie.Need-part-copy-end-2
-part-copy-end-2 c = omega (arith, c .before .before .before .before .beyond .ensures .within (c .before .before .before .if1 .left))
+part-copy-end-2 c = c .before .before .before .before .beyond .ensures .within (c .before .before .before .if1 .left)
 
 copy-requires : tie.Need-copy-requires
-copy-requires c κs = search needs
+copy-requires c κs = part-length _ _ _ (c .before .before .before .beyond2 .ensures .within (c .before .before .if2 .left)) ∙ sym (part-length _ _ _ (c .before .before .before .before .before .beyond .ensures .within (c .before .before .before .before .if1 .left)))
 
 same-length : tie.Need-same-length
 same-length c = search needs

@@ -1,63 +1,63 @@
+-- `image::put_tokens` meets its contract: a part of the image becomes the section.
+use Rattle.image.specs.RoomLaws.{end-fits, place-fits, inside, from-start, part-length, none-puts}
 use Rattle.image.specs.RowLengths.{token-rows}
 use Rattle.sheet.specs.Node.{fieldC}
--- `image::put_tokens` meets its contract: a part of the image becomes the section.
-use Rattle.image.specs.Puts.{puts-part, puts-none}
+use Rattle.image.specs.Puts.{puts-part}
 use Rattle.store.specs.RegionLaws.{part-is}
 use Rattle.store.specs.Places.{region}
 use mathlib.Core.List.{map}
-use mathlib.Core.Path.{refl, ap, _∙_}
-use native.Mathlib.Omega.{arith}
+use mathlib.Core.Path.{refl, sym, ap, _∙_}
 use borrow.Author.Needs.{needs}
 use Rattle.image.proofs.put_tokens.Statement.{statement}
 use Rattle.image.proofs.put_tokens.Tie as tie
 
 beyond-requires : tie.Need-beyond-requires
-beyond-requires c κs = search needs
+beyond-requires c κs = tt
 
 returns : tie.Need-returns
-returns c = λ h. absurd (omega (arith, c .before .beyond .ensures .beyond (c .if1 .taken), h))
+returns c = λ h. absurd (inside _ _ _ h (c .before .beyond .ensures .beyond (c .if1 .taken)))
 
 beyond-requires-2 : tie.Need-beyond-requires-2
-beyond-requires-2 c κs = search needs
+beyond-requires-2 c κs = tt
 
 returns-2 : tie.Need-returns-2
 returns-2 c =
     let a = c .before .before .before .before .before .before .before .args in
-    λ h. puts-none (a .image .now) (a .at) (map (fieldC (a .s .now)) (region (a .b) (a .n) (a .x .now)))
-    (omega (arith, c .before .beyond2 .ensures .beyond (c .if2 .taken), token-rows (a .s .now) (a .x .now) (a .b) (a .n) h))
+    λ h. none-puts (a .image .now) (a .at) (a .n) (map (fieldC (a .s .now)) (region (a .b) (a .n) (a .x .now)))
+    (token-rows (a .s .now) (a .x .now) (a .b) (a .n) h) (c .before .beyond2 .ensures .beyond (c .if2 .taken))
 
 add-f : tie.Need-add-f
-add-f c = omega (arith, c .before .before .before .beyond .ensures .within (c .before .before .if1 .left))
+add-f c = end-fits _ _ _ (c .before .before .before .beyond .ensures .within (c .before .before .if1 .left)) (c .before .before .before .before .before .before .before .good .1 .0 .0)
 
 add-e : tie.Need-add-e
-add-e c = omega (arith, c .before .beyond2 .ensures .within (c .if2 .left))
+add-e c = end-fits _ _ _ (c .before .beyond2 .ensures .within (c .if2 .left)) (c .before .before .before .before .before .before .before .good .1 .1 .1 .1 .0 .0)
 
 mul-tokens : tie.Need-mul-tokens
-mul-tokens c = omega (arith, c .before .beyond2 .ensures .within (c .if2 .left))
+mul-tokens c = place-fits _ _ _ (c .before .beyond2 .ensures .within (c .if2 .left)) (c .before .before .before .before .before .before .before .good .1 .1 .1 .1 .0 .1)
 
 sub-tokens : tie.Need-sub-tokens
-sub-tokens c = search needs
+sub-tokens c = from-start _ _
 
 part-tokens-start : tie.Need-part-tokens-start
-part-tokens-start c = search needs
+part-tokens-start c = from-start _ _
 
 part-tokens-end : tie.Need-part-tokens-end
-part-tokens-end c = omega (arith, c .before .beyond2 .ensures .within (c .if2 .left))
+part-tokens-end c = c .before .beyond2 .ensures .within (c .if2 .left)
 
 mul-tokens-2 : tie.Need-mul-tokens-2
-mul-tokens-2 c = omega (arith, c .before .before .before .before .beyond .ensures .within (c .before .before .before .if1 .left))
+mul-tokens-2 c = place-fits _ _ _ (c .before .before .before .before .beyond .ensures .within (c .before .before .before .if1 .left)) (c .before .before .before .before .before .before .before .before .good .1 .0 .1)
 
 sub-tokens-2 : tie.Need-sub-tokens-2
-sub-tokens-2 c = search needs
+sub-tokens-2 c = from-start _ _
 
 part-tokens-start-2 : tie.Need-part-tokens-start-2
-part-tokens-start-2 c = search needs
+part-tokens-start-2 c = from-start _ _
 
 part-tokens-end-2 : tie.Need-part-tokens-end-2
-part-tokens-end-2 c = omega (arith, c .before .before .before .before .beyond .ensures .within (c .before .before .before .if1 .left))
+part-tokens-end-2 c = c .before .before .before .before .beyond .ensures .within (c .before .before .before .if1 .left)
 
 tokens-requires : tie.Need-tokens-requires
-tokens-requires c κs = search needs
+tokens-requires c κs = part-length _ _ _ (c .before .before .before .beyond2 .ensures .within (c .before .before .if2 .left)) ∙ sym (part-length _ _ _ (c .before .before .before .before .before .beyond .ensures .within (c .before .before .before .before .if1 .left)))
 
 same-length : tie.Need-same-length
 same-length c = search needs
