@@ -21,6 +21,10 @@ module _ (k n : ℕ) (h : k < n) where
   pub step-fits-64 : n ≤ 64 → Fits w64 (k + 1)
   step-fits-64 l = record { fits = omega arith }
 
+  -- a few more than k
+  pub near-fits : (d : ℕ) → n ≤ 64 → d ≤ 64 → Fits w64 (k + d)
+  near-fits d l z = record { fits = omega arith }
+
 module _ (n m c : ℕ) (e : n ≡ min m c) where
   pub cut-off-at : n ≤ c
   cut-off-at = omega arith

@@ -1,6 +1,7 @@
 -- `sums::body_sum` meets its contract. Invariant: what is passed and what is left make the whole, cut off.
 use Rattle.counting.specs.declared.tallies.Tally.{Tally}
-use Rattle.sums.specs.LoopLaws.{step-on, step-falls, step-below, step-fits-64, cut-off-at, word-fits}
+use lib.Dec.{lit≤}
+use Rattle.sums.specs.LoopLaws.{near-fits, step-on, step-falls, step-below, step-fits-64, cut-off-at, word-fits}
 use Prim.Native.Nat.{_-_, _≤_, ℕ, zero-le, min}
 use mathlib.Core.Path.{_≡_, ap, _∙_}
 use mathlib.Core.List.{List}
@@ -57,7 +58,7 @@ loop-holds c =
     )
 
 add-body : tie.Need-add-body Inv-loop μ-loop
-add-body c = step-fits-64 _ _ (c .loop-test .taken) (c .before .loop .inv .1 .0)
+add-body c = near-fits _ _ (c .loop-test .taken) _ (c .before .loop .inv .1 .0) (lit≤ tt)
 
 array-read-body : tie.Need-array-read-body Inv-loop μ-loop
 array-read-body c = step-below _ _ (c .loop-test .taken) 64 (c .before .loop .inv .1 .0)
