@@ -68,3 +68,11 @@ pub range-words :
     → length (section rangeWords (rowsOf (runRow rs cs at ts) n)) ≡ 6 * n
 range-words rs cs at ts n =
     ranges-length (rowsOf (runRow rs cs at ts) n) ∙ ap (λ (i : ℕ). 6 * i) (rows-count (runRow rs cs at ts) n)
+
+-- a count that is told, against a bound
+module _ (r v m : ℕ) (e : r ≡ v) where
+  pub so-many : r ≤ m → v ≤ m
+  so-many h = omega arith
+
+  pub too-many : m < r → v ≤ m → ⊥
+  too-many h l = omega arith
