@@ -1,5 +1,5 @@
 -- A list that is filled from the front: its first i entries are those of `aim`.
-use Prim.Native.Nat.{ℕ, _+_, _<_}
+use Prim.Native.Nat.{ℕ, _+_, _≤_, _<_}
 use mathlib.Core.Path.{_≡_, refl, sym, ap, _∙_, subst}
 use mathlib.Core.Bool.{Bool, true, false}
 use mathlib.Core.List.{List}
@@ -28,3 +28,7 @@ module _ (aim : ℕ → ℕ) where
 
   pub first-done : (ts : List ℕ) (i m : ℕ) → i ≡ m → First aim ts i → First aim ts m
   first-done ts i m e a = subst (First aim ts) e a
+
+-- all of n are passed
+pub all-passed : (i n v : ℕ) → i ≤ n → n ≤ i → n ≡ v → i ≡ v
+all-passed i n v g h e = omega arith

@@ -1,15 +1,16 @@
-use borrow.Author.Needs.{needs}
 -- Each target as its Case gives it.
-use native.Mathlib.Omega.{arith}
-use Prim.Native.Nat.{_-_, _≤_}
-use mathlib.Core.Path.{_≡_, refl, _∙_}
+use lib.Dec.{lit<}
+use Rattle.sums.specs.LoopLaws.{step-on, step-falls, step-below, step-fits-64, cut-off-at, within-size, word-fits}
+use borrow.Author.Needs.{scaled-fits}
+use Prim.Native.Nat.{_-_, _≤_, zero-le, ℕ, min}
+use mathlib.Core.Path.{_≡_, _∙_, ap}
 use lib.ListN.{take, length, length-set}
 use Rattle.sheet.specs.Walk.{skip}
 use Rattle.switches.specs.Switch.{firstCase}
 use Rattle.tables.specs.Heads.{caseKey, keys}
 use Rattle.compile.specs.CycleDoes.{skip-more}
 use Rattle.to_image.specs.CaseTargets.{Aiming, caseAim, aim-is, first-at}
-use Rattle.to_image.specs.First.{First, first-none, first-more, first-done}
+use Rattle.to_image.specs.First.{First, first-none, first-more, first-done, all-passed}
 use Rattle.to_image.proofs.targets.case_targets.Statement.{statement}
 use Rattle.to_image.proofs.targets.case_targets.Tie as tie
 use Rattle.to_image.proofs.targets.case_targets.Reads as reads
@@ -30,73 +31,78 @@ abbrev μ-loop : tie.MeasureT-loop
 
 -- src/targets.rt:36:21
 field-b-requires : tie.Need-field-b-requires Inv-loop μ-loop
-field-b-requires c κs = search needs
+field-b-requires c κs = tt
 
 -- src/targets.rt:36:21
 cast-at-most : tie.Need-cast-at-most Inv-loop μ-loop
-cast-at-most c = search needs
+cast-at-most c = word-fits _ (c .field-b .ok)
 
 -- src/targets.rt:36:9
 at-most-requires : tie.Need-at-most-requires Inv-loop μ-loop
-at-most-requires c κs = search needs
+at-most-requires c κs = tt
 
 -- src/targets.rt:39:17
 no-targets-requires : tie.Need-no-targets-requires Inv-loop μ-loop
-no-targets-requires c κs = search needs
+no-targets-requires c κs = tt
 
 -- src/targets.rt:40:9
 first-case-requires : tie.Need-first-case-requires Inv-loop μ-loop
-first-case-requires c κs = search needs
+first-case-requires c κs = tt
 
 -- src/targets.rt:42:5
 loop-holds : tie.Need-loop-holds Inv-loop μ-loop
-loop-holds c = (omega arith, omega (arith, c .before .before .before .before .at-most .ensures), c .before .no-targets .ensures, first-at _ _ (c .first-case .ensures), λ A. first-none _ _)
+loop-holds c = (zero-le, cut-off-at _ _ 64 (c .before .before .before .before .at-most .ensures), c .before .no-targets .ensures, first-at _ _ (c .first-case .ensures), λ A. first-none _ _)
 
 -- src/targets.rt:43:68
 case-blocks-requires : tie.Need-case-blocks-requires Inv-loop μ-loop
-case-blocks-requires c κs = search needs
+case-blocks-requires c κs = tt
 
 -- src/targets.rt:43:16
 case-target-requires : tie.Need-case-target-requires Inv-loop μ-loop
-case-target-requires c κs = search needs
+case-target-requires c κs = tt
 
 -- src/targets.rt:43:9
 mul-r : tie.Need-mul-r Inv-loop μ-loop
-mul-r c = search needs
+mul-r c = scaled-fits _ 64 _ (step-below _ _ (c .before .before .loop-test .taken) 64 (c .before .before .before .loop .inv .1)) (lit< tt)
 
 -- src/targets.rt:43:9
 array-write-r : tie.Need-array-write-r Inv-loop μ-loop
-array-write-r c = let w = c .before .before .before .loop in search (needs, w .inv .2)
+array-write-r c = step-below _ _ (c .before .before .loop-test .taken) 64 (c .before .before .before .loop .inv .1)
 
 -- src/targets.rt:44:9
 next-requires : tie.Need-next-requires Inv-loop μ-loop
-next-requires c κs = search needs
+next-requires c κs = tt
 
 -- src/targets.rt:45:9
 add-i : tie.Need-add-i Inv-loop μ-loop
-add-i c = omega arith
+add-i c = step-fits-64 _ _ (c .before .before .before .loop-test .taken) (c .before .before .before .before .loop .inv .1)
 
 -- src/targets.rt:42:5
 loop-less : tie.Need-loop-less Inv-loop μ-loop
-loop-less c = omega arith
+loop-less c = step-falls _ _ (c .before .before .before .loop-test .taken)
 
 -- src/targets.rt:42:5
 loop-again : tie.Need-loop-again Inv-loop μ-loop
 loop-again c =
     let w = c .before .before .before .before .loop in
-    let a = c .before .before .before .before .before .before .before .before .before .before .before .before .args in (
-      omega arith,
+    let a = c .before .before .before .before .before .before .before .before .before .before .before .before .args in
+    let h = c .before .before .before .loop-test .taken in (
+      step-on _ _ h,
       w .inv .1,
       length-set (w .r) (w .i) (c .before .case-target .result) ∙ w .inv .2,
       skip-more _ _ _ _ _ (w .inv .3) (c .next .ensures),
-      λ A. first-more _ _ _ _ (omega (arith, w .inv .2))
+      λ A. first-more _ _ _ _ (step-below _ _ h _ (within-size _ _ _ (w .inv .2) (w .inv .1)))
           (aim-is _ _ _ _ _ _ _ _ (w .inv .3) (c .before .before .case-blocks .ensures .items) (c .before .case-target .ensures (A .rows) (A .bodies) (A .few) (A .room)))
           (w .inv .4 A),
     )
 
 -- src/targets.rt:32:1
 returns : tie.Need-returns Inv-loop μ-loop
-returns c = let w = c .before .loop in λ A. first-done _ _ _ _ (let z = c .before .before .before .before .before .before .at-most .ensures in let y = c .before .before .before .before .before .before .before .field-b .ensures in omega arith) (w .inv .4 A)
+returns c = let w = c .before .loop in λ A. first-done _ _ _ _
+    (all-passed _ _ _ (w .inv .0) (c .loop-test .left)
+    (c .before .before .before .before .before .before .at-most .ensures
+    ∙ ap (λ (x : ℕ). min x 64) (c .before .before .before .before .before .before .before .field-b .ensures)))
+    (w .inv .4 A)
 
 pub case-targets-spec : {M : Type 1} → statement M
 case-targets-spec =
