@@ -1,6 +1,7 @@
 -- Whether the chains of two nodes are equal, by the sheet alone: names by their bytes, everything else by numbers. Operand numbers need no
 -- test: they agree where the steps before do.
 use Prim.Native.Nat.{ℕ}
+use mathlib.Core.Path.{_≡_}
 use mathlib.Core.Bool.{Bool, true, false, _&&_, _||_}
 use mathlib.Core.Option.{Option, none, some}
 use mathlib.Core.List.{List, [], _∷_}
@@ -38,6 +39,10 @@ sameVariable s v w =
 -- the kind of a root: Variable, This, or 0 for any other
 unfoldable pub rootKind : ℕ → ℕ
 rootKind k = elim (eqb k variableKind || eqb k thisKind) [ true ↦ k | false ↦ 0 ]
+
+-- what `local` tells of root v: whether it is a local, where it is a variable
+pub record RootLocal (s : List ℕ) (v : ℕ) (local : Bool) : Type 0 where
+  pub tells : rootKind (kind s v) ≡ variableKind → local ≡ isLocal s v
 
 unfoldable pub sameRootAs : ℕ → List ℕ → ℕ → ℕ → Bool
 sameRootAs k s v w =

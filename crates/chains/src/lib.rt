@@ -10,6 +10,8 @@ ghost use Rattle.rules.specs.Inverse as answers;
 ghost use Rattle.chains.specs.Variable as roots;
 ghost use Rattle.chains.specs.Steps as chains;
 ghost use Rattle.chains.specs.Same as sames;
+ghost use Rattle.chains.specs.Same.{RootLocal};
+ghost use Rattle.sheet.specs.Node as nodes;
 ghost use Rattle.chains.specs.Lowers as lowering;
 use bytecode::Chain;
 use bytecode::Root;
@@ -156,15 +158,15 @@ fn is_local(s: &[u8], v: u32) -> bool
     }
 }
 
-// The variables `v` and `w` are the same root.
-fn same_variable(s: &[u8], v: u32, w: u32) -> bool
-    ensures { λ r. ⌜ r ≡ sames.sameVariable (now (s .entry)) v w ⌝ }
+// The variables `v` and `w` are the same root, where `local` tells whether `v` is a local.
+fn same_variable(s: &[u8], v: u32, w: u32, local: bool) -> bool
+    ensures { λ r. ⌜ (local ≡ sames.isLocal (now (s .entry)) v → r ≡ sames.sameVariable (now (s .entry)) v w) ⌝ }
 {
     if same_text(s, field_a(s, v), field_a(s, w)) {
         if position(s, v) == position(s, w) {
             return true;
         }
-        return is_local(s, v);
+        return local;
     }
     false
 }
@@ -179,16 +181,27 @@ fn root_kind(k: u32) -> u32
     0
 }
 
-// The nodes `v` and `w` are the same root.
-fn same_root(s: &[u8], v: u32, w: u32) -> bool
-    ensures { λ r. ⌜ r ≡ sames.sameRoot (now (s .entry)) v w ⌝ }
+// The root of the chain of node `j` is a variable that is a local. The locals are gone through, so it is asked once for a chain.
+pub fn root_local(s: &[u8], j: u32) -> bool
+    ensures { λ r. ⌜ RootLocal (now (s .entry)) (nodes.child j) r ⌝ }
+{
+    let v = child(j);
+    if root_kind(kind(s, v)) == VARIABLE {
+        return is_local(s, v);
+    }
+    false
+}
+
+// The nodes `v` and `w` are the same root, where `local` tells whether `v` is a local.
+fn same_root(s: &[u8], v: u32, w: u32, local: bool) -> bool
+    ensures { λ r. ⌜ (RootLocal (now (s .entry)) v local → r ≡ sames.sameRoot (now (s .entry)) v w) ⌝ }
 {
     let k = root_kind(kind(s, v));
     if k != root_kind(kind(s, w)) {
         return false;
     }
     if k == VARIABLE {
-        return same_variable(s, v, w);
+        return same_variable(s, v, w, local);
     }
     if k == THIS {
         return position(s, v) == position(s, w);
@@ -196,12 +209,12 @@ fn same_root(s: &[u8], v: u32, w: u32) -> bool
     true
 }
 
-// The chains of nodes `i` and `j` are the same.
-pub fn same_chain(s: &[u8], i: u32, j: u32) -> bool
-    ensures { λ r. ⌜ r ≡ sames.sameNodes (now (s .entry)) i j ⌝ }
+// The chains of nodes `i` and `j` are the same, where `local` tells whether the root of `i` is a local.
+pub fn same_chain(s: &[u8], i: u32, j: u32, local: bool) -> bool
+    ensures { λ r. ⌜ (RootLocal (now (s .entry)) (nodes.child i) local → r ≡ sames.sameNodes (now (s .entry)) i j) ⌝ }
 {
     if same_steps(s, i, j) {
-        return same_root(s, child(i), child(j));
+        return same_root(s, child(i), child(j), local);
     }
     false
 }

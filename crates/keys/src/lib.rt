@@ -11,6 +11,7 @@ ghost use Rattle.lowering.specs.Pools as pools;
 ghost use Rattle.chains.specs.Same as chains;
 ghost use Rattle.keys.specs.Keys.{isMarked, nameOf, marked, isNamed, isString, isNumber, Bases};
 ghost use Rattle.keys.specs.BangLaws.{withBang};
+use chains::root_local;
 use chains::same_chain;
 use rules::calls::stores_token;
 use sheet::bytes_at;
@@ -247,9 +248,10 @@ pub fn find_token(s: &[u8], ks: &[u32], t: u32) -> usize
 pub fn find_chain(s: &[u8], ks: &[u32], j: u32) -> usize
     ensures { λ r. ⌜ r ≡ pools.firstWhere (chains.sameNodes (now (s .entry)) j) (now (ks .entry)) ⌝ }
 {
+    let local = root_local(s, j);
     let mut i = 0;
     while i < ks.len() {
-        if same_chain(s, j, ks[i]) {
+        if same_chain(s, j, ks[i], local) {
             return i;
         }
         i += 1;

@@ -1,6 +1,7 @@
 -- `chains::same_chain` meets its contract: one law for each way.
-use mathlib.Core.Path.{ap₂, sym, _∙_}
-use Rattle.chains.specs.Same.{sameRoot}
+use Prim.Native.Nat.{ℕ}
+use mathlib.Core.Path.{ap₂, sym, _∙_, subst}
+use Rattle.chains.specs.Same.{sameRoot, RootLocal}
 use Rattle.chains.specs.WayLaws.{nodes-root, nodes-apart}
 use borrow.Author.Needs.{needs}
 use Rattle.chains.proofs.same_chain.Statement.{statement}
@@ -19,15 +20,16 @@ same-root-requires : tie.Need-same-root-requires
 same-root-requires c κs = search needs
 
 returns : tie.Need-returns
-returns c =
+returns c told =
     let a = c .before .before .before .before .before .before .args in
     let s = a .s .now in
-    c .same-root .ensures
+    let told-at = subst (λ (v : ℕ). RootLocal s v (a .local)) (sym (c .before .before .child .ensures)) told in
+    c .same-root .ensures told-at
     ∙ ap₂ (sameRoot s) (c .before .before .child .ensures) (c .before .child2 .ensures)
     ∙ sym (nodes-root s (a .i) (a .j) (sym (c .before .before .before .before .same-steps .ensures) ∙ c .before .before .before .if1 .taken))
 
 returns-2 : tie.Need-returns-2
-returns-2 c =
+returns-2 c told =
     let a = c .before .before .before .args in
     let s = a .s .now in
     sym (nodes-apart s (a .i) (a .j) (sym (c .before .same-steps .ensures) ∙ c .if1 .left))

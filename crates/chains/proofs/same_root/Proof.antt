@@ -20,7 +20,7 @@ root-kind-requires-2 : tie.Need-root-kind-requires-2
 root-kind-requires-2 c κs = search needs
 
 returns : tie.Need-returns
-returns c =
+returns c told =
     let a = c .before .before .before .before .before .before .args in
     let s = a .s .now in
     let k = c .before .before .before .root-kind .ensures ∙ ap rootKind (c .before .before .before .before .kind .ensures) in
@@ -31,7 +31,7 @@ same-variable-requires : tie.Need-same-variable-requires
 same-variable-requires c κs = search needs
 
 returns-2 : tie.Need-returns-2
-returns-2 c =
+returns-2 c told =
     let a = c .before .before .before .before .before .before .before .before .args in
     let s = a .s .now in
     let kind-is = c .before .before .before .before .before .before .kind .ensures in
@@ -43,7 +43,7 @@ returns-2 c =
     let same-variable-is = c .same-variable .ensures in
     let k = root-kind-is ∙ ap rootKind kind-is in
     let l = root-kind2-is ∙ ap rootKind kind2-is in
-    same-variable-is
+    same-variable-is (told .tells (sym k ∙ test2))
     ∙ sym (roots-variable s (a .v) (a .w) (sym k ∙ test1 ∙ l) (sym k ∙ test2))
 
 position-requires : tie.Need-position-requires
@@ -53,7 +53,7 @@ position-requires-2 : tie.Need-position-requires-2
 position-requires-2 c κs = search needs
 
 returns-3 : tie.Need-returns-3
-returns-3 c =
+returns-3 c told =
     let a = c .before .before .before .before .before .before .before .before .before .before .args in
     let s = a .s .now in
     let kind-is = c .before .before .before .before .before .before .before .before .kind .ensures in
@@ -70,7 +70,7 @@ returns-3 c =
     ∙ sym (roots-this s (a .v) (a .w) (sym k ∙ test1 ∙ l) (sym k ∙ test3))
 
 returns-4 : tie.Need-returns-4
-returns-4 c =
+returns-4 c told =
     let a = c .before .before .before .before .before .before .before .before .args in
     let s = a .s .now in
     let kind-is = c .before .before .before .before .before .before .kind .ensures in

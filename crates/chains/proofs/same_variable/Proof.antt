@@ -22,7 +22,7 @@ position-requires-2 : tie.Need-position-requires-2
 position-requires-2 c κs = search needs
 
 returns : tie.Need-returns
-returns c =
+returns c told =
     let a = c .before .before .before .before .before .before .before .before .args in
     let s = a .s .now in
     let field-a-is = c .before .before .before .before .before .before .field-a .ensures in
@@ -35,27 +35,22 @@ returns c =
     let t = same-text-is ∙ ap₂ (sameText s) field-a-is field-a2-is in
     sym (variables-here s (a .v) (a .w) (sym t ∙ test1) (sym position-is ∙ test2 ∙ position2-is))
 
-is-local-requires : tie.Need-is-local-requires
-is-local-requires c κs = search needs
-
 returns-2 : tie.Need-returns-2
-returns-2 c =
-    let a = c .before .before .before .before .before .before .before .before .before .args in
+returns-2 c told =
+    let a = c .before .before .before .before .before .before .before .before .args in
     let s = a .s .now in
-    let field-a-is = c .before .before .before .before .before .before .before .field-a .ensures in
-    let field-a2-is = c .before .before .before .before .before .before .field-a2 .ensures in
-    let same-text-is = c .before .before .before .before .before .same-text .ensures in
-    let test1 = c .before .before .before .before .if1 .taken in
-    let position-is = c .before .before .before .position .ensures in
-    let position2-is = c .before .before .position2 .ensures in
-    let test2 = c .before .if2 .left in
-    let is-local-is = c .is-local .ensures in
+    let field-a-is = c .before .before .before .before .before .before .field-a .ensures in
+    let field-a2-is = c .before .before .before .before .before .field-a2 .ensures in
+    let same-text-is = c .before .before .before .before .same-text .ensures in
+    let test1 = c .before .before .before .if1 .taken in
+    let position-is = c .before .before .position .ensures in
+    let position2-is = c .before .position2 .ensures in
+    let test2 = c .if2 .left in
     let t = same-text-is ∙ ap₂ (sameText s) field-a-is field-a2-is in
-    is-local-is
-    ∙ sym (variables-local s (a .v) (a .w) (sym t ∙ test1) (λ e. test2 (position-is ∙ e ∙ sym position2-is)))
+    told ∙ sym (variables-local s (a .v) (a .w) (sym t ∙ test1) (λ e. test2 (position-is ∙ e ∙ sym position2-is)))
 
 returns-3 : tie.Need-returns-3
-returns-3 c =
+returns-3 c told =
     let a = c .before .before .before .before .before .args in
     let s = a .s .now in
     let t = c .before .same-text .ensures ∙ ap₂ (sameText s) (c .before .before .before .field-a .ensures) (c .before .before .field-a2 .ensures) in
@@ -71,6 +66,5 @@ same-variable-spec =
     position-requires
     position-requires-2
     returns
-    is-local-requires
     returns-2
     returns-3)
