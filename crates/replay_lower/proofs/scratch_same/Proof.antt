@@ -1,0 +1,63 @@
+-- `replay_lower::scratch_same` meets its contract. Invariant: the first i words are as they must be.
+use Prim.Native.Nat.{_-_, _≤_}
+use mathlib.Core.Bool.{true}
+use mathlib.Core.Path.{_≡_, sym, _∙_}
+use lib.Dec.{eqb}
+use lib.ListN.{length, getD}
+use native.Mathlib.Omega.{arith}
+use Rattle.words.specs.Count.{allBelow}
+use Rattle.words.specs.CountLaws.{all-none}
+use borrow.Author.Needs.{needs}
+use Rattle.replay_lower.specs.Left.{scratchWord}
+use Rattle.replay_lower.specs.LeftLaws.{same-more, same-fails, same-done}
+use Rattle.replay_lower.proofs.scratch_same.Statement.{statement}
+use Rattle.replay_lower.proofs.scratch_same.Tie as tie
+
+abbrev Inv-loop : tie.InvT-loop
+Inv-loop scratch number i₀ i = (i ≤ length scratch) × (allBelow i (λ i. eqb (getD scratch i 0) (scratchWord number i)) ≡ true)
+
+abbrev μ-loop : tie.MeasureT-loop
+μ-loop scratch number i₀ i = length scratch - i
+
+loop-holds : tie.Need-loop-holds Inv-loop μ-loop
+loop-holds c = (omega arith, all-none (λ i. eqb (getD (c .before .args .scratch .now) i 0) (scratchWord (c .before .args .number) i)))
+
+mul-if1 : tie.Need-mul-if1 Inv-loop μ-loop
+mul-if1 c = search needs
+
+shared-slice-read-if1 : tie.Need-shared-slice-read-if1 Inv-loop μ-loop
+shared-slice-read-if1 c = search needs
+
+scratch-word-requires : tie.Need-scratch-word-requires Inv-loop μ-loop
+scratch-word-requires c κs = search needs
+
+add-i : tie.Need-add-i Inv-loop μ-loop
+add-i c = search needs
+
+loop-less : tie.Need-loop-less Inv-loop μ-loop
+loop-less c = search needs
+
+loop-again : tie.Need-loop-again Inv-loop μ-loop
+loop-again c = (omega arith, same-more (λ i. getD (c .before .before .before .before .before .before .args .scratch .now) i 0) (scratchWord (c .before .before .before .before .before .before .args .number)) (c .before .before .before .before .loop .i) (c .before .before .before .before .loop .inv .1) (c .if1 .taken ∙ c .before .scratch-word .ensures))
+
+returns : tie.Need-returns Inv-loop μ-loop
+returns c = sym (same-fails (λ i. getD (c .before .before .before .before .before .before .args .scratch .now) i 0) (scratchWord (c .before .before .before .before .before .before .args .number)) (length (c .before .before .before .before .before .before .args .scratch .now)) (c .before .before .before .before .loop .i) (c .before .before .before .loop-test .taken) (λ e. c .if1 .left (e ∙ sym (c .before .scratch-word .ensures))))
+
+returns-2 : tie.Need-returns-2 Inv-loop μ-loop
+returns-2 c = same-done (λ i. eqb (getD (c .before .before .before .args .scratch .now) i 0) (scratchWord (c .before .before .before .args .number) i)) (c .before .loop .i) (length (c .before .before .before .args .scratch .now)) (omega arith) (c .before .loop .inv .1)
+
+pub scratch-same-spec : {M : Type 1} → statement M
+scratch-same-spec =
+    tie.close
+    (tie.spec
+    Inv-loop
+    μ-loop
+    loop-holds
+    mul-if1
+    shared-slice-read-if1
+    scratch-word-requires
+    add-i
+    loop-less
+    loop-again
+    returns
+    returns-2)
