@@ -3,6 +3,7 @@
 pub mod count;
 pub mod depth;
 pub mod draft;
+pub mod edges;
 pub mod format;
 pub mod gen;
 pub mod grain;

@@ -38,6 +38,8 @@ oracle selftest [--seed S] [--count N] [--profile P] [SIZE]
     demand 3 by brute force on random sheets, and the answers by other means
 oracle bench [--rounds R] FILE...
     time the sheet check and the lowering, in nanoseconds for each sheet
+oracle edges
+    print what the program `edges` must print
 oracle table --seed S --count N --profile P [SIZE] [--out FILE]
     one line for each sheet: its bytes ; image words ; scratch words ; number ;
     the image's words
@@ -524,6 +526,10 @@ fn main() -> ExitCode {
         "lower" => run_lower(&arguments).map(|()| true),
         "table" => run_table(&arguments).map(|()| true),
         "selftest" => run_selftest(&arguments).map(|()| true),
+        "edges" => {
+            print!("{}", oracle::edges::lines());
+            Ok(true)
+        }
         "bench" => run_bench(&arguments).map(|()| true),
         "compare" => run_compare(&arguments),
         _ => Err(format!("no command {command}; see --help")),

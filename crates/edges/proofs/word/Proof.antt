@@ -1,0 +1,21 @@
+-- `edges::word` meets its contract: past the end the answer is 0.
+use Rattle.words.specs.WordLaws.{byte-past}
+use mathlib.Core.Path.{sym}
+use borrow.Author.Needs.{needs}
+use Rattle.edges.proofs.word.Statement.{statement}
+use Rattle.edges.proofs.word.Tie as tie
+
+mul-result : tie.Need-mul-result
+mul-result c = search needs
+
+shared-slice-read-result : tie.Need-shared-slice-read-result
+shared-slice-read-result c = search needs
+
+returns : tie.Need-returns
+returns c = search needs
+
+returns-2 : tie.Need-returns-2
+returns-2 c = sym (byte-past (c .before .args .words .now) (c .before .args .i) (c .if1 .left))
+
+pub word-spec : {M : Type 1} → statement M
+word-spec = tie.close (tie.spec mul-result shared-slice-read-result returns returns-2)

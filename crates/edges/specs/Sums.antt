@@ -1,0 +1,23 @@
+-- Noise, checksums and needs of the edges.
+use Prim.Native.Nat.{ℕ, _+_, _-_, _*_, _%_}
+use mathlib.Core.List.{List, [], _∷_}
+
+-- word i of a buffer before a lowering
+abbrev pub noise : ℕ → ℕ
+noise i = 2863311530 - i % 65536
+
+-- a checksum with one word more
+abbrev pub mixed : ℕ → ℕ → ℕ
+mixed sum w = (31 * sum + w) % 4294967291
+
+-- with each word of a list in turn
+unfoldable pub mixedAll : ℕ → List ℕ → ℕ
+mixedAll sum [] = sum
+mixedAll sum (w ∷ ws) = mixedAll (mixed sum w) ws
+
+abbrev pub checksum : List ℕ → ℕ
+checksum ws = mixedAll 0 ws
+
+-- the scratch for e instructions and n nodes
+abbrev pub needed : ℕ → ℕ → ℕ
+needed e n = 16 * e + 16 * n + 4096

@@ -1,0 +1,298 @@
+// The edges of document 01: each sheet is made here, lowered into buffers that hold noise, and answered by one line: the number, the word count,
+// a checksum of the image's room and one of the scratch, and for an image its twelve sizes. `oracle edges` prints the same from its own sheets.
+ghost use Prim.Native.Nat.{_-_};
+ghost use lib.ListN.{getD};
+ghost use mathlib.Core.Path.{_≡_};
+ghost use Rattle.edges.specs.Sums as sums;
+
+mod sheets;
+
+use libc::STDOUT_FILENO;
+use to_image::Answer;
+use to_image::lower;
+
+// the names of calls as words: `g`, `call`
+const G: u32 = 103;
+
+const CALL: u32 = 1819042147;
+
+// What stands in word `i` of a buffer before a lowering.
+fn noise(i: usize) -> u32
+    ensures { λ r. ⌜ r ≡ sums.noise i ⌝ }
+{
+    2863311530 - (i % 65536) as u32
+}
+
+fn put_noise(buf: &mut [u32]) {
+    let mut i = 0;
+    while i < buf.len() {
+        buf[i] = noise(i);
+        i += 1;
+    }
+}
+
+// A checksum with one word more.
+fn mixed(sum: u32, word: u32) -> u32
+    ensures { λ r. ⌜ r ≡ sums.mixed sum word ⌝ }
+{
+    ((31 * sum as u64 + word as u64) % 4294967291) as u32
+}
+
+// The checksum of all words.
+fn checksum(words: &[u32]) -> u32
+    ensures { λ r. ⌜ r ≡ sums.checksum (now (words .entry)) ⌝ }
+{
+    let mut sum: u32 = 0;
+    let mut i = 0;
+    while i < words.len() {
+        sum = mixed(sum, words[i]);
+        i += 1;
+    }
+    sum
+}
+
+fn print_number(label: &[u8], number: u64) {
+    io::write_all(STDOUT_FILENO, label);
+    io::print_decimal(STDOUT_FILENO, number);
+}
+
+// Word `i`, 0 past the end.
+fn word(words: &[u32], i: usize) -> u32
+    ensures { λ r. ⌜ r ≡ getD (now (words .entry)) i 0 ⌝ }
+{
+    if i < words.len() { words[i] } else { 0 }
+}
+
+// The twelve sizes of an image.
+fn print_sizes(image: &[u32]) {
+    io::write_all(STDOUT_FILENO, b", sizes");
+    let mut i = 0;
+    while i < 12 {
+        print_number(b" ", word(image, i) as u64);
+        i += 1;
+    }
+}
+
+fn print_answer(label: &[u8], number: u32, count: usize, image: &[u32], scratch: &[u32]) {
+    io::write_all(STDOUT_FILENO, label);
+    print_number(b": number ", number as u64);
+    print_number(b", words ", count as u64);
+    print_number(b", image ", checksum(image) as u64);
+    print_number(b", scratch ", checksum(scratch) as u64);
+    if number == 0 {
+        print_sizes(image);
+    }
+    io::write_all(STDOUT_FILENO, b"\n");
+}
+
+// Lowers `sheet` into buffers that hold noise, and prints the line of the edge. The answer is the word count, 0 under a refusal.
+fn edge(label: &[u8], sheet: &[u8], image: &mut [u32], scratch: &mut [u32]) -> usize {
+    put_noise(image);
+    put_noise(scratch);
+    match lower(sheet, image, scratch) {
+        Answer::Lowered { words } => {
+            print_answer(label, 0, words, &image[..], &scratch[..]);
+            words
+        }
+        Answer::Refused { number } => {
+            print_answer(label, number, 0, &image[..], &scratch[..]);
+            0
+        }
+    }
+}
+
+// The same for the sheet in the first `n` bytes of `s`.
+fn try_one(label: &[u8], s: &[u8], n: usize, image: &mut [u32], scratch: &mut [u32]) -> usize {
+    if n <= s.len() {
+        return edge(label, &s[..n], image, scratch);
+    }
+    0
+}
+
+// The same with an image of `x` words and a scratch of `y` words.
+fn within(
+    label: &[u8],
+    s: &[u8],
+    n: usize,
+    image: &mut [u32],
+    x: usize,
+    scratch: &mut [u32],
+    y: usize,
+) {
+    if x <= image.len() {
+        if y <= scratch.len() {
+            try_one(label, s, n, &mut image[..x], &mut scratch[..y]);
+        }
+    }
+}
+
+// The depth of the tree.
+fn depths(s: &mut [u8], image: &mut [u32], scratch: &mut [u32]) {
+    let a = sheets::size(sheets::deep(s, 63), 0);
+    try_one(b"depth 64", &s[..], a, image, scratch);
+    let b = sheets::size(sheets::deep(s, 64), 0);
+    try_one(b"depth 65", &s[..], b, image, scratch);
+}
+
+// Ranges of a switch.
+fn many_ranges(s: &mut [u8], image: &mut [u32], scratch: &mut [u32]) {
+    let a = sheets::size(sheets::ranges(s, 64), 0);
+    try_one(b"ranges 64", &s[..], a, image, scratch);
+    let b = sheets::size(sheets::ranges(s, 65), 0);
+    try_one(b"ranges 65", &s[..], b, image, scratch);
+}
+
+// Instructions emitted. With 262,143 of them the scratch here is too short, so that 11 is the answer, and with one more it is 10.
+fn emitted(s: &mut [u8], image: &mut [u32], scratch: &mut [u32]) {
+    let a = sheets::size(sheets::coalesce(s, 3, 65534), 0);
+    try_one(b"emitted 262143", &s[..], a, image, scratch);
+    let b = sheets::size(sheets::coalesce(s, 2, 65535), 0);
+    try_one(b"emitted 262144", &s[..], b, image, scratch);
+}
+
+// Arguments of a call.
+fn arguments(s: &mut [u8], image: &mut [u32], scratch: &mut [u32]) {
+    let a = sheets::size(sheets::call(s, 1, G, 255), 1);
+    try_one(b"arguments 255", &s[..], a, image, scratch);
+    let b = sheets::size(sheets::call(s, 1, G, 256), 1);
+    try_one(b"arguments 256", &s[..], b, image, scratch);
+}
+
+// Arguments of `call`, the first of which is the function pointer.
+fn call_arguments(s: &mut [u8], image: &mut [u32], scratch: &mut [u32]) {
+    let a = sheets::size(sheets::call(s, 4, CALL, 256), 1);
+    try_one(b"arguments of call 256", &s[..], a, image, scratch);
+    let b = sheets::size(sheets::call(s, 4, CALL, 257), 1);
+    try_one(b"arguments of call 257", &s[..], b, image, scratch);
+}
+
+// Arguments of a method.
+fn method_arguments(s: &mut [u8], image: &mut [u32], scratch: &mut [u32]) {
+    let a = sheets::size(sheets::method(s, 1, G, 255), 1);
+    try_one(b"arguments of a method 255", &s[..], a, image, scratch);
+    let b = sheets::size(sheets::method(s, 1, G, 256), 1);
+    try_one(b"arguments of a method 256", &s[..], b, image, scratch);
+}
+
+// Arguments of the method `call`.
+fn method_call_arguments(s: &mut [u8], image: &mut [u32], scratch: &mut [u32]) {
+    let a = sheets::size(sheets::method(s, 4, CALL, 255), 1);
+    try_one(
+        b"arguments of the method call 255",
+        &s[..],
+        a,
+        image,
+        scratch,
+    );
+    let b = sheets::size(sheets::method(s, 4, CALL, 256), 1);
+    try_one(
+        b"arguments of the method call 256",
+        &s[..],
+        b,
+        image,
+        scratch,
+    );
+}
+
+// Elements of an array. 65,535 emit 131,071 instructions, for which the scratch here is too short: 11. 65,536 are kept as one residual.
+fn elements(s: &mut [u8], image: &mut [u32], scratch: &mut [u32]) {
+    let a = sheets::size(sheets::array(s, 65535), 0);
+    try_one(b"elements 65535", &s[..], a, image, scratch);
+    let b = sheets::size(sheets::array(s, 65536), 0);
+    try_one(b"elements 65536", &s[..], b, image, scratch);
+}
+
+// The scratch that a sheet of so many nodes asks for.
+fn needed(emitted: u32, nodes: u32) -> usize
+    ensures { λ r. ⌜ r ≡ sums.needed emitted nodes ⌝ }
+{
+    16 * emitted as usize + 16 * nodes as usize + 4096
+}
+
+// One less, and 0 for 0.
+fn less(n: usize) -> usize
+    ensures { λ r. ⌜ r ≡ n - 1 ⌝ }
+{
+    if 0 < n { n - 1 } else { 0 }
+}
+
+// Each buffer with one word less.
+fn short(s: &[u8], n: usize, image: &mut [u32], x: usize, scratch: &mut [u32], y: usize) {
+    within(b"image one word short", s, n, image, less(x), scratch, y);
+    within(b"scratch one word short", s, n, image, x, scratch, less(y));
+}
+
+// An image that is exactly full with a scratch that is exactly enough; then each with one word less.
+fn exact(s: &[u8], n: usize, image: &mut [u32], x: usize, scratch: &mut [u32], y: usize) {
+    within(
+        b"image exactly full, scratch exactly enough",
+        s,
+        n,
+        image,
+        x,
+        scratch,
+        y,
+    );
+    short(s, n, image, x, scratch, y);
+}
+
+// The buffers that a sheet asks for: word 10 is what was emitted, where that is not capped.
+fn rooms(s: &mut [u8], image: &mut [u32], scratch: &mut [u32]) {
+    let nodes = sheets::ranges(s, 20);
+    let n = sheets::size(nodes, 0);
+    let x = try_one(b"ranges 20", &s[..], n, image, scratch);
+    let y = needed(word(&image[..], 10), nodes);
+    exact(&s[..], n, image, x, scratch, y);
+}
+
+// The edges of trees.
+fn trees(s: &mut [u8], image: &mut [u32], scratch: &mut [u32]) {
+    depths(s, image, scratch);
+    many_ranges(s, image, scratch);
+}
+
+// The edges of counts.
+fn counts(s: &mut [u8], image: &mut [u32], scratch: &mut [u32]) {
+    emitted(s, image, scratch);
+    elements(s, image, scratch);
+}
+
+// The edges of functions.
+fn functions(s: &mut [u8], image: &mut [u32], scratch: &mut [u32]) {
+    arguments(s, image, scratch);
+    call_arguments(s, image, scratch);
+}
+
+// The edges of methods.
+fn methods(s: &mut [u8], image: &mut [u32], scratch: &mut [u32]) {
+    method_arguments(s, image, scratch);
+    method_call_arguments(s, image, scratch);
+}
+
+fn first_half(s: &mut [u8], image: &mut [u32], scratch: &mut [u32]) {
+    trees(s, image, scratch);
+    counts(s, image, scratch);
+}
+
+fn second_half(s: &mut [u8], image: &mut [u32], scratch: &mut [u32]) {
+    functions(s, image, scratch);
+    methods(s, image, scratch);
+}
+
+fn all(s: &mut [u8], image: &mut [u32], scratch: &mut [u32]) {
+    first_half(s, image, scratch);
+    second_half(s, image, scratch);
+    rooms(s, image, scratch);
+}
+
+// The same with room for the longest sheet, of 65,538 nodes, and for the scratch that 65,537 nodes and one instruction ask for.
+fn run(sheet: &mut [u8; 1835080], image: &mut [u32; 32768], scratch: &mut [u32; 1052704]) {
+    all(sheet, image, scratch);
+}
+
+fn main() {
+    let mut sheet = [0u8; 1835080];
+    let mut image = [0u32; 32768];
+    let mut scratch = [0u32; 1052704];
+    run(&mut sheet, &mut image, &mut scratch);
+}
