@@ -1,0 +1,73 @@
+/* The proved library, target/staticlib/libapi.a: the check of a sheet, and its lowering into an image.
+ *
+ * The formats of sheet and image, word by word, are in docs/FORMAT.md. What the comments here say of answers and buffers is proved of the functions
+ * for every sheet and every buffer (docs/PROOFS.md); the caller's duties are these:
+ *
+ *  - each pointer is not null, is aligned for its type, and points to as many elements as the length beside it says, also where that length is 0;
+ *  - `image`, `scratch` and `words` are writable, and no two of the four areas overlap;
+ *  - nothing else writes to any of them, or reads `image`, `scratch` or `words`, until the call returns.
+ *
+ * There is no other duty: any bytes are taken as a sheet. The functions use no heap and no global variable, make no system call, keep nothing between
+ * calls and always return, so they may run in several threads at once, each with its own buffers, and again from an interrupted call. Of the C library
+ * they need memcpy and memset alone. The compiled code uses SSE registers to move data.
+ */
+#ifndef SHEET_LOWER_H
+#define SHEET_LOWER_H
+
+#include <stddef.h>
+#include <stdint.h>
+
+#ifdef __cplusplus
+extern "C" {
+#endif
+
+/* What sheet_lower answers. Where several causes hold, the lowest number is the answer. */
+enum sheet_number {
+    SHEET_LOWERED = 0,
+    SHEET_SIZE = 1,           /* length, padding or a size is wrong */
+    SHEET_SHAPE = 2,          /* a node's kind, shape or field is wrong */
+    SHEET_TEXT = 3,           /* a text lies outside its bytes, or is malformed */
+    SHEET_NUMBER = 4,         /* a text number or a block number does not exist */
+    SHEET_DEPTH = 5,          /* the tree is deeper than 64 */
+    SHEET_ARMS = 6,           /* over 64 blocks, cases, ranges, or Refs in one case */
+    SHEET_TWICE = 7,          /* two cases of equal kind and value */
+    SHEET_UNSUPPORTED = 8,    /* kind 23, 24 or 25; FnCall `curry` with over one argument */
+    SHEET_EVAL = 9,           /* lowering reaches an FnCall `eval` */
+    SHEET_EMITTED = 10,       /* over 262,143 instructions emitted, those taken back included */
+    SHEET_SCRATCH_SHORT = 11, /* scratch below 16 words per emitted instruction, plus 16 per node, plus 4,096 */
+    SHEET_IMAGE_LONG = 12     /* the finished image is longer than its buffer */
+};
+
+/* Scratch words for a sheet that emits `emitted` instructions and has `nodes` nodes. */
+#define SHEET_SCRATCH_WORDS(emitted, nodes) (16 * (size_t)(emitted) + 16 * (size_t)(nodes) + 4096)
+
+/* Scratch words that are enough for every sheet: 262,143 instructions emitted, 131,072 nodes. */
+#define SHEET_SCRATCH_MOST SHEET_SCRATCH_WORDS(262143, 131072)
+
+/* Checks the `sheet_len` bytes of `sheet`.
+ *
+ * Returns 0, or the first of the numbers 1 to 8 that fits. Writes nothing. sheet_lower makes the same check by itself.
+ */
+uint32_t sheet_check(const uint8_t *sheet, size_t sheet_len);
+
+/* Lowers the `sheet_len` bytes of `sheet` into `image`, which has `image_len` words, with the help of `scratch`, which has `scratch_len` words.
+ *
+ * Returns 0, or the first of the numbers 1 to 12 that fits. What the buffers held before does not matter.
+ *
+ *   returned   *words              image                                          scratch
+ *   0          image's word count  that many words are written, the rest is kept  all words are 0
+ *   1 to 11    0                   kept                                           kept
+ *   12         0                   kept                                           all words are 0
+ *
+ * *words is always written, and never above `image_len`.
+ */
+uint32_t sheet_lower(const uint8_t *sheet, size_t sheet_len,
+                     uint32_t *image, size_t image_len,
+                     uint32_t *scratch, size_t scratch_len,
+                     uint64_t *words);
+
+#ifdef __cplusplus
+}
+#endif
+
+#endif

@@ -1,0 +1,104 @@
+//! The proved lowering of rule sheets (`include/sheet_lower.h`), as safe functions without dependencies and without a heap.
+//!
+//! What is said of answers and buffers is proved of the library for every sheet and every buffer.
+
+#![no_std]
+
+use core::fmt;
+
+/// The greatest count of instructions that a sheet may emit.
+pub const MAX_EMITTED: usize = 262_143;
+
+/// The greatest count of nodes of a sheet.
+pub const MAX_NODES: usize = 131_072;
+
+/// The scratch that is enough for every sheet, in words.
+pub const SCRATCH_MOST: usize = scratch_words(MAX_EMITTED, MAX_NODES);
+
+/// The scratch for a sheet of so many nodes that emits so many instructions, in words.
+pub const fn scratch_words(emitted: usize, nodes: usize) -> usize {
+    16 * emitted + 16 * nodes + 4_096
+}
+
+mod sys {
+    extern "C" {
+        pub fn sheet_check(sheet: *const u8, sheet_len: usize) -> u32;
+
+        pub fn sheet_lower(
+            sheet: *const u8,
+            sheet_len: usize,
+            image: *mut u32,
+            image_len: usize,
+            scratch: *mut u32,
+            scratch_len: usize,
+            words: *mut u64,
+        ) -> u32;
+    }
+}
+
+/// Why a sheet is turned down: the first of the numbers 1 to 12 that fits.
+#[derive(Clone, Copy, Debug, PartialEq, Eq)]
+pub struct Refused(pub u32);
+
+impl Refused {
+    /// The cause in words.
+    pub fn cause(self) -> &'static str {
+        match self.0 {
+            1 => "length, padding or a size is wrong",
+            2 => "a node's kind, shape or field is wrong",
+            3 => "a text lies outside its bytes, or is malformed",
+            4 => "a text number or a block number does not exist",
+            5 => "the tree is deeper than 64",
+            6 => "over 64 blocks, cases, ranges, or Refs in one case",
+            7 => "two cases of equal kind and value",
+            8 => "a kind that is not supported, or `curry` with over one argument",
+            9 => "lowering reaches an `eval`",
+            10 => "over 262,143 instructions emitted",
+            11 => "the scratch is too short",
+            12 => "the image is longer than its buffer",
+            _ => "unknown",
+        }
+    }
+}
+
+impl fmt::Display for Refused {
+    fn fmt(&self, f: &mut fmt::Formatter<'_>) -> fmt::Result {
+        write!(f, "refused {}", self.0)
+    }
+}
+
+impl core::error::Error for Refused {}
+
+/// Checks a sheet: which of the numbers 1 to 8 turns it down, if any does. `lower` makes the same check by itself.
+pub fn check(sheet: &[u8]) -> Result<(), Refused> {
+    // The pointer and the length are those of a slice, and the function only reads.
+    match unsafe { sys::sheet_check(sheet.as_ptr(), sheet.len()) } {
+        0 => Ok(()),
+        number => Err(Refused(number)),
+    }
+}
+
+/// Lowers a sheet into the front of `image`, and answers that part.
+///
+/// On success the rest of `image` is kept and the scratch is zeroed. Under the numbers 1 to 11 both buffers are kept; under 12 the image is kept
+/// and the scratch is zeroed.
+pub fn lower<'a>(sheet: &[u8], image: &'a mut [u32], scratch: &mut [u32]) -> Result<&'a [u32], Refused> {
+    let mut words = 0u64;
+    // Pointers and lengths are those of three slices and a number, of which the mutable ones overlap nothing, as Rust's references see to.
+    let number = unsafe {
+        sys::sheet_lower(
+            sheet.as_ptr(),
+            sheet.len(),
+            image.as_mut_ptr(),
+            image.len(),
+            scratch.as_mut_ptr(),
+            scratch.len(),
+            &mut words,
+        )
+    };
+    if number == 0 {
+        Ok(&image[..words as usize])
+    } else {
+        Err(Refused(number))
+    }
+}
