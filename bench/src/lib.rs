@@ -1,14 +1,42 @@
 //! The proved library and the sheets that it is timed on.
 
+pub mod clock;
 pub mod workloads;
 
 extern "C" {
-    /// crates/api. It asks nothing of its caller; a slice goes as a pointer and a length.
+    /// crates/api. Both ask nothing of their caller; a slice goes as a pointer and a length.
     fn sheet_check(sheet: *const u8, length: usize) -> u32;
+    fn sheet_lower(
+        sheet: *const u8,
+        length: usize,
+        image: *mut u32,
+        image_length: usize,
+        scratch: *mut u32,
+        scratch_length: usize,
+        words: *mut u64,
+    ) -> u32;
 }
 
 /// The proved check: 0, or which of the numbers 1 to 8 turns the sheet down.
 pub fn check(sheet: &[u8]) -> u32 {
     // The pointer and the length are those of a slice, and the function only reads.
     unsafe { sheet_check(sheet.as_ptr(), sheet.len()) }
+}
+
+/// The proved lowering: 0 or a number from 1 to 12, and the image's word count.
+pub fn lower(sheet: &[u8], image: &mut [u32], scratch: &mut [u32]) -> (u32, u64) {
+    let mut words = u64::MAX;
+    // Pointers and lengths are those of slices; the two that are written to are lent alone.
+    let number = unsafe {
+        sheet_lower(
+            sheet.as_ptr(),
+            sheet.len(),
+            image.as_mut_ptr(),
+            image.len(),
+            scratch.as_mut_ptr(),
+            scratch.len(),
+            &mut words,
+        )
+    };
+    (number, words)
 }

@@ -4,6 +4,7 @@
 //! both must answer alike before anything is timed (5000); only the workloads whose names contain one of NAME. Times are processor
 //! time of the thread, so that other programs on the machine count as little as they can.
 
+use bench::clock::{median, now};
 use bench::workloads::{self, Workload};
 use oracle::gen::{self, Size};
 use std::hint::black_box;
@@ -14,20 +15,6 @@ type Check = fn(&[u8]) -> u32;
 const OURS: Check = bench::check;
 const RUST: Check = oracle::check;
 
-extern "C" {
-    fn clock_gettime(clock: i32, time: *mut [i64; 2]) -> i32;
-}
-
-/// The processor time of this thread in nanoseconds.
-fn now() -> f64 {
-    const THREAD: i32 = 3;
-    let mut time = [0i64; 2];
-    // The C library writes two 64-bit numbers, seconds and nanoseconds.
-    let status = unsafe { clock_gettime(THREAD, &mut time) };
-    assert_eq!(status, 0, "no clock");
-    time[0] as f64 * 1e9 + time[1] as f64
-}
-
 /// Nanoseconds for one call, over `calls` calls.
 fn time(check: Check, sheet: &[u8], calls: u32) -> f64 {
     let start = now();
@@ -35,11 +22,6 @@ fn time(check: Check, sheet: &[u8], calls: u32) -> f64 {
         black_box(check(black_box(sheet)));
     }
     (now() - start) / f64::from(calls)
-}
-
-fn median(times: &mut [f64]) -> f64 {
-    times.sort_by(f64::total_cmp);
-    times[times.len() / 2]
 }
 
 /// Both must answer alike on generated sheets.
