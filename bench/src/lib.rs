@@ -1,6 +1,7 @@
 //! The proved library and the sheets that it is timed on.
 
 pub mod clock;
+pub mod sheets;
 pub mod workloads;
 
 extern "C" {

@@ -1,0 +1,178 @@
+//! Times the proved lowering beside the oracle's Rust on the same sheets, in one process.
+//!
+//! `lower [--seconds S] [NAME...]`: S seconds for each sheet (2); only the sheets whose names contain one of NAME.
+//!
+//! Columns: ours and Rust are whole lowerings, from the sheet's bytes to the image in its buffer, with scratch cleared; alone is the
+//! Rust lowering of a tree that has been read before, without the image. Then ours by passes, in nanoseconds: the check; the count; the
+//! lowering into the scratch, which is cleared behind it; the image's sections.
+
+use bench::clock::{median, now};
+use bench::sheets;
+use oracle::grain::compile::Lowering;
+use oracle::tree::{self, Whole};
+use std::hint::black_box;
+use std::time::{Duration, Instant};
+
+/// A sheet with a name.
+type Named = (String, Vec<u8>);
+
+fn all() -> Vec<Named> {
+    let mut all: Vec<Named> = vec![
+        ("rule".into(), sheets::rule()),
+        ("port".into(), sheets::port()),
+        ("switch".into(), sheets::switch(true)),
+        ("switch with guards".into(), sheets::switch(false)),
+        ("wide calls".into(), sheets::wide()),
+        ("deep chain".into(), sheets::deep_chain()),
+        ("full".into(), sheets::mixed(sheets::NODES)),
+    ];
+    for count in [1_000, 5_000, 20_000] {
+        all.push((format!("names {count}"), sheets::names(count)));
+    }
+    for count in [1_000, 5_000, 20_000] {
+        all.push((format!("constants {count}"), sheets::constants(count)));
+    }
+    for count in [1_000, 5_000, 20_000] {
+        all.push((format!("strings {count}"), sheets::strings(count)));
+    }
+    for count in [1_000, 5_000, 20_000] {
+        all.push((format!("chains {count}"), sheets::chains(count)));
+    }
+    for count in [1_000, 5_000, 20_000] {
+        all.push((format!("operators {count}"), sheets::operators(count)));
+    }
+    for count in [100, 1_000, 10_000] {
+        all.push((format!("locals {count}"), sheets::locals(count, 5_000)));
+    }
+    for nodes in [1_000, 4_000, 16_000, 65_536, sheets::NODES] {
+        all.push((format!("nodes {nodes}"), sheets::mixed(nodes)));
+    }
+    all
+}
+
+/// Nanoseconds for one call.
+fn time(calls: u32, mut run: impl FnMut()) -> f64 {
+    let start = now();
+    for _ in 0..calls {
+        run();
+    }
+    (now() - start) / f64::from(calls)
+}
+
+/// Runs a sheet until its time is over, and prints its line.
+fn run(name: &str, sheet: &[u8], limit: Duration) {
+    let lowered = oracle::lower_sheet(sheet)
+        .unwrap_or_else(|number| panic!("{name} is refused with {number}"));
+    let mut image = vec![1; lowered.words.len()];
+    let mut scratch = vec![1; lowered.scratch_needed() as usize];
+    assert_eq!(
+        bench::lower(sheet, &mut image, &mut scratch),
+        (0, image.len() as u64),
+        "{name}"
+    );
+    assert_eq!(image, lowered.words, "{name}: another image");
+
+    let read = oracle::sheet::read(sheet).expect("an accepted sheet");
+    let whole = tree::whole(&read);
+    let alone = || {
+        let mut lowering = Lowering::default();
+        for local in 0..read.locals {
+            lowering.slots.declare(tree::name(&read, read.local(local)));
+        }
+        match &whole {
+            Whole::Expression(expr) => lowering.expression(expr),
+            Whole::Switch(subject, cases) => assert!(lowering.switch(subject, cases)),
+        }
+        black_box(&lowering);
+    };
+
+    let start = Instant::now();
+    let warm = time(1, || {
+        black_box(bench::lower(black_box(sheet), &mut image, &mut scratch));
+    })
+    .max(time(1, || {
+        black_box(oracle::lower(black_box(sheet), &mut image, &mut scratch));
+    }));
+    let calls = (1e6 / warm).ceil().max(1.0) as u32;
+    let mut times: [Vec<f64>; 6] = Default::default();
+    while times[0].len() < 3 || start.elapsed() < limit {
+        times[0].push(time(calls, || {
+            black_box(bench::lower(black_box(sheet), &mut image, &mut scratch));
+        }));
+        times[1].push(time(calls, || {
+            black_box(oracle::lower(black_box(sheet), &mut image, &mut scratch));
+        }));
+        times[2].push(time(calls, alone));
+        times[3].push(time(calls, || {
+            black_box(bench::check(black_box(sheet)));
+        }));
+        // Number 11 comes after the count, number 12 after the lowering.
+        times[4].push(time(calls, || {
+            black_box(bench::lower(black_box(sheet), &mut image, &mut []));
+        }));
+        times[5].push(time(calls, || {
+            black_box(bench::lower(black_box(sheet), &mut [], &mut scratch));
+        }));
+    }
+    let rounds = times[0].len();
+    let [ours, rust, alone, check, count, lowering] = times.map(|mut times| median(&mut times));
+    let each = ours / read.nodes as f64;
+    println!(
+        "{:<20}{:>7}{:>8}{:>8}{:>13.0}{:>12.0}{:>12.0}{:>9.2}{:>9.2}{:>10.1}{:>8.1} |{:>11.0}{:>11.0}{:>13.0}{:>12.0}{:>6}",
+        name,
+        read.nodes,
+        lowered.marks.emitted,
+        image.len(),
+        ours,
+        rust,
+        alone,
+        ours / rust,
+        ours / alone,
+        each,
+        rust / read.nodes as f64,
+        check,
+        count - check,
+        lowering - count,
+        ours - lowering,
+        rounds,
+    );
+}
+
+fn main() {
+    let mut seconds = 2.0;
+    let mut names = Vec::new();
+    let mut words = std::env::args().skip(1);
+    while let Some(word) = words.next() {
+        match word.as_str() {
+            "--seconds" => {
+                let value = words.next().expect("a number after the option");
+                seconds = value.parse().expect("a number of seconds");
+            }
+            _ => names.push(word),
+        }
+    }
+    println!(
+        "{:<20}{:>7}{:>8}{:>8}{:>13}{:>12}{:>12}{:>9}{:>9}{:>10}{:>8} |{:>11}{:>11}{:>13}{:>12}{:>6}",
+        "sheet",
+        "nodes",
+        "emitted",
+        "words",
+        "ours ns",
+        "Rust ns",
+        "alone ns",
+        "o/Rust",
+        "o/alone",
+        "ours/node",
+        "Rust/n",
+        "check",
+        "count",
+        "lowering",
+        "image",
+        "runs"
+    );
+    for (name, sheet) in all() {
+        if names.is_empty() || names.iter().any(|part| name.contains(part.as_str())) {
+            run(&name, &sheet, Duration::from_secs_f64(seconds));
+        }
+    }
+}

@@ -1,0 +1,257 @@
+//! The stack that a lowering uses, and hostile sheets with the time of each pass.
+//!
+//! `worst [stack] [NAME...]`: with `stack` only the stack; else both, of the sheets whose names contain one of NAME.
+//!
+//! The stack is measured by running the call on a painted stack of its own, and looking for the lowest word that changed.
+
+use bench::clock::now;
+use bench::{sheets, workloads};
+use oracle::format::*;
+use std::arch::asm;
+use std::hint::black_box;
+
+const STACK_WORDS: usize = 1 << 20;
+const PAINT: u64 = 0xA5A5_5A5A_C3C3_3C3C;
+
+/// What runs on the painted stack.
+struct Call<'a> {
+    run: &'a mut dyn FnMut(),
+}
+
+extern "C" fn enter(call: *mut Call<'_>) {
+    // The pointer is to a call that outlives this one.
+    unsafe { ((*call).run)() }
+}
+
+/// The bytes of stack that `run` touches.
+fn stack_of(run: &mut dyn FnMut()) -> usize {
+    let mut stack = vec![PAINT; STACK_WORDS];
+    let mut call = Call { run };
+    // A call needs a stack that is a multiple of 16 bytes.
+    let top = (stack.as_mut_ptr() as usize + 8 * STACK_WORDS) & !15;
+    // The stack pointer is put back before anything else runs; r12 keeps it, and callees keep r12.
+    unsafe {
+        asm!(
+            "mov r12, rsp",
+            "mov rsp, {top}",
+            "call {enter}",
+            "mov rsp, r12",
+            top = in(reg) top,
+            enter = sym enter,
+            in("rdi") &mut call,
+            out("r12") _,
+            clobber_abi("C"),
+        );
+    }
+    let untouched = stack.iter().take_while(|word| **word == PAINT).count();
+    assert!(untouched > 0, "the stack is too small");
+    top - (stack.as_ptr() as usize + 8 * untouched)
+}
+
+fn stack(names: &[String]) {
+    let sheets: Vec<(&str, Vec<u8>)> = vec![
+        ("refused with 1", vec![0]),
+        ("rule", sheets::rule()),
+        ("64 arrays", sheets::levels(ARRAY)),
+        ("64 interpolated", sheets::levels(INTERPOLATED)),
+        ("64 calls", sheets::levels(FN_CALL)),
+        ("64 ands", sheets::levels(AND)),
+        ("64 coalesces", sheets::levels(COALESCE)),
+        ("64 dots by roots", sheets::levels(DOT)),
+        ("64 indexes by roots", sheets::levels(INDEX)),
+        ("64 indexes by operands", sheets::operand_levels()),
+        ("62 methods", sheets::method_levels()),
+        ("63 links", sheets::deep_chain()),
+        ("switch, full tables", sheets::tables(true, 64)),
+        ("switch, calls in bodies", sheets::full_switch(FN_CALL)),
+        ("switch, ands in bodies", sheets::full_switch(AND)),
+        ("switch, coalesces in bodies", sheets::full_switch(COALESCE)),
+    ];
+    println!(
+        "{:<30}{:>4}{:>14}{:>14}{:>14}",
+        "stack in bytes", "no", "check", "lower", "Rust lower"
+    );
+    for (name, sheet) in sheets {
+        if !names.is_empty() && !names.iter().any(|part| name.contains(part.as_str())) {
+            continue;
+        }
+        let mut image = vec![0; 2_000_000];
+        let mut scratch = vec![0; 8_000_000];
+        let mut number = 0;
+        let check = stack_of(&mut || {
+            black_box(bench::check(black_box(&sheet)));
+        });
+        let ours =
+            stack_of(&mut || number = bench::lower(black_box(&sheet), &mut image, &mut scratch).0);
+        let rust = stack_of(&mut || {
+            black_box(oracle::lower(black_box(&sheet), &mut image, &mut scratch));
+        });
+        println!("{name:<30}{number:>4}{check:>14}{ours:>14}{rust:>14}");
+    }
+}
+
+/// The hostile sheets: a name, the sheet, and by how much the greatest sheet of its kind is dearer.
+fn hostile() -> Vec<(String, Vec<u8>)> {
+    let texts = |name| workloads::workload(name).sheet;
+    vec![
+        (
+            "check: texts that overlap".into(),
+            texts("hostile overlap ends"),
+        ),
+        ("check: 64 long cases".into(), texts("hostile cases")),
+        (
+            "count: 2000 g(v), 65535 locals".into(),
+            sheets::nested(0, 2_000, sheets::LOCALS),
+        ),
+        (
+            "count: 20 g(v), 100 locals of 100000".into(),
+            sheets::long_locals(20, 100, 100_000),
+        ),
+        (
+            "recount: 62 ands, 130800 units".into(),
+            sheets::nested_units(62, 130_800),
+        ),
+        (
+            "recount: 61 ands, 100 g(v), 65535 locals".into(),
+            sheets::nested(61, 100, sheets::LOCALS),
+        ),
+        (
+            "locals: 2000 variables, 65535 locals".into(),
+            sheets::locals(sheets::LOCALS, 2_000),
+        ),
+        ("names: 20000".into(), sheets::names(20_000)),
+        (
+            "names: 500 of 100000 bytes".into(),
+            sheets::long_names(500, 100_000),
+        ),
+        ("constants: 65535".into(), sheets::constants(65_535)),
+        ("strings: 20000".into(), sheets::strings(20_000)),
+        ("operators: 43000".into(), sheets::operators(43_000)),
+        ("chains: 20000".into(), sheets::chains(20_000)),
+        (
+            "chains: 1000 of 63 links".into(),
+            sheets::long_chains(1_000, 62),
+        ),
+        (
+            "chains: 100 roots, 20000 locals".into(),
+            sheets::roots(100, 20_000),
+        ),
+        (
+            "tables: 255 runs, 64 cases of 64 Refs".into(),
+            sheets::tables(true, 64),
+        ),
+        (
+            "tables: the same, constant guards".into(),
+            sheets::tables_constant(),
+        ),
+        ("tables: 255 runs alone".into(), sheets::tables(false, 64)),
+        (
+            "image: 2000 chains, names at 20000".into(),
+            sheets::late_names(20_000, 2_000),
+        ),
+        (
+            "image: 64 cases, 65000 constants".into(),
+            sheets::late_cases(65_000),
+        ),
+    ]
+}
+
+/// Nanoseconds of one call.
+fn time(mut run: impl FnMut()) -> f64 {
+    let start = now();
+    run();
+    now() - start
+}
+
+/// The least of up to five calls, fewer if they take long.
+fn least(mut run: impl FnMut()) -> f64 {
+    let mut least = time(&mut run);
+    let mut spent = least;
+    for _ in 0..4 {
+        if spent > 2e9 {
+            break;
+        }
+        let once = time(&mut run);
+        least = least.min(once);
+        spent += once;
+    }
+    least
+}
+
+fn times(names: &[String]) {
+    println!(
+        "{:<44}{:>8}{:>4}{:>11}{:>11}{:>9} |{:>10}{:>10}{:>11}{:>10}",
+        "hostile sheet, times in ms",
+        "nodes",
+        "no",
+        "ours",
+        "Rust",
+        "ratio",
+        "check",
+        "count",
+        "lowering",
+        "image"
+    );
+    for (name, sheet) in hostile() {
+        if !names.is_empty() && !names.iter().any(|part| name.contains(part.as_str())) {
+            continue;
+        }
+        let lowered = oracle::lower_sheet(&sheet);
+        let (words, needed, number) = match &lowered {
+            Ok(lowered) => (lowered.words.len(), lowered.scratch_needed() as usize, 0),
+            Err(number) => (0, 0, *number),
+        };
+        let mut image = vec![0; words];
+        let mut scratch = vec![0; needed];
+        assert_eq!(
+            bench::lower(&sheet, &mut image, &mut scratch),
+            (number, words as u64),
+            "{name}"
+        );
+        if let Ok(lowered) = &lowered {
+            assert_eq!(image, lowered.words, "{name}: another image");
+        }
+        let ours = least(|| {
+            black_box(bench::lower(&sheet, &mut image, &mut scratch));
+        });
+        let rust = least(|| {
+            black_box(oracle::lower(&sheet, &mut image, &mut scratch));
+        });
+        let check = least(|| {
+            black_box(bench::check(&sheet));
+        });
+        let count = least(|| {
+            black_box(bench::lower(&sheet, &mut image, &mut []));
+        });
+        let lowering = least(|| {
+            black_box(bench::lower(&sheet, &mut [], &mut scratch));
+        });
+        let nodes = u32::from_le_bytes(sheet[..4].try_into().unwrap());
+        let ms = |time: f64| time / 1e6;
+        println!(
+            "{:<44}{:>8}{:>4}{:>11.2}{:>11.2}{:>9.1} |{:>10.2}{:>10.2}{:>11.2}{:>10.2}",
+            name,
+            nodes,
+            number,
+            ms(ours),
+            ms(rust),
+            ours / rust,
+            ms(check),
+            ms(count - check),
+            ms(lowering - count),
+            ms(ours - lowering),
+        );
+    }
+}
+
+fn main() {
+    let mut names: Vec<String> = std::env::args().skip(1).collect();
+    let only_stack = names.first().is_some_and(|name| name == "stack");
+    if only_stack {
+        names.remove(0);
+    }
+    stack(&names);
+    if !only_stack {
+        times(&names);
+    }
+}
