@@ -238,10 +238,10 @@ pub fn names(count: usize) -> Vec<u8> {
     draft.to_bytes()
 }
 
-/// An Array of so many integers, all different.
+/// So many integers, all different.
 pub fn constants(count: usize) -> Vec<u8> {
     let mut draft = Draft::new();
-    draft.open(ARRAY, [0; 3], 1);
+    draft.open(INTERPOLATED, [0; 3], 1);
     for index in 0..count {
         draft.int(index as i64 * 7_919, 2);
     }
@@ -616,6 +616,21 @@ pub fn long_locals(calls: usize, locals: usize, length: usize) -> Vec<u8> {
     for _ in 0..calls {
         draft.open(FN_CALL, [name, 0, 0], 2);
         draft.leaf(VARIABLE, [1, 0, 0], 2);
+        draft.close();
+    }
+    draft.close();
+    draft.to_bytes()
+}
+
+/// 64 String cases of so many bytes that differ only near their ends.
+pub fn long_cases(length: usize) -> Vec<u8> {
+    let mut draft = Draft::new();
+    long_texts(&mut draft, 64, length);
+    draft.open(SWITCH, [0, 64, 0], 1);
+    draft.leaf(UNIT, [0; 3], 1);
+    for case in 0..64 {
+        draft.open(CASE, [0; 3], 1);
+        draft.leaf(STRING, [case, 0, 0], 1);
         draft.close();
     }
     draft.close();

@@ -1,12 +1,13 @@
 //! Times the proved lowering beside the oracle's Rust on the same sheets, in one process.
 //!
-//! `lower [--seconds S] [NAME...]`: S seconds for each sheet (2); only the sheets whose names contain one of NAME.
+//! `lower [--seconds S] [NAME...]`: S seconds for each sheet (2), and at least five rounds; only the sheets whose names contain one of
+//! NAME. A time is the least of the rounds, in processor time of the thread.
 //!
 //! Columns: ours and Rust are whole lowerings, from the sheet's bytes to the image in its buffer, with scratch cleared; alone is the
 //! Rust lowering of a tree that has been read before, without the image. Then ours by passes, in nanoseconds: the check; the count; the
 //! lowering into the scratch, which is cleared behind it; the image's sections.
 
-use bench::clock::{median, now};
+use bench::clock::{least, now};
 use bench::sheets;
 use oracle::grain::compile::Lowering;
 use oracle::tree::{self, Whole};
@@ -95,7 +96,7 @@ fn run(name: &str, sheet: &[u8], limit: Duration) {
     }));
     let calls = (1e6 / warm).ceil().max(1.0) as u32;
     let mut times: [Vec<f64>; 6] = Default::default();
-    while times[0].len() < 3 || start.elapsed() < limit {
+    while times[0].len() < 5 || start.elapsed() < limit {
         times[0].push(time(calls, || {
             black_box(bench::lower(black_box(sheet), &mut image, &mut scratch));
         }));
@@ -115,7 +116,7 @@ fn run(name: &str, sheet: &[u8], limit: Duration) {
         }));
     }
     let rounds = times[0].len();
-    let [ours, rust, alone, check, count, lowering] = times.map(|mut times| median(&mut times));
+    let [ours, rust, alone, check, count, lowering] = times.map(|times| least(&times));
     let each = ours / read.nodes as f64;
     println!(
         "{:<20}{:>7}{:>8}{:>8}{:>13.0}{:>12.0}{:>12.0}{:>9.2}{:>9.2}{:>10.1}{:>8.1} |{:>11.0}{:>11.0}{:>13.0}{:>12.0}{:>6}",

@@ -90,70 +90,69 @@ fn stack(names: &[String]) {
     }
 }
 
-/// The hostile sheets: a name, the sheet, and by how much the greatest sheet of its kind is dearer.
+/// The hostile sheets, by the pass that they are hostile to. Most are smaller than they could be.
 fn hostile() -> Vec<(String, Vec<u8>)> {
     let texts = |name| workloads::workload(name).sheet;
-    vec![
+    let bytes = MAX_TEXT_BYTES as usize;
+    let all = sheets::LOCALS;
+    let list: Vec<(&str, Vec<u8>)> = vec![
+        ("check: texts that overlap", texts("hostile overlap ends")),
+        ("check: 64 cases of 1 MiB", sheets::long_cases(bytes - 64)),
         (
-            "check: texts that overlap".into(),
-            texts("hostile overlap ends"),
+            "count: 2000 g(v), 65535 locals",
+            sheets::nested(0, 2_000, all),
         ),
-        ("check: 64 long cases".into(), texts("hostile cases")),
         (
-            "count: 2000 g(v), 65535 locals".into(),
-            sheets::nested(0, 2_000, sheets::LOCALS),
-        ),
-        (
-            "count: 20 g(v), 100 locals of 100000".into(),
+            "count: 20 g(v), 100 locals of 100000",
             sheets::long_locals(20, 100, 100_000),
         ),
         (
-            "recount: 62 ands, 130800 units".into(),
+            "recount: 62 ands, 130800 units",
             sheets::nested_units(62, 130_800),
         ),
         (
-            "recount: 61 ands, 100 g(v), 65535 locals".into(),
-            sheets::nested(61, 100, sheets::LOCALS),
+            "recount: 61 ands, 100 g(v), 65535 locals",
+            sheets::nested(61, 100, all),
         ),
         (
-            "locals: 2000 variables, 65535 locals".into(),
-            sheets::locals(sheets::LOCALS, 2_000),
+            "locals: 2000 variables, 65535 locals",
+            sheets::locals(all, 2_000),
         ),
-        ("names: 20000".into(), sheets::names(20_000)),
+        ("names: 20000", sheets::names(20_000)),
         (
-            "names: 500 of 100000 bytes".into(),
+            "names: 500 of 100000 bytes",
             sheets::long_names(500, 100_000),
         ),
-        ("constants: 65535".into(), sheets::constants(65_535)),
-        ("strings: 20000".into(), sheets::strings(20_000)),
-        ("operators: 43000".into(), sheets::operators(43_000)),
-        ("chains: 20000".into(), sheets::chains(20_000)),
+        ("constants: 131070", sheets::constants(131_070)),
+        ("strings: 20000", sheets::strings(20_000)),
+        ("operators: 43000", sheets::operators(43_000)),
+        ("chains: 20000", sheets::chains(20_000)),
+        ("chains: 1000 of 62 links", sheets::long_chains(1_000, 62)),
         (
-            "chains: 1000 of 63 links".into(),
-            sheets::long_chains(1_000, 62),
-        ),
-        (
-            "chains: 100 roots, 20000 locals".into(),
+            "chains: 100 roots, 20000 locals",
             sheets::roots(100, 20_000),
         ),
         (
-            "tables: 255 runs, 64 cases of 64 Refs".into(),
+            "tables: 255 runs, 64 cases of 64 Refs",
             sheets::tables(true, 64),
         ),
         (
-            "tables: the same, constant guards".into(),
+            "tables: the same, constant guards",
             sheets::tables_constant(),
         ),
-        ("tables: 255 runs alone".into(), sheets::tables(false, 64)),
+        ("tables: 255 runs alone", sheets::tables(false, 64)),
         (
-            "image: 2000 chains, names at 20000".into(),
+            "image: 2000 chains, names at 20000",
             sheets::late_names(20_000, 2_000),
         ),
         (
-            "image: 64 cases, 65000 constants".into(),
+            "image: 64 cases, 65000 constants",
             sheets::late_cases(65_000),
         ),
-    ]
+    ];
+    list.into_iter()
+        .map(|(name, sheet)| (name.to_string(), sheet))
+        .collect()
 }
 
 /// Nanoseconds of one call.
