@@ -636,3 +636,43 @@ pub fn long_cases(length: usize) -> Vec<u8> {
     draft.close();
     draft.to_bytes()
 }
+
+/// The chains of `roots` where the names of root and locals have so many bytes and differ in the last.
+pub fn long_roots(chains: usize, locals: usize, length: usize) -> Vec<u8> {
+    let mut draft = Draft::new();
+    long_texts(&mut draft, 2, length);
+    let name = draft.text(b"p");
+    draft.locals = vec![0; locals];
+    draft.open(ARRAY, [0; 3], 1);
+    for index in 0..chains {
+        draft.open(DOT, [0; 3], 2);
+        draft.leaf(VARIABLE, [1, 0, 0], index as u32);
+        draft.leaf(PROPERTY, [name; 3], 3);
+        draft.close();
+    }
+    draft.close();
+    draft.to_bytes()
+}
+
+/// Calls of one name, Arrays, And, Or and Coalesce over leaves that go into no pool, with so many nodes.
+pub fn unpooled(nodes: usize) -> Vec<u8> {
+    let mut random = Random::new(12);
+    let mut draft = Draft::new();
+    let name = draft.text(b"area");
+    draft.open(INTERPOLATED, [0; 3], 1);
+    while nodes - draft.nodes.len() > 8 {
+        let kind = *random.pick(&[FN_CALL, FN_CALL, FN_CALL, ARRAY, AND, COALESCE]);
+        let fields = if kind == FN_CALL { [name, 0, 0] } else { [0; 3] };
+        draft.open(kind, fields, 2);
+        for _ in 0..random.between(3, 7) {
+            let kind = *random.pick(&[UNIT, THIS]);
+            draft.leaf(kind, [0; 3], 3);
+        }
+        draft.close();
+    }
+    while draft.nodes.len() < nodes {
+        draft.leaf(UNIT, [0; 3], 2);
+    }
+    draft.close();
+    draft.to_bytes()
+}

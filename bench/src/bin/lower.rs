@@ -48,6 +48,9 @@ fn all() -> Vec<Named> {
     for nodes in [1_000, 4_000, 16_000, 65_536, sheets::NODES] {
         all.push((format!("nodes {nodes}"), sheets::mixed(nodes)));
     }
+    for nodes in [1_000, 4_000, 16_000, 65_536, sheets::NODES] {
+        all.push((format!("no pools {nodes}"), sheets::unpooled(nodes)));
+    }
     all
 }
 

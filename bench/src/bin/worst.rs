@@ -133,6 +133,10 @@ fn hostile() -> Vec<(String, Vec<u8>)> {
             sheets::roots(100, 20_000),
         ),
         (
+            "chains: 40 roots, 100 locals of 26000",
+            sheets::long_roots(40, 100, 26_000),
+        ),
+        (
             "tables: 255 runs, 64 cases of 64 Refs",
             sheets::tables(true, 64),
         ),
