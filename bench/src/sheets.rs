@@ -662,7 +662,11 @@ pub fn unpooled(nodes: usize) -> Vec<u8> {
     draft.open(INTERPOLATED, [0; 3], 1);
     while nodes - draft.nodes.len() > 8 {
         let kind = *random.pick(&[FN_CALL, FN_CALL, FN_CALL, ARRAY, AND, COALESCE]);
-        let fields = if kind == FN_CALL { [name, 0, 0] } else { [0; 3] };
+        let fields = if kind == FN_CALL {
+            [name, 0, 0]
+        } else {
+            [0; 3]
+        };
         draft.open(kind, fields, 2);
         for _ in 0..random.between(3, 7) {
             let kind = *random.pick(&[UNIT, THIS]);
