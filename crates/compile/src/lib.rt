@@ -30,6 +30,7 @@ use chains::lowers;
 use counting::links::Link;
 use counting::links::link_of;
 use counting::links::temporary;
+use counting::plans::MAX_ELEMENTS;
 use counting::plans::one_less;
 use ends::end_of;
 use ends::verdict;
@@ -51,9 +52,6 @@ use store::State;
 use store::emit;
 use store::residual;
 use store::take_back;
-
-// greatest count of elements of an array that lowers
-const MAX_ELEMENTS: u32 = 65535;
 
 // `n` siblings from node `from` on, each with `by` behind it.
 fn siblings(

@@ -17,7 +17,7 @@ use sheet::count;
 use sheet::next;
 
 // greatest count of elements of an array that lowers
-const MAX_ELEMENTS: u32 = 65535;
+pub const MAX_ELEMENTS: u32 = 65535;
 
 // `n` siblings from node `from` on, each with `gap` instructions behind it, and `rest` besides; or a construct with a rule of its own.
 pub enum Plan {

@@ -7,6 +7,9 @@ ghost use Rattle.counting.specs.Tally as tallies;
 // where counts are cut off
 pub const CAP: u64 = 1099511627776;
 
+// greatest count of emitted instructions that is not refused
+pub const MAX_EMITTED: u64 = 262143;
+
 // How many instructions a lowering gives, how many it emits (those that are taken back included), and whether it reaches an `eval`.
 pub struct Tally {
     pub len: u64,

@@ -26,6 +26,7 @@ ghost use Rattle.sums.specs.WholeLaws.{oneIf};
 ghost use Rattle.tables.specs.Ranges.{rangesIn};
 ghost use Rattle.cases.specs.Held as points;
 use cases::Points;
+use counting::tallies::MAX_EMITTED;
 use counting::tallies::Tally;
 use counting::tallies::instructions;
 use counting::tallies::plus;
@@ -68,7 +69,7 @@ fn zeros() -> [u32; 64]
 fn word(n: u64) -> u32
     ensures { λ r. ⌜ Near r n ⌝ }
 {
-    if n <= 262143 {
+    if n <= MAX_EMITTED {
         return n as u32;
     }
     0
@@ -267,7 +268,7 @@ pub fn starts_of(
 fn more(n: u64) -> u64
     ensures { λ r. ⌜ (n ≤ maxEmitted → r ≡ n + 1) ⌝ }
 {
-    if n <= 262143 {
+    if n <= MAX_EMITTED {
         return n + 1;
     }
     0

@@ -47,6 +47,9 @@ use tables::ranges_of;
 use tables::run_heads;
 use tables::runs_of;
 
+// the kind of node 0 of a switch
+pub const SWITCH: u32 = 19;
+
 // A guard: 0 if it is constant false, 1 if it is constant true, 2 if it is tried, and what it adds then, with its jump.
 pub struct GuardRow {
     pub kind: u32,
@@ -372,7 +375,7 @@ pub fn total(s: &[u8]) -> Tally
     ensures { λ r. ⌜ (numberOf (checked (now (s .entry))) ≡ 0
         → tallies.takenBack r ≡ tallies.capped (tallies.takenBack (totals.total (now (s .entry))))) ⌝ }
 {
-    if kind(s, 0) == 19 {
+    if kind(s, 0) == SWITCH {
         return switch_total(s);
     }
     tally(MAX_DEPTH, s, 0)

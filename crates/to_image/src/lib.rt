@@ -12,6 +12,7 @@ use crate::switched::build_switch;
 use checks::check;
 use checks::number;
 use compile::expression;
+use counting::tallies::MAX_EMITTED;
 use counting::tallies::Tally;
 use image::image_len;
 use image::write_front;
@@ -21,6 +22,7 @@ use sheet::limits::MAX_DEPTH;
 use sheet::node_count;
 use store::Layout;
 use store::start;
+use sums::SWITCH;
 use sums::total;
 
 // What a lowering answers: the image's word count, or 01's refusal number.
@@ -28,9 +30,6 @@ pub enum Answer {
     Lowered { words: usize },
     Refused { number: u32 },
 }
-
-// the kind of node 0 of a switch
-const SWITCH: u32 = 19;
 
 // The refusals of the lowering. 1 to 8 are those of the check.
 pub const EVAL_REACHED: u32 = 9;
@@ -40,9 +39,6 @@ pub const TOO_MANY_EMITTED: u32 = 10;
 pub const SCRATCH_TOO_SHORT: u32 = 11;
 
 pub const IMAGE_TOO_LONG: u32 = 12;
-
-// greatest count of instructions emitted
-pub const MAX_EMITTED: u64 = 262143;
 
 // words of scratch for each emitted instruction, for each node, and besides
 pub const PER_EMITTED: u64 = 16;
