@@ -1,10 +1,10 @@
--- `edges::sheets::put_ranges` is safe and ends.
+-- `edge_sheets::put_ranges` is safe and ends.
 use Prim.Native.Nat.{_-_}
 use mathlib.Core.Path.{_≡_, _∙_}
 use lib.ListN.{length}
 use borrow.Author.Needs.{needs}
-use Rattle.edges.proofs.sheets.put_ranges.Statement.{statement}
-use Rattle.edges.proofs.sheets.put_ranges.Tie as tie
+use Rattle.edge_sheets.proofs.put_ranges.Statement.{statement}
+use Rattle.edge_sheets.proofs.put_ranges.Tie as tie
 
 abbrev Inv-loop : tie.InvT-loop
 Inv-loop s₀ n i₀ s i = length s ≡ length s₀

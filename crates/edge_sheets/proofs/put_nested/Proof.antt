@@ -1,19 +1,25 @@
--- `edges::sheets::put_leaves` is safe and ends.
+-- `edge_sheets::put_nested` is safe and ends.
 use Prim.Native.Nat.{_-_}
 use mathlib.Core.Path.{_≡_, _∙_}
 use lib.ListN.{length}
 use borrow.Author.Needs.{needs}
-use Rattle.edges.proofs.sheets.put_leaves.Statement.{statement}
-use Rattle.edges.proofs.sheets.put_leaves.Tie as tie
+use Rattle.edge_sheets.proofs.put_nested.Statement.{statement}
+use Rattle.edge_sheets.proofs.put_nested.Tie as tie
 
 abbrev Inv-loop : tie.InvT-loop
-Inv-loop s₀ from to kind n₀ s n = length s ≡ length s₀
+Inv-loop s₀ last n₀ s n = length s ≡ length s₀
 
 abbrev μ-loop : tie.MeasureT-loop
-μ-loop s₀ from to kind n₀ s n = to - n
+μ-loop s₀ last n₀ s n = last - n
 
 loop-holds : tie.Need-loop-holds Inv-loop μ-loop
 loop-holds c = search needs
+
+add-put-node : tie.Need-add-put-node Inv-loop μ-loop
+add-put-node c = search needs
+
+sub-put-node : tie.Need-sub-put-node Inv-loop μ-loop
+sub-put-node c = search needs
 
 put-node-requires : tie.Need-put-node-requires Inv-loop μ-loop
 put-node-requires c κs = search needs
@@ -33,5 +39,18 @@ same-length c = c .before .loop .inv
 returns : tie.Need-returns Inv-loop μ-loop
 returns c = search needs
 
-pub put-leaves-spec : {M : Type 1} → statement M
-put-leaves-spec = tie.close (tie.spec Inv-loop μ-loop loop-holds put-node-requires add-n loop-less loop-again same-length returns)
+pub put-nested-spec : {M : Type 1} → statement M
+put-nested-spec =
+    tie.close
+    (tie.spec
+    Inv-loop
+    μ-loop
+    loop-holds
+    add-put-node
+    sub-put-node
+    put-node-requires
+    add-n
+    loop-less
+    loop-again
+    same-length
+    returns)

@@ -1,10 +1,10 @@
--- `edges::sheets::put_positions` is safe and ends.
+-- `edge_sheets::put_positions` is safe and ends.
 use Prim.Native.Nat.{_-_}
 use mathlib.Core.Path.{_≡_, _∙_}
 use lib.ListN.{length}
 use borrow.Author.Needs.{needs}
-use Rattle.edges.proofs.sheets.put_positions.Statement.{statement}
-use Rattle.edges.proofs.sheets.put_positions.Tie as tie
+use Rattle.edge_sheets.proofs.put_positions.Statement.{statement}
+use Rattle.edge_sheets.proofs.put_positions.Tie as tie
 
 abbrev Inv-loop : tie.InvT-loop
 Inv-loop s₀ nodes n₀ s n = length s ≡ length s₀
