@@ -22,7 +22,8 @@ use Rattle.totals.specs.OutcomeLaws.{scratchTotal, outcome-9, outcome-10, outco
 use Rattle.to_image.specs.declared.Answer.{Answer}
 use Rattle.to_image.specs.declared.Answer.the-variants.{Lowered, Refused}
 use Rattle.sections.specs.RowLaws.{zeros}
-use Rattle.to_image.specs.Answer.{answer, imageAfter, scratchAfter, Answers, early, Ready, Built}
+use Rattle.to_image.specs.Answer.{answer, imageAfter, scratchAfter, Answers}
+use Rattle.to_image.specs.Making.{early, Ready, Built}
 
 -- a refusal that leaves both as they were
 pub stays : (s xs ys : List ℕ) (n : ℕ) → n < imageTooLong → outcome s (length xs) (length ys) ≡ refused n → Answers s xs ys (Refused n) xs ys

@@ -23,7 +23,7 @@ use Rattle.store.specs.declared.State.{State}
 use Rattle.store.specs.Holds.{Holds}
 use Rattle.image.specs.Front.{front, words-front}
 use Rattle.tails.specs.Tail.{whole-length}
-use Rattle.to_image.specs.Answer.{Built}
+use Rattle.to_image.specs.Making.{Built}
 use Rattle.to_image.specs.SwitchLaws.{lower-switch}
 
 -- no more instructions stand than were emitted

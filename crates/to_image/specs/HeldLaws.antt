@@ -22,7 +22,7 @@ use Rattle.dispatch.specs.declared.Targets.{Targets}
 use Rattle.dispatch.specs.Ready as Dispatch
 use Rattle.dispatch.specs.Parts.{targetsIn, wantIn}
 use Rattle.places.specs.Placed.{PlacesAre}
-use Rattle.to_image.specs.Answer.{Ready}
+use Rattle.to_image.specs.Making.{Ready}
 use Rattle.to_image.specs.SwitchLaws.{switch-holds}
 use Rattle.to_image.specs.AimLaws.{aimed}
 

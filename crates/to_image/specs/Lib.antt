@@ -1,4 +1,5 @@
 pub mod Answer
+pub mod Making
 pub mod AnswerLaws
 pub mod PlainLaws
 pub mod SwitchLaws

@@ -28,7 +28,7 @@ use Rattle.store.specs.Holds.{Fit, Holds}
 use Rattle.store.specs.Does.{Fits, Does}
 use Rattle.store.specs.ResidualLaws.{start-holds}
 use Rattle.image.specs.Front.{front, plain-front}
-use Rattle.to_image.specs.Answer.{Ready, Built}
+use Rattle.to_image.specs.Making.{Ready, Built}
 
 -- a checked sheet
 pub checked-right : (s : List ℕ) (e m : ℕ) → Ready s e m → Right s

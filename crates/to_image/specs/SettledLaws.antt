@@ -34,7 +34,7 @@ use Rattle.places.specs.Starts.{Tables}
 use Rattle.places.specs.TablesLaws.{tables-are}
 use Rattle.rows.specs.Rows.{tableCount}
 use Rattle.image.specs.Front.{front}
-use Rattle.to_image.specs.Answer.{Ready, Built}
+use Rattle.to_image.specs.Making.{Ready, Built}
 use Rattle.to_image.specs.HeldLaws.{Planned}
 use Rattle.to_image.specs.BuiltLaws.{switch-few, switch-long, switch-built}
 use Rattle.to_image.specs.WriteLaws.{Settled, tables-counted}

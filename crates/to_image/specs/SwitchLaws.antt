@@ -33,7 +33,7 @@ use Rattle.switching.specs.Change.{Targets, switchTo, casesTo}
 use Rattle.switching.specs.SwitchLaws.{wantedOf, laidOut}
 use Rattle.switching.specs.WholeLaws.{splits-are, whole-by}
 use Rattle.switching.specs.GrowLaws.{cases-rise}
-use Rattle.to_image.specs.Answer.{Ready}
+use Rattle.to_image.specs.Making.{Ready}
 use Rattle.to_image.specs.PlainLaws.{checked-right, scratch-fits}
 
 pub lower-switch : (s : List ℕ) → kind s 0 ≡ switchKind → lower s ≡ switch s (expression maxDepth s)

@@ -1,6 +1,7 @@
 // What a lowering answers, the refusals by counts, and the image of an expression. Refusals 1 to 11 are found without touching a buffer.
 ghost use mathlib.Core.Path.{_≡_};
-ghost use Rattle.to_image.specs.Answer.{Answers, Ready, Built, early};
+ghost use Rattle.to_image.specs.Answer.{Answers};
+ghost use Rattle.to_image.specs.Making.{Ready, Built, early};
 ghost use lib.ListN.{length};
 ghost use Rattle.sheet.specs.Node.{kind};
 ghost use Rattle.lowering.specs.Kinds.{switchKind};

@@ -12,7 +12,7 @@ ghost use Rattle.lowering.specs.Limits.{maxEmitted};
 ghost use Rattle.lowering.specs.Image.{words};
 ghost use Rattle.rows.specs.Rows.{tableCount};
 ghost use Rattle.tables.specs.Ranges.{rangesIn};
-ghost use Rattle.to_image.specs.Answer.{Ready, Built};
+ghost use Rattle.to_image.specs.Making.{Ready, Built};
 ghost use Rattle.to_image.specs.WriteLaws.{Settled};
 ghost use Rattle.store.specs.Holds.{Holds};
 ghost use Rattle.to_image.specs.HeldLaws.{Planned};

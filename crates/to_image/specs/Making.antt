@@ -1,0 +1,39 @@
+-- The refusals by counts, and the making of an image: what it may take for granted and what it leaves. The answer does not speak of these.
+use Prim.Native.Nat.{ℕ, _+_, _*_, _≤_, _<_}
+use mathlib.Core.Path.{_≡_}
+use mathlib.Core.Bool.{Bool, true, false}
+use mathlib.Core.List.{List, _++_}
+use lib.Dec.{ltb}
+use lib.ListN.{length, drop}
+use Rattle.sheet.specs.Layout.{nodeCount}
+use Rattle.checks.specs.Checked as Checked
+use Rattle.lowering.specs.Limits.{maxEmitted, scratchPerEmitted, scratchPerNode, scratchBesides, evalReached, tooManyEmitted, scratchTooShort}
+use Rattle.lowering.specs.Image.{words}
+use Rattle.lowering.specs.Outcome.{lower}
+use Rattle.totals.specs.Total.{total}
+
+-- the refusal by counts: d that an `eval` is reached, e instructions, m words of scratch, n nodes
+unfoldable pub early : Bool → ℕ → ℕ → ℕ → ℕ
+early d e m n =
+    elim d [
+      | true ↦ evalReached
+      | false ↦
+          elim (ltb maxEmitted e) [
+            | true ↦ tooManyEmitted
+            | false ↦ elim (ltb m (scratchPerEmitted * e + scratchPerNode * n + scratchBesides)) [ true ↦ scratchTooShort | false ↦ 0 ]
+          ]
+    ]
+
+-- what the making of an image may take for granted: nothing refuses before the image is made
+pub record Ready (s : List ℕ) (e m : ℕ) : Type 0 where
+  pub accepted : Checked.numberOf (Checked.checked s) ≡ 0
+  pub reached : total s .defeated ≡ false
+  pub emitted : e ≡ total s .emitted
+  pub few : e ≤ maxEmitted
+  pub space : scratchPerEmitted * e + scratchPerNode * nodeCount s + scratchBesides ≤ m
+
+-- what it leaves in the image xs: the words of the definition, where they fit, else nothing; n is their count
+pub record Built (s xs : List ℕ) (n : ℕ) (xs′ : List ℕ) : Type 0 where
+  pub count : n ≡ length (words (lower s))
+  pub fits : n ≤ length xs → xs′ ≡ words (lower s) ++ drop (length (words (lower s))) xs
+  pub kept : length xs < n → xs′ ≡ xs
