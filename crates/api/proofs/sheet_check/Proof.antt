@@ -9,15 +9,12 @@ use Rattle.api.proofs.sheet_check.Lts as lts
 use Rattle.checks.proofs.check.Reads as check-reads
 use Rattle.checks.proofs.number.Reads as number-reads
 
--- src/lib.rt:10:20
 check-requires : tie.Need-check-requires
 check-requires c κs = search needs
 
--- src/lib.rt:10:5
 number-requires : tie.Need-number-requires
 number-requires c κs = search needs
 
--- src/lib.rt:6:1
 returns : tie.Need-returns
 returns c = c .number .ensures ∙ ap numberOf (c .before .check .ensures)
 

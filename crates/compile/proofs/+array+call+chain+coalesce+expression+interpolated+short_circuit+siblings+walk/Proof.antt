@@ -211,503 +211,378 @@ siblings-claims t = (expression-below t, expression.Post, position-reads.Asked, 
 abbrev walk-claims : ℕ → walk-lts.Claims
 walk-claims t = (link-of-reads.Asked, link-of-reads.Learnt, siblings-below t, siblings.Post, step-names-reads.Asked, step-names-reads.Learnt, goes-on-reads.Asked, goes-on-reads.Learnt, rest-of-reads.Asked, rest-of-reads.Learnt)
 
--- src/lib.rt:77:9
 array-count-requires : (t : ℕ) → array-lts.Need-count-requires (array-claims t) (array-at t) array.Post
 array-count-requires t c κs = search needs
 
--- src/lib.rt:79:69
 array-child-requires : (t : ℕ) → array-lts.Need-child-requires (array-claims t) (array-at t) array.Post
 array-child-requires t c κs = search needs
 
--- src/lib.rt:79:13
 array-siblings-requires : (t : ℕ) → array-lts.Need-siblings-requires (array-claims t) (array-at t) array.Post
 array-siblings-requires t c κs = (sibling-falls _ (c .before .before .before .before .before .before .pre .0), tt)
 
--- src/lib.rt:80:48
 array-position-requires : (t : ℕ) → array-lts.Need-position-requires (array-claims t) (array-at t) array.Post
 array-position-requires t c κs = search needs
 
--- src/lib.rt:80:9
 array-emit-requires : (t : ℕ) → array-lts.Need-emit-requires (array-claims t) (array-at t) array.Post
 array-emit-requires t c κs = search needs
 
--- src/lib.rt:80:9
 array-same-length : (t : ℕ) → array-lts.Need-same-length (array-claims t) (array-at t) array.Post
 array-same-length t c = c .before .before .emit .kept .1 .0 ∙ c .before .before .before .before .before .before .before .siblings .kept .1 .1 .1 .0
 
--- src/lib.rt:80:9
 array-returns : (t : ℕ) → array-lts.Need-returns (array-claims t) (array-at t) array.Post
 array-returns t c = λ C v. array-does _ _ _ _ _ C v (c .before .before .before .before .before .before .before .before .before .before .before .count .ensures) (c .before .before .before .before .before .before .before .before .before .before .if1 .taken) (c .before .before .before .before .before .before .before .before .child .ensures) (c .before .before .before .position .ensures) (c .before .before .before .before .before .before .before .siblings .ensures) (c .before .before .emit .ensures _ tt)
 
--- src/lib.rt:82:5
 array-residual-requires : (t : ℕ) → array-lts.Need-residual-requires (array-claims t) (array-at t) array.Post
 array-residual-requires t c κs = search needs
 
--- src/lib.rt:74:1
 array-same-length-2 : (t : ℕ) → array-lts.Need-same-length-2 (array-claims t) (array-at t) array.Post
 array-same-length-2 t c = c .before .before .residual .kept .1 .0
 
--- src/lib.rt:74:1
 array-returns-2 : (t : ℕ) → array-lts.Need-returns-2 (array-claims t) (array-at t) array.Post
 array-returns-2 t c = λ C v. array-kept _ _ _ (c .before .before .before .before .before .count .ensures) (c .before .before .before .before .if1 .left) (c .before .before .residual .ensures _)
 
--- src/lib.rt:121:9
 call-way-of-requires : (t : ℕ) → call-lts.Need-way-of-requires (call-claims t) (call-at t) call.Post
 call-way-of-requires t c κs = search needs
 
--- src/lib.rt:122:9
 call-open-requires : (t : ℕ) → call-lts.Need-open-requires (call-claims t) (call-at t) call.Post
 call-open-requires t c κs = search needs
 
--- src/lib.rt:123:61
 call-arg-count-requires : (t : ℕ) → call-lts.Need-arg-count-requires (call-claims t) (call-at t) call.Post
 call-arg-count-requires t c κs = search needs
 
--- src/lib.rt:123:81
 call-first-arg-requires : (t : ℕ) → call-lts.Need-first-arg-requires (call-claims t) (call-at t) call.Post
 call-first-arg-requires t c κs = search needs
 
--- src/lib.rt:123:9
 call-siblings-requires : (t : ℕ) → call-lts.Need-siblings-requires (call-claims t) (call-at t) call.Post
 call-siblings-requires t c κs = (sibling-falls _ (c .before .before .before .before .before .before .before .before .before .before .pre .0), tt)
 
--- src/lib.rt:124:5
 call-close-requires : (t : ℕ) → call-lts.Need-close-requires (call-claims t) (call-at t) call.Post
 call-close-requires t c κs = search needs
 
--- src/lib.rt:118:1
 call-same-length : (t : ℕ) → call-lts.Need-same-length (call-claims t) (call-at t) call.Post
 call-same-length t c = c .before .before .close .kept .1 .1 .0 ∙ c .before .before .before .before .before .before .siblings .kept .1 .1 .1 .0 ∙ c .before .before .before .before .before .before .before .before .before .before .before .before .«open» .kept .1 .1 .0
 
--- src/lib.rt:118:1
 call-returns : (t : ℕ) → call-lts.Need-returns (call-claims t) (call-at t) call.Post
 call-returns t c = λ C v k. call-by-way _ _ _ _ _ _ C v k (c .before .before .before .before .before .before .before .before .before .before .before .before .before .before .way-of .ensures) (c .before .before .before .before .before .before .before .before .arg-count .ensures) (c .before .before .before .before .before .before .before .first-arg .ensures) (c .before .before .before .before .before .before .before .before .before .before .before .before .«open» .ensures .0) (c .before .before .before .before .before .before .before .before .before .before .before .before .«open» .ensures .1) (c .before .before .before .before .before .before .siblings .ensures) (c .before .before .close .ensures)
 
--- src/lib.rt:158:8
 chain-flattens-requires : (t : ℕ) → chain-lts.Need-flattens-requires (chain-claims t) (chain-at t) chain.Post
 chain-flattens-requires t c κs = search needs
 
--- src/lib.rt:159:13
 chain-child-requires : (t : ℕ) → chain-lts.Need-child-requires (chain-claims t) (chain-at t) chain.Post
 chain-child-requires t c κs = search needs
 
--- src/lib.rt:160:13
 chain-root-name-requires : (t : ℕ) → chain-lts.Need-root-name-requires (chain-claims t) (chain-at t) chain.Post
 chain-root-name-requires t c κs = search needs
 
--- src/lib.rt:161:13
 chain-walk-requires : (t : ℕ) → chain-lts.Need-walk-requires (chain-claims t) (chain-at t) chain.Post
 chain-walk-requires t c κs = (walk-falls _ (c .before .before .before .before .before .before .before .before .before .before .pre .0), tt)
 
--- src/lib.rt:162:12
 chain-lowers-requires : (t : ℕ) → chain-lts.Need-lowers-requires (chain-claims t) (chain-at t) chain.Post
 chain-lowers-requires t c κs = search needs
 
--- src/lib.rt:163:66
 chain-temporary-requires : (t : ℕ) → chain-lts.Need-temporary-requires (chain-claims t) (chain-at t) chain.Post
 chain-temporary-requires t c κs = search needs
 
--- src/lib.rt:163:17
 chain-siblings-requires : (t : ℕ) → chain-lts.Need-siblings-requires (chain-claims t) (chain-at t) chain.Post
 chain-siblings-requires t c κs = (root-falls _ (c .before .before .before .before .before .before .before .before .before .before .before .before .before .before .before .before .before .pre .0), tt)
 
--- src/lib.rt:164:13
 chain-close-chain-requires : (t : ℕ) → chain-lts.Need-close-chain-requires (chain-claims t) (chain-at t) chain.Post
 chain-close-chain-requires t c κs = search needs
 
--- src/lib.rt:164:13
 chain-same-length : (t : ℕ) → chain-lts.Need-same-length (chain-claims t) (chain-at t) chain.Post
 chain-same-length t c = c .before .before .close-chain .kept .1 .1 .0 ∙ c .before .before .before .before .before .before .siblings .kept .1 .1 .1 .0 ∙ c .before .before .before .before .before .before .before .before .before .before .before .before .before .walk .kept .1 .1 .1 .0 ∙ c .before .before .before .before .before .before .before .before .before .before .before .before .before .before .before .before .before .root-name .kept .1 .1 .0
 
--- src/lib.rt:164:13
 chain-returns : (t : ℕ) → chain-lts.Need-returns (chain-claims t) (chain-at t) chain.Post
 chain-returns t c = λ C L. chain-does _ _ _ _ C L (c .before .before .before .before .before .before .before .before .before .before .before .before .before .before .before .before .before .before .before .child .ensures) (c .before .before .before .before .before .before .before .temporary .ensures) (sym (c .before .before .before .before .before .before .before .before .before .before .lowers .ensures) ∙ c .before .before .before .before .before .before .before .before .before .if2 .taken) (c .before .before .before .before .before .before .before .before .before .before .before .before .before .before .before .before .before .root-name .ensures) (c .before .before .before .before .before .before .before .before .before .before .before .before .before .walk .ensures) (c .before .before .before .before .before .before .siblings .ensures) (c .before .before .close-chain .ensures)
 
--- src/lib.rt:166:13
 chain-take-back-requires : (t : ℕ) → chain-lts.Need-take-back-requires (chain-claims t) (chain-at t) chain.Post
 chain-take-back-requires t c κs = search needs
 
--- src/lib.rt:167:9
 chain-residual-requires : (t : ℕ) → chain-lts.Need-residual-requires (chain-claims t) (chain-at t) chain.Post
 chain-residual-requires t c κs = search needs
 
--- src/lib.rt:167:9
 chain-same-length-2 : (t : ℕ) → chain-lts.Need-same-length-2 (chain-claims t) (chain-at t) chain.Post
 chain-same-length-2 t c = c .before .before .residual .kept .1 .0 ∙ c .before .before .before .before .before .before .before .before .before .walk .kept .1 .1 .1 .0 ∙ c .before .before .before .before .before .before .before .before .before .before .before .before .before .root-name .kept .1 .1 .0
 
--- src/lib.rt:167:9
 chain-returns-2 : (t : ℕ) → chain-lts.Need-returns-2 (chain-claims t) (chain-at t) chain.Post
 chain-returns-2 t c = λ C L. chain-back _ _ _ C L (c .before .before .before .before .before .before .before .before .before .before .before .before .before .before .before .child .ensures) (sym (c .before .before .before .before .before .before .before .before .before .before .before .before .before .before .before .before .before .flattens .ensures) ∙ c .before .before .before .before .before .before .before .before .before .before .before .before .before .before .before .before .if1 .taken) (sym (c .before .before .before .before .before .before .lowers .ensures) ∙ c .before .before .before .before .before .if2 .left) (c .before .before .before .before .before .before .before .before .before .before .before .before .before .root-name .ensures) (c .before .before .before .before .before .before .before .before .before .walk .ensures) (c .before .before .before .before .take-back .ensures) (c .before .before .residual .ensures _)
 
--- src/lib.rt:169:5
 chain-residual-requires-2 : (t : ℕ) → chain-lts.Need-residual-requires-2 (chain-claims t) (chain-at t) chain.Post
 chain-residual-requires-2 t c κs = search needs
 
--- src/lib.rt:155:1
 chain-same-length-3 : (t : ℕ) → chain-lts.Need-same-length-3 (chain-claims t) (chain-at t) chain.Post
 chain-same-length-3 t c = c .before .before .residual2 .kept .1 .0
 
--- src/lib.rt:155:1
 chain-returns-3 : (t : ℕ) → chain-lts.Need-returns-3 (chain-claims t) (chain-at t) chain.Post
 chain-returns-3 t c = λ C L. chain-kept _ _ (sym (c .before .before .before .before .before .flattens .ensures) ∙ c .before .before .before .before .if1 .left) (c .before .before .residual2 .ensures _)
 
--- src/lib.rt:111:22
 coalesce-count-requires : (t : ℕ) → coalesce-lts.Need-count-requires (coalesce-claims t) (coalesce-at t) coalesce.Post
 coalesce-count-requires t c κs = search needs
 
--- src/lib.rt:111:9
 coalesce-one-less-requires : (t : ℕ) → coalesce-lts.Need-one-less-requires (coalesce-claims t) (coalesce-at t) coalesce.Post
 coalesce-one-less-requires t c κs = search needs
 
--- src/lib.rt:112:9
 coalesce-child-requires : (t : ℕ) → coalesce-lts.Need-child-requires (coalesce-claims t) (coalesce-at t) coalesce.Post
 coalesce-child-requires t c κs = search needs
 
--- src/lib.rt:113:9
 coalesce-siblings-requires : (t : ℕ) → coalesce-lts.Need-siblings-requires (coalesce-claims t) (coalesce-at t) coalesce.Post
 coalesce-siblings-requires t c κs = (sibling-falls _ (c .before .before .before .before .before .before .pre .0), tt)
 
--- src/lib.rt:114:36
 coalesce-skip-requires : (t : ℕ) → coalesce-lts.Need-skip-requires (coalesce-claims t) (coalesce-at t) coalesce.Post
 coalesce-skip-requires t c κs = search needs
 
--- src/lib.rt:114:5
 coalesce-expression-requires : (t : ℕ) → coalesce-lts.Need-expression-requires (coalesce-claims t) (coalesce-at t) coalesce.Post
 coalesce-expression-requires t c κs = (last-falls _ (c .before .before .before .before .before .before .before .before .before .before .before .pre .0), tt)
 
--- src/lib.rt:108:1
 coalesce-same-length : (t : ℕ) → coalesce-lts.Need-same-length (coalesce-claims t) (coalesce-at t) coalesce.Post
 coalesce-same-length t c = c .before .before .expression .kept .1 .1 .1 .0 ∙ c .before .before .before .before .before .before .before .siblings .kept .1 .1 .1 .0
 
--- src/lib.rt:108:1
 coalesce-returns : (t : ℕ) → coalesce-lts.Need-returns (coalesce-claims t) (coalesce-at t) coalesce.Post
 coalesce-returns t c = λ C v some. coalesce-does _ _ _ _ _ _ _ C v some (c .before .before .before .before .before .before .before .before .before .before .before .count .ensures) (c .before .before .before .before .before .before .before .before .before .before .one-less .ensures) (c .before .before .before .before .before .before .before .before .before .child .ensures) (c .before .before .before .skip .ensures) (c .before .before .before .before .before .before .before .siblings .ensures) (c .before .before .expression .ensures)
 
--- src/lib.rt:177:9
 expression-residual-requires : (t : ℕ) → expression-lts.Need-residual-requires (expression-claims t) (expression-at t) expression.Post
 expression-residual-requires t c κs = search needs
 
--- src/lib.rt:177:9
 expression-same-length : (t : ℕ) → expression-lts.Need-same-length (expression-claims t) (expression-at t) expression.Post
 expression-same-length t c = c .before .before .residual .kept .1 .0
 
--- src/lib.rt:177:9
 expression-returns : (t : ℕ) → expression-lts.Need-returns (expression-claims t) (expression-at t) expression.Post
 expression-returns t c = λ C v. arm-none _ _ (c .before .before .before .before .if1 .taken) (c .before .before .residual .ensures _)
 
--- src/lib.rt:179:9
 expression-rule-requires : (t : ℕ) → expression-lts.Need-rule-requires (expression-claims t) (expression-at t) expression.Post
 expression-rule-requires t c κs = search needs
 
--- src/lib.rt:181:34
 expression-enum-told : (t : ℕ) → expression-lts.Need-enum-told (expression-claims t) (expression-at t) expression.Post
 expression-enum-told t c = search needs
 
--- src/lib.rt:181:50
 expression-field-a-requires : (t : ℕ) → expression-lts.Need-field-a-requires (expression-claims t) (expression-at t) expression.Post
 expression-field-a-requires t c κs = search needs
 
--- src/lib.rt:181:26
 expression-emit-requires : (t : ℕ) → expression-lts.Need-emit-requires (expression-claims t) (expression-at t) expression.Post
 expression-emit-requires t c κs = search needs
 
--- src/lib.rt:182:31
 expression-enum-told-2 : (t : ℕ) → expression-lts.Need-enum-told-2 (expression-claims t) (expression-at t) expression.Post
 expression-enum-told-2 t c = search needs
 
--- src/lib.rt:182:23
 expression-emit-requires-2 : (t : ℕ) → expression-lts.Need-emit-requires-2 (expression-claims t) (expression-at t) expression.Post
 expression-emit-requires-2 t c κs = search needs
 
--- src/lib.rt:183:42
 expression-enum-told-3 : (t : ℕ) → expression-lts.Need-enum-told-3 (expression-claims t) (expression-at t) expression.Post
 expression-enum-told-3 t c = search needs
 
--- src/lib.rt:183:27
 expression-constant-requires : (t : ℕ) → expression-lts.Need-constant-requires (expression-claims t) (expression-at t) expression.Post
 expression-constant-requires t c κs = search needs
 
--- src/lib.rt:184:44
 expression-enum-told-4 : (t : ℕ) → expression-lts.Need-enum-told-4 (expression-claims t) (expression-at t) expression.Post
 expression-enum-told-4 t c = search needs
 
--- src/lib.rt:184:44
 expression-sub-interpolated : (t : ℕ) → expression-lts.Need-sub-interpolated (expression-claims t) (expression-at t) expression.Post
 expression-sub-interpolated t c = some-left _ (c .before .before .before .if1 .left)
 
--- src/lib.rt:184:31
 expression-interpolated-requires : (t : ℕ) → expression-lts.Need-interpolated-requires (expression-claims t) (expression-at t) expression.Post
 expression-interpolated-requires t c κs = (arm-falls _ (c .before .before .before .before .if1 .left) (c .before .before .before .before .before .before .before .pre .0), tt)
 
--- src/lib.rt:185:30
 expression-enum-told-5 : (t : ℕ) → expression-lts.Need-enum-told-5 (expression-claims t) (expression-at t) expression.Post
 expression-enum-told-5 t c = search needs
 
--- src/lib.rt:185:30
 expression-sub-array : (t : ℕ) → expression-lts.Need-sub-array (expression-claims t) (expression-at t) expression.Post
 expression-sub-array t c = some-left _ (c .before .before .before .if1 .left)
 
--- src/lib.rt:185:24
 expression-array-requires : (t : ℕ) → expression-lts.Need-array-requires (expression-claims t) (expression-at t) expression.Post
 expression-array-requires t c κs = (arm-falls _ (c .before .before .before .before .if1 .left) (c .before .before .before .before .before .before .before .pre .0), tt)
 
--- src/lib.rt:186:42
 expression-enum-told-6 : (t : ℕ) → expression-lts.Need-enum-told-6 (expression-claims t) (expression-at t) expression.Post
 expression-enum-told-6 t c = search needs
 
--- src/lib.rt:186:27
 expression-variable-requires : (t : ℕ) → expression-lts.Need-variable-requires (expression-claims t) (expression-at t) expression.Post
 expression-variable-requires t c κs = search needs
 
--- src/lib.rt:187:31
 expression-enum-told-7 : (t : ℕ) → expression-lts.Need-enum-told-7 (expression-claims t) (expression-at t) expression.Post
 expression-enum-told-7 t c = search needs
 
--- src/lib.rt:187:52
 expression-position-requires : (t : ℕ) → expression-lts.Need-position-requires (expression-claims t) (expression-at t) expression.Post
 expression-position-requires t c κs = search needs
 
--- src/lib.rt:187:23
 expression-emit-requires-3 : (t : ℕ) → expression-lts.Need-emit-requires-3 (expression-claims t) (expression-at t) expression.Post
 expression-emit-requires-3 t c κs = search needs
 
--- src/lib.rt:188:30
 expression-enum-told-8 : (t : ℕ) → expression-lts.Need-enum-told-8 (expression-claims t) (expression-at t) expression.Post
 expression-enum-told-8 t c = search needs
 
--- src/lib.rt:188:30
 expression-sub-call : (t : ℕ) → expression-lts.Need-sub-call (expression-claims t) (expression-at t) expression.Post
 expression-sub-call t c = some-left _ (c .before .before .before .if1 .left)
 
--- src/lib.rt:188:25
 expression-call-requires : (t : ℕ) → expression-lts.Need-call-requires (expression-claims t) (expression-at t) expression.Post
 expression-call-requires t c κs = (arm-falls _ (c .before .before .before .before .if1 .left) (c .before .before .before .before .before .before .before .pre .0), tt)
 
--- src/lib.rt:189:30
 expression-enum-told-9 : (t : ℕ) → expression-lts.Need-enum-told-9 (expression-claims t) (expression-at t) expression.Post
 expression-enum-told-9 t c = search needs
 
--- src/lib.rt:189:30
 expression-sub-chain : (t : ℕ) → expression-lts.Need-sub-chain (expression-claims t) (expression-at t) expression.Post
 expression-sub-chain t c = some-left _ (c .before .before .before .if1 .left)
 
--- src/lib.rt:189:24
 expression-chain-requires : (t : ℕ) → expression-lts.Need-chain-requires (expression-claims t) (expression-at t) expression.Post
 expression-chain-requires t c κs = (chain-falls _ (c .before .before .before .before .if1 .left) (c .before .before .before .before .before .before .before .pre .0), tt)
 
--- src/lib.rt:190:36
 expression-enum-told-10 : (t : ℕ) → expression-lts.Need-enum-told-10 (expression-claims t) (expression-at t) expression.Post
 expression-enum-told-10 t c = search needs
 
--- src/lib.rt:190:36
 expression-sub-short-circuit : (t : ℕ) → expression-lts.Need-sub-short-circuit (expression-claims t) (expression-at t) expression.Post
 expression-sub-short-circuit t c = some-left _ (c .before .before .before .if1 .left)
 
--- src/lib.rt:190:64
 expression-end-of-requires : (t : ℕ) → expression-lts.Need-end-of-requires (expression-claims t) (expression-at t) expression.Post
 expression-end-of-requires t c κs = search needs
 
--- src/lib.rt:190:22
 expression-short-circuit-requires : (t : ℕ) → expression-lts.Need-short-circuit-requires (expression-claims t) (expression-at t) expression.Post
 expression-short-circuit-requires t c κs = (arm-falls _ (c .before .before .before .before .before .if1 .left) (c .before .before .before .before .before .before .before .before .pre .0), lit< tt)
 
--- src/lib.rt:191:35
 expression-enum-told-11 : (t : ℕ) → expression-lts.Need-enum-told-11 (expression-claims t) (expression-at t) expression.Post
 expression-enum-told-11 t c = search needs
 
--- src/lib.rt:191:35
 expression-sub-short-circuit-2 : (t : ℕ) → expression-lts.Need-sub-short-circuit-2 (expression-claims t) (expression-at t) expression.Post
 expression-sub-short-circuit-2 t c = some-left _ (c .before .before .before .if1 .left)
 
--- src/lib.rt:191:63
 expression-end-of-requires-2 : (t : ℕ) → expression-lts.Need-end-of-requires-2 (expression-claims t) (expression-at t) expression.Post
 expression-end-of-requires-2 t c κs = search needs
 
--- src/lib.rt:191:21
 expression-short-circuit-requires-2 : (t : ℕ) → expression-lts.Need-short-circuit-requires-2 (expression-claims t) (expression-at t) expression.Post
 expression-short-circuit-requires-2 t c κs = (arm-falls _ (c .before .before .before .before .before .if1 .left) (c .before .before .before .before .before .before .before .before .pre .0), lit< tt)
 
--- src/lib.rt:192:36
 expression-enum-told-12 : (t : ℕ) → expression-lts.Need-enum-told-12 (expression-claims t) (expression-at t) expression.Post
 expression-enum-told-12 t c = search needs
 
--- src/lib.rt:192:36
 expression-sub-coalesce : (t : ℕ) → expression-lts.Need-sub-coalesce (expression-claims t) (expression-at t) expression.Post
 expression-sub-coalesce t c = some-left _ (c .before .before .before .if1 .left)
 
--- src/lib.rt:192:61
 expression-end-of-requires-3 : (t : ℕ) → expression-lts.Need-end-of-requires-3 (expression-claims t) (expression-at t) expression.Post
 expression-end-of-requires-3 t c κs = search needs
 
--- src/lib.rt:192:27
 expression-coalesce-requires : (t : ℕ) → expression-lts.Need-coalesce-requires (expression-claims t) (expression-at t) expression.Post
 expression-coalesce-requires t c κs = (arm-falls _ (c .before .before .before .before .before .if1 .left) (c .before .before .before .before .before .before .before .before .pre .0), tt)
 
--- src/lib.rt:193:39
 expression-enum-told-13 : (t : ℕ) → expression-lts.Need-enum-told-13 (expression-claims t) (expression-at t) expression.Post
 expression-enum-told-13 t c = search needs
 
--- src/lib.rt:193:27
 expression-residual-requires-2 : (t : ℕ) → expression-lts.Need-residual-requires-2 (expression-claims t) (expression-at t) expression.Post
 expression-residual-requires-2 t c κs = search needs
 
--- src/lib.rt:173:1
 expression-same-length-2 : (t : ℕ) → expression-lts.Need-same-length-2 (expression-claims t) (expression-at t) expression.Post
 expression-same-length-2 t c = c .before .before .emit .kept .1 .0
 
--- src/lib.rt:173:1
 expression-returns-2 : (t : ℕ) → expression-lts.Need-returns-2 (expression-claims t) (expression-at t) expression.Post
 expression-returns-2 t c = λ C v. arm-boolean _ _ (c .before .before .before .before .before .before .before .before .if1 .left) _ (c .before .before .before .before .before .before .before .rule .ensures) _ (c .before .before .before .before .before .enum-told .given .1) (c .before .before .before .field-a .ensures) (c .before .before .emit .ensures _ tt)
 
--- src/lib.rt:173:1
 expression-same-length-3 : (t : ℕ) → expression-lts.Need-same-length-3 (expression-claims t) (expression-at t) expression.Post
 expression-same-length-3 t c = c .before .before .emit2 .kept .1 .0
 
--- src/lib.rt:173:1
 expression-returns-3 : (t : ℕ) → expression-lts.Need-returns-3 (expression-claims t) (expression-at t) expression.Post
 expression-returns-3 t c = λ C v. arm-unit _ _ (c .before .before .before .before .before .before .before .if1 .left) _ (c .before .before .before .before .before .before .rule .ensures) (c .before .before .before .before .enum-told2 .given .1) (c .before .before .emit2 .ensures _ tt)
 
--- src/lib.rt:173:1
 expression-same-length-4 : (t : ℕ) → expression-lts.Need-same-length-4 (expression-claims t) (expression-at t) expression.Post
 expression-same-length-4 t c = c .before .before .constant .kept .1 .1 .0
 
--- src/lib.rt:173:1
 expression-returns-4 : (t : ℕ) → expression-lts.Need-returns-4 (expression-claims t) (expression-at t) expression.Post
 expression-returns-4 t c = λ C v. arm-constant _ _ (c .before .before .before .before .before .before .before .if1 .left) _ (c .before .before .before .before .before .before .rule .ensures) (c .before .before .before .before .enum-told3 .given .1) (c .before .before .constant .ensures v)
 
--- src/lib.rt:173:1
 expression-same-length-5 : (t : ℕ) → expression-lts.Need-same-length-5 (expression-claims t) (expression-at t) expression.Post
 expression-same-length-5 t c = c .before .before .interpolated .kept .1 .1 .1 .0
 
--- src/lib.rt:173:1
 expression-returns-5 : (t : ℕ) → expression-lts.Need-returns-5 (expression-claims t) (expression-at t) expression.Post
 expression-returns-5 t c = λ C v. arm-interpolated _ _ (c .before .before .before .before .before .before .before .if1 .left) _ (c .before .before .before .before .before .before .rule .ensures) (c .before .before .before .before .enum-told4 .given .1) (c .before .before .interpolated .ensures C v)
 
--- src/lib.rt:173:1
 expression-same-length-6 : (t : ℕ) → expression-lts.Need-same-length-6 (expression-claims t) (expression-at t) expression.Post
 expression-same-length-6 t c = c .before .before .array .kept .1 .1 .1 .0
 
--- src/lib.rt:173:1
 expression-returns-6 : (t : ℕ) → expression-lts.Need-returns-6 (expression-claims t) (expression-at t) expression.Post
 expression-returns-6 t c = λ C v. arm-array _ _ (c .before .before .before .before .before .before .before .if1 .left) _ (c .before .before .before .before .before .before .rule .ensures) (c .before .before .before .before .enum-told5 .given .1) (c .before .before .array .ensures C v)
 
--- src/lib.rt:173:1
 expression-same-length-7 : (t : ℕ) → expression-lts.Need-same-length-7 (expression-claims t) (expression-at t) expression.Post
 expression-same-length-7 t c = c .before .before .variable .kept .1 .1 .0
 
--- src/lib.rt:173:1
 expression-returns-7 : (t : ℕ) → expression-lts.Need-returns-7 (expression-claims t) (expression-at t) expression.Post
 expression-returns-7 t c = λ C v. arm-variable _ _ (c .before .before .before .before .before .before .before .if1 .left) _ (c .before .before .before .before .before .before .rule .ensures) (c .before .before .before .before .enum-told6 .given .1) (λ p. c .before .before .variable .ensures p v)
 
--- src/lib.rt:173:1
 expression-same-length-8 : (t : ℕ) → expression-lts.Need-same-length-8 (expression-claims t) (expression-at t) expression.Post
 expression-same-length-8 t c = c .before .before .emit3 .kept .1 .0
 
--- src/lib.rt:173:1
 expression-returns-8 : (t : ℕ) → expression-lts.Need-returns-8 (expression-claims t) (expression-at t) expression.Post
 expression-returns-8 t c = λ C v. arm-this _ _ (c .before .before .before .before .before .before .before .before .if1 .left) _ (c .before .before .before .before .before .before .before .rule .ensures) _ (c .before .before .before .before .before .enum-told7 .given .1) (c .before .before .before .position .ensures) (c .before .before .emit3 .ensures _ tt)
 
--- src/lib.rt:173:1
 expression-same-length-9 : (t : ℕ) → expression-lts.Need-same-length-9 (expression-claims t) (expression-at t) expression.Post
 expression-same-length-9 t c = c .before .before .call .kept .1 .1 .1 .0
 
--- src/lib.rt:173:1
 expression-returns-9 : (t : ℕ) → expression-lts.Need-returns-9 (expression-claims t) (expression-at t) expression.Post
 expression-returns-9 t c = λ C v. arm-call _ _ (c .before .before .before .before .before .before .before .if1 .left) _ (c .before .before .before .before .before .before .rule .ensures) (c .before .before .before .before .enum-told8 .given .1) (c .before .before .call .ensures C v)
 
--- src/lib.rt:173:1
 expression-same-length-10 : (t : ℕ) → expression-lts.Need-same-length-10 (expression-claims t) (expression-at t) expression.Post
 expression-same-length-10 t c = c .before .before .chain .kept .1 .1 .1 .0
 
--- src/lib.rt:173:1
 expression-returns-10 : (t : ℕ) → expression-lts.Need-returns-10 (expression-claims t) (expression-at t) expression.Post
 expression-returns-10 t c = λ C v. arm-chain _ _ (c .before .before .before .before .before .before .before .if1 .left) _ (c .before .before .before .before .before .before .rule .ensures) C v (c .before .before .before .before .enum-told9 .given .1) (c .before .before .chain .ensures C)
 
--- src/lib.rt:173:1
 expression-same-length-11 : (t : ℕ) → expression-lts.Need-same-length-11 (expression-claims t) (expression-at t) expression.Post
 expression-same-length-11 t c = c .before .before .short-circuit .kept .1 .1 .1 .0
 
--- src/lib.rt:173:1
 expression-returns-11 : (t : ℕ) → expression-lts.Need-returns-11 (expression-claims t) (expression-at t) expression.Post
 expression-returns-11 t c = λ C v. arm-and _ _ (c .before .before .before .before .before .before .before .before .if1 .left) _ (c .before .before .before .before .before .before .before .rule .ensures) _ (λ a h f. c .before .before .before .end-of .ensures ∙ end-right _ _ h f) (c .before .before .before .before .before .enum-told10 .given .1) (c .before .before .short-circuit .ensures C v)
 
--- src/lib.rt:173:1
 expression-same-length-12 : (t : ℕ) → expression-lts.Need-same-length-12 (expression-claims t) (expression-at t) expression.Post
 expression-same-length-12 t c = c .before .before .short-circuit2 .kept .1 .1 .1 .0
 
--- src/lib.rt:173:1
 expression-returns-12 : (t : ℕ) → expression-lts.Need-returns-12 (expression-claims t) (expression-at t) expression.Post
 expression-returns-12 t c = λ C v. arm-or _ _ (c .before .before .before .before .before .before .before .before .if1 .left) _ (c .before .before .before .before .before .before .before .rule .ensures) _ (λ a h f. c .before .before .before .end-of2 .ensures ∙ end-right _ _ h f) (c .before .before .before .before .before .enum-told11 .given .1) (c .before .before .short-circuit2 .ensures C v)
 
--- src/lib.rt:173:1
 expression-same-length-13 : (t : ℕ) → expression-lts.Need-same-length-13 (expression-claims t) (expression-at t) expression.Post
 expression-same-length-13 t c = c .before .before .coalesce .kept .1 .1 .1 .0
 
--- src/lib.rt:173:1
 expression-returns-13 : (t : ℕ) → expression-lts.Need-returns-13 (expression-claims t) (expression-at t) expression.Post
 expression-returns-13 t c = λ C v. arm-coalesce _ _ (c .before .before .before .before .before .before .before .before .if1 .left) _ (c .before .before .before .before .before .before .before .rule .ensures) _ (λ a h f. c .before .before .before .end-of3 .ensures ∙ end-right _ _ h f) C v (c .before .before .before .before .before .enum-told12 .given .1) (c .before .before .coalesce .ensures C v)
 
--- src/lib.rt:173:1
 expression-same-length-14 : (t : ℕ) → expression-lts.Need-same-length-14 (expression-claims t) (expression-at t) expression.Post
 expression-same-length-14 t c = c .before .before .residual2 .kept .1 .0
 
--- src/lib.rt:173:1
 expression-returns-14 : (t : ℕ) → expression-lts.Need-returns-14 (expression-claims t) (expression-at t) expression.Post
 expression-returns-14 t c = λ C v. arm-residual _ _ (c .before .before .before .before .before .before .before .if1 .left) _ (c .before .before .before .before .before .before .rule .ensures) (c .before .before .before .before .enum-told13 .given .1) (c .before .before .residual2 .ensures _)
 
--- src/lib.rt:89:9
 interpolated-emit-requires : (t : ℕ) → interpolated-lts.Need-emit-requires (interpolated-claims t) (interpolated-at t) interpolated.Post
 interpolated-emit-requires t c κs = search needs
 
--- src/lib.rt:90:57
 interpolated-count-requires : (t : ℕ) → interpolated-lts.Need-count-requires (interpolated-claims t) (interpolated-at t) interpolated.Post
 interpolated-count-requires t c κs = search needs
 
--- src/lib.rt:90:70
 interpolated-child-requires : (t : ℕ) → interpolated-lts.Need-child-requires (interpolated-claims t) (interpolated-at t) interpolated.Post
 interpolated-child-requires t c κs = search needs
 
--- src/lib.rt:90:9
 interpolated-siblings-requires : (t : ℕ) → interpolated-lts.Need-siblings-requires (interpolated-claims t) (interpolated-at t) interpolated.Post
 interpolated-siblings-requires t c κs = (sibling-falls _ (c .before .before .before .before .before .before .before .before .before .pre .0), tt)
 
--- src/lib.rt:91:5
 interpolated-emit-requires-2 : (t : ℕ) → interpolated-lts.Need-emit-requires-2 (interpolated-claims t) (interpolated-at t) interpolated.Post
 interpolated-emit-requires-2 t c κs = search needs
 
--- src/lib.rt:86:1
 interpolated-same-length : (t : ℕ) → interpolated-lts.Need-same-length (interpolated-claims t) (interpolated-at t) interpolated.Post
 interpolated-same-length t c = c .before .before .emit2 .kept .1 .0 ∙ c .before .before .before .before .before .before .siblings .kept .1 .1 .1 .0 ∙ c .before .before .before .before .before .before .before .before .before .before .before .before .emit .kept .1 .0
 
--- src/lib.rt:86:1
 interpolated-returns : (t : ℕ) → interpolated-lts.Need-returns (interpolated-claims t) (interpolated-at t) interpolated.Post
 interpolated-returns t c = λ C v. interpolated-does _ _ _ _ C v (c .before .before .before .before .before .before .before .before .count .ensures) (c .before .before .before .before .before .before .before .child .ensures) (c .before .before .before .before .before .before .before .before .before .before .before .before .emit .ensures _ tt) (c .before .before .before .before .before .before .siblings .ensures) (c .before .before .emit2 .ensures _ tt)
 
--- src/lib.rt:101:13
 short-circuit-one-less-requires : (t : ℕ) → short-circuit-lts.Need-one-less-requires (short-circuit-claims t) (short-circuit-at t) short-circuit.Post
 short-circuit-one-less-requires t c κs = search needs
 
--- src/lib.rt:103:47
 short-circuit-count-requires : (t : ℕ) → short-circuit-lts.Need-count-requires (short-circuit-claims t) (short-circuit-at t) short-circuit.Post
 short-circuit-count-requires t c κs = search needs
 
--- src/lib.rt:103:60
 short-circuit-child-requires : (t : ℕ) → short-circuit-lts.Need-child-requires (short-circuit-claims t) (short-circuit-at t) short-circuit.Post
 short-circuit-child-requires t c κs = search needs
 
--- src/lib.rt:103:9
 short-circuit-siblings-requires : (t : ℕ) → short-circuit-lts.Need-siblings-requires (short-circuit-claims t) (short-circuit-at t) short-circuit.Post
 short-circuit-siblings-requires t c κs = (sibling-falls _ (c .before .before .before .before .before .before .pre .0), tt)
 
--- src/lib.rt:104:5
 short-circuit-verdict-requires : (t : ℕ) → short-circuit-lts.Need-verdict-requires (short-circuit-claims t) (short-circuit-at t) short-circuit.Post
 short-circuit-verdict-requires t c κs = c .before .before .before .before .before .before .before .before .before .before .pre .1
 
--- src/lib.rt:95:1
 short-circuit-same-length : (t : ℕ) → short-circuit-lts.Need-same-length (short-circuit-claims t) (short-circuit-at t) short-circuit.Post
 short-circuit-same-length t c = c .before .before .verdict .kept .1 .0 ∙ c .before .before .before .before .before .before .siblings .kept .1 .1 .1 .0
 
--- src/lib.rt:95:1
 short-circuit-returns : (t : ℕ) → short-circuit-lts.Need-returns (short-circuit-claims t) (short-circuit-at t) short-circuit.Post
 short-circuit-returns t c = λ C v. short-does _ _ _ _ _ _ _ C v (c .before .before .before .before .before .before .before .before .before .before .one-less .ensures) (c .before .before .before .before .before .before .before .before .count .ensures) (c .before .before .before .before .before .before .before .child .ensures) (c .before .before .before .before .before .before .siblings .ensures) (c .before .before .verdict .ensures _)
 
@@ -717,43 +592,33 @@ siblings-Inv-loop levels s l x₀ by n from q₀ i₀ j₀ x q i j = (i ≤ n) �
 abbrev siblings-μ-loop : siblings-lts.MeasureT-loop
 siblings-μ-loop levels s l x₀ by n from q₀ i₀ j₀ x q i j = n - i
 
--- src/lib.rt:64:5
 siblings-loop-holds : (t : ℕ) → siblings-lts.Need-loop-holds (siblings-claims t) (siblings-at t) siblings.Post siblings-Inv-loop siblings-μ-loop
 siblings-loop-holds t c = (omega arith, refl, skip-first _ _, λ C R. rows-start _ _ 0 _ _ _)
 
--- src/lib.rt:65:13
 siblings-expression-requires : (t : ℕ) → siblings-lts.Need-expression-requires (siblings-claims t) (siblings-at t) siblings.Post siblings-Inv-loop siblings-μ-loop
 siblings-expression-requires t c κs = (one-falls _ (c .before .before .before .before .before .pre .0), tt)
 
--- src/lib.rt:66:39
 siblings-position-requires : (t : ℕ) → siblings-lts.Need-position-requires (siblings-claims t) (siblings-at t) siblings.Post siblings-Inv-loop siblings-μ-loop
 siblings-position-requires t c κs = search needs
 
--- src/lib.rt:66:9
 siblings-after-one-requires : (t : ℕ) → siblings-lts.Need-after-one-requires (siblings-claims t) (siblings-at t) siblings.Post siblings-Inv-loop siblings-μ-loop
 siblings-after-one-requires t c κs = search needs
 
--- src/lib.rt:67:9
 siblings-next-requires : (t : ℕ) → siblings-lts.Need-next-requires (siblings-claims t) (siblings-at t) siblings.Post siblings-Inv-loop siblings-μ-loop
 siblings-next-requires t c κs = search needs
 
--- src/lib.rt:68:9
 siblings-add-i : (t : ℕ) → siblings-lts.Need-add-i (siblings-claims t) (siblings-at t) siblings.Post siblings-Inv-loop siblings-μ-loop
 siblings-add-i t c = omega arith
 
--- src/lib.rt:64:5
 siblings-loop-less : (t : ℕ) → siblings-lts.Need-loop-less (siblings-claims t) (siblings-at t) siblings.Post siblings-Inv-loop siblings-μ-loop
 siblings-loop-less t c = omega arith
 
--- src/lib.rt:64:5
 siblings-loop-again : (t : ℕ) → siblings-lts.Need-loop-again (siblings-claims t) (siblings-at t) siblings.Post siblings-Inv-loop siblings-μ-loop
 siblings-loop-again t c = let w = c .before .before .before .before .before .before .before .before .before .before .before .loop in (omega arith, c .before .before .before .after-one .kept .1 .0 ∙ c .before .before .before .before .before .before .before .before .expression .kept .1 .1 .1 .0 ∙ w .inv .1, skip-more _ _ _ _ _ (w .inv .2) (c .next .ensures), λ C R. rows-more _ _ _ _ _ _ _ (c .before .before .before .before .before .before .before .before .before .before .loop-test .taken) (w .inv .2) (c .before .before .before .before .position .ensures) R (w .inv .3 C R) (λ u. c .before .before .before .before .before .before .before .before .expression .ensures C u) (c .before .before .before .after-one .ensures _))
 
--- src/lib.rt:58:1
 siblings-same-length : (t : ℕ) → siblings-lts.Need-same-length (siblings-claims t) (siblings-at t) siblings.Post siblings-Inv-loop siblings-μ-loop
 siblings-same-length t c = c .before .loop .inv .1
 
--- src/lib.rt:58:1
 siblings-returns : (t : ℕ) → siblings-lts.Need-returns (siblings-claims t) (siblings-at t) siblings.Post siblings-Inv-loop siblings-μ-loop
 siblings-returns t c = let w = c .before .loop in λ C R. rows-done _ _ _ _ _ (w .inv .0) (c .loop-test .left) (w .inv .3 C R)
 
@@ -763,83 +628,63 @@ walk-Inv-loop levels s l x₀ j q₀ left₀ c₀ x q left c = (left ≤ maxDept
 abbrev walk-μ-loop : walk-lts.MeasureT-loop
 walk-μ-loop levels s l x₀ j q₀ left₀ c₀ x q left c = left
 
--- src/lib.rt:134:5
 walk-loop-holds : (t : ℕ) → walk-lts.Need-loop-holds (walk-claims t) (walk-at t) walk.Post walk-Inv-loop walk-μ-loop
 walk-loop-holds t c = (omega arith, refl, λ C L. walk-starts _ _ _ _ L)
 
--- src/lib.rt:135:13
 walk-link-of-requires : (t : ℕ) → walk-lts.Need-link-of-requires (walk-claims t) (walk-at t) walk.Post walk-Inv-loop walk-μ-loop
 walk-link-of-requires t c κs = search needs
 
--- src/lib.rt:137:28
 walk-enum-known-k : (t : ℕ) → walk-lts.Need-enum-known-k (walk-claims t) (walk-at t) walk.Post walk-Inv-loop walk-μ-loop
 walk-enum-known-k t c = search needs
 
--- src/lib.rt:138:21
 walk-siblings-requires : (t : ℕ) → walk-lts.Need-siblings-requires (walk-claims t) (walk-at t) walk.Post walk-Inv-loop walk-μ-loop
 walk-siblings-requires t c κs = (sibling-falls _ (c .before .before .before .before .before .before .before .before .before .pre .0), tt)
 
--- src/lib.rt:139:17
 walk-step-names-requires : (t : ℕ) → walk-lts.Need-step-names-requires (walk-claims t) (walk-at t) walk.Post walk-Inv-loop walk-μ-loop
 walk-step-names-requires t c κs = search needs
 
--- src/lib.rt:140:20
 walk-goes-on-requires : (t : ℕ) → walk-lts.Need-goes-on-requires (walk-claims t) (walk-at t) walk.Post walk-Inv-loop walk-μ-loop
 walk-goes-on-requires t c κs = search needs
 
--- src/lib.rt:141:21
 walk-rest-of-requires : (t : ℕ) → walk-lts.Need-rest-of-requires (walk-claims t) (walk-at t) walk.Post walk-Inv-loop walk-μ-loop
 walk-rest-of-requires t c κs = search needs
 
--- src/lib.rt:142:21
 walk-sub-left : (t : ℕ) → walk-lts.Need-sub-left (walk-claims t) (walk-at t) walk.Post walk-Inv-loop walk-μ-loop
 walk-sub-left t c = omega arith
 
--- src/lib.rt:134:5
 walk-loop-less : (t : ℕ) → walk-lts.Need-loop-less (walk-claims t) (walk-at t) walk.Post walk-Inv-loop walk-μ-loop
 walk-loop-less t c = omega arith
 
--- src/lib.rt:134:5
 walk-loop-again : (t : ℕ) → walk-lts.Need-loop-again (walk-claims t) (walk-at t) walk.Post walk-Inv-loop walk-μ-loop
 walk-loop-again t c = let w = c .before .before .before .before .before .before .before .before .before .before .before .before .before .before .before .before .loop in (omega arith, c .before .before .before .before .before .step-names .kept .1 .1 .0 ∙ c .before .before .before .before .before .before .before .before .before .siblings .kept .1 .1 .1 .0 ∙ w .inv .1, λ C L. walk-on _ _ _ _ _ _ C (w .inv .2 C L) (sym (c .before .before .before .before .before .before .before .before .before .before .before .before .before .before .link-of .ensures) ∙ c .before .before .before .before .before .before .before .before .before .before .before .before .k .given .1) (c .before .before .before .before .before .before .before .before .before .siblings .ensures) (c .before .before .before .before .before .step-names .ensures) _ (c .rest-of .ensures) (c .before .before .before .before .before .before .before .before .before .before .before .before .before .before .before .loop-test .taken) (sym (c .before .before .goes-on .ensures) ∙ c .before .if1 .taken))
 
--- src/lib.rt:144:21
 walk-same-length : (t : ℕ) → walk-lts.Need-same-length (walk-claims t) (walk-at t) walk.Post walk-Inv-loop walk-μ-loop
 walk-same-length t c = let w = c .before .before .before .before .before .before .before .before .before .before .before .before .before .before .before .loop in c .before .before .before .before .step-names .kept .1 .1 .0 ∙ c .before .before .before .before .before .before .before .before .siblings .kept .1 .1 .1 .0 ∙ w .inv .1
 
--- src/lib.rt:144:21
 walk-returns : (t : ℕ) → walk-lts.Need-returns (walk-claims t) (walk-at t) walk.Post walk-Inv-loop walk-μ-loop
 walk-returns t c = let w = c .before .before .before .before .before .before .before .before .before .before .before .before .before .before .before .loop in λ C L. walk-ends _ _ _ _ _ _ C (w .inv .2 C L) (sym (c .before .before .before .before .before .before .before .before .before .before .before .before .before .link-of .ensures) ∙ c .before .before .before .before .before .before .before .before .before .before .before .k .given .1) (c .before .before .before .before .before .before .before .before .siblings .ensures) (c .before .before .before .before .step-names .ensures) (c .before .before .before .before .before .before .before .before .before .before .before .before .before .before .loop-test .taken) (sym (c .before .goes-on .ensures) ∙ c .if1 .left)
 
--- src/lib.rt:147:28
 walk-enum-told : (t : ℕ) → walk-lts.Need-enum-told (walk-claims t) (walk-at t) walk.Post walk-Inv-loop walk-μ-loop
 walk-enum-told t c = search needs
 
--- src/lib.rt:147:28
 walk-same-length-2 : (t : ℕ) → walk-lts.Need-same-length-2 (walk-claims t) (walk-at t) walk.Post walk-Inv-loop walk-μ-loop
 walk-same-length-2 t c = c .before .before .before .before .loop .inv .1
 
--- src/lib.rt:147:28
 walk-returns-2 : (t : ℕ) → walk-lts.Need-returns-2 (walk-claims t) (walk-at t) walk.Post walk-Inv-loop walk-μ-loop
 walk-returns-2 t c = let w = c .before .before .before .before .loop in λ C L. walk-fails _ _ _ _ (w .inv .2 C L) (c .before .before .before .loop-test .taken) (link-fails _ _ (sym (c .before .before .link-of .ensures) ∙ c .enum-told .given .1))
 
--- src/lib.rt:148:30
 walk-enum-told-2 : (t : ℕ) → walk-lts.Need-enum-told-2 (walk-claims t) (walk-at t) walk.Post walk-Inv-loop walk-μ-loop
 walk-enum-told-2 t c = search needs
 
--- src/lib.rt:148:30
 walk-same-length-3 : (t : ℕ) → walk-lts.Need-same-length-3 (walk-claims t) (walk-at t) walk.Post walk-Inv-loop walk-μ-loop
 walk-same-length-3 t c = c .before .before .before .before .loop .inv .1
 
--- src/lib.rt:148:30
 walk-returns-3 : (t : ℕ) → walk-lts.Need-returns-3 (walk-claims t) (walk-at t) walk.Post walk-Inv-loop walk-μ-loop
 walk-returns-3 t c = let w = c .before .before .before .before .loop in λ C L. walk-fails _ _ _ _ (w .inv .2 C L) (c .before .before .before .loop-test .taken) (link-nowhere _ _ (sym (c .before .before .link-of .ensures) ∙ c .enum-told2 .given .1))
 
--- src/lib.rt:128:1
 walk-same-length-4 : (t : ℕ) → walk-lts.Need-same-length-4 (walk-claims t) (walk-at t) walk.Post walk-Inv-loop walk-μ-loop
 walk-same-length-4 t c = c .before .loop .inv .1
 
--- src/lib.rt:128:1
 walk-returns-4 : (t : ℕ) → walk-lts.Need-returns-4 (walk-claims t) (walk-at t) walk.Post walk-Inv-loop walk-μ-loop
 walk-returns-4 t c = let w = c .before .loop in λ C L. walk-done _ _ _ _ (w .inv .2 C L) (c .loop-test .left)
 

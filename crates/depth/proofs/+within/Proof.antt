@@ -38,55 +38,43 @@ within-Inv-loop left s n m i₀ j₀ i j = (i ≤ m) × (siblings (depths.within
 abbrev within-μ-loop : within-lts.MeasureT-loop
 within-μ-loop left s n m i₀ j₀ i j = m - i
 
--- src/lib.rt:13:9
 within-returns : (t : ℕ) → within-lts.Need-returns (within-claims t) (within-at t) within.Post within-Inv-loop within-μ-loop
 within-returns t c = let a = c .before .before .args in cc (within-none (a .left) (a .s .now) (a .n) (c .if1 .taken))
 
--- src/lib.rt:15:9
 within-count-requires : (t : ℕ) → within-lts.Need-count-requires (within-claims t) (within-at t) within.Post within-Inv-loop within-μ-loop
 within-count-requires t c κs = search needs
 
--- src/lib.rt:17:9
 within-child-requires : (t : ℕ) → within-lts.Need-child-requires (within-claims t) (within-at t) within.Post within-Inv-loop within-μ-loop
 within-child-requires t c κs = search needs
 
--- src/lib.rt:18:5
 within-loop-holds : (t : ℕ) → within-lts.Need-loop-holds (within-claims t) (within-at t) within.Post within-Inv-loop within-μ-loop
 within-loop-holds t c = let a = c .before .before .before .before .args in (omega arith, cc (within-some (a .left) (a .s .now) (a .n) (c .before .before .if1 .left), sub-zero (c .before .count .result)))
 
--- src/lib.rt:19:19
 within-sub-within : (t : ℕ) → within-lts.Need-sub-within (within-claims t) (within-at t) within.Post within-Inv-loop within-μ-loop
 within-sub-within t c = omega arith
 
--- src/lib.rt:19:12
 within-within-requires : (t : ℕ) → within-lts.Need-within-requires (within-claims t) (within-at t) within.Post within-Inv-loop within-μ-loop
 within-within-requires t c κs = omega arith
 
--- src/lib.rt:20:13
 within-next-requires : (t : ℕ) → within-lts.Need-next-requires (within-claims t) (within-at t) within.Post within-Inv-loop within-μ-loop
 within-next-requires t c κs = search needs
 
--- src/lib.rt:21:13
 within-add-i : (t : ℕ) → within-lts.Need-add-i (within-claims t) (within-at t) within.Post within-Inv-loop within-μ-loop
 within-add-i t c = search needs
 
--- src/lib.rt:18:5
 within-loop-less : (t : ℕ) → within-lts.Need-loop-less (within-claims t) (within-at t) within.Post within-Inv-loop within-μ-loop
 within-loop-less t c = search needs
 
--- src/lib.rt:18:5
 within-loop-again : (t : ℕ) → within-lts.Need-loop-again (within-claims t) (within-at t) within.Post within-Inv-loop within-μ-loop
 within-loop-again t c = let a = c .before .before .before .before .before .before .before .before .before .args in
     let l = c .before .before .before .before .loop in
     (omega arith, cc (siblings-more (depths.within (a .left - 1) (a .s .now)) (a .s .now) (c .before .before .before .before .before .before .count .result) (l .i) (l .j) (c .before .before .before .loop-test .taken) (cc)))
 
--- src/lib.rt:23:13
 within-returns-2 : (t : ℕ) → within-lts.Need-returns-2 (within-claims t) (within-at t) within.Post within-Inv-loop within-μ-loop
 within-returns-2 t c = let a = c .before .before .before .before .before .before .before .before .args in
     let l = c .before .before .before .loop in
     cc (siblings-fail (depths.within (a .left - 1) (a .s .now)) (a .s .now) (c .before .before .before .before .before .count .result) (l .i) (l .j) (c .before .before .loop-test .taken) (cc))
 
--- src/lib.rt:9:1
 within-returns-3 : (t : ℕ) → within-lts.Need-returns-3 (within-claims t) (within-at t) within.Post within-Inv-loop within-μ-loop
 within-returns-3 t c = let a = c .before .before .before .before .before .before .args in
     let l = c .before .loop in

@@ -7,11 +7,9 @@ use Rattle.depth.proofs.depth_ok.Reads as reads
 use Rattle.depth.proofs.depth_ok.Lts as lts
 use Rattle.depth.proofs.within.Reads as within-reads
 
--- src/lib.rt:33:5
 within-requires : tie.Need-within-requires
 within-requires c κs = search needs
 
--- src/lib.rt:30:1
 returns : tie.Need-returns
 unfolding depthOk
 returns c = cc

@@ -17,35 +17,27 @@ Inv-loop buf₀ most same₀ i₀ buf same i = (i ≤ most) × (same ≤ i) × (
 abbrev μ-loop : tie.MeasureT-loop
 μ-loop buf₀ most same₀ i₀ buf same i = most - i
 
--- src/main.rt:46:5
 loop-holds : tie.Need-loop-holds Inv-loop μ-loop
 loop-holds c = search needs
 
--- src/main.rt:47:12
 compare-one-requires : tie.Need-compare-one-requires Inv-loop μ-loop
 compare-one-requires c κs = search needs
 
--- src/main.rt:48:13
 add-same : tie.Need-add-same Inv-loop μ-loop
 add-same c = search needs
 
--- src/main.rt:50:9
 add-i : tie.Need-add-i Inv-loop μ-loop
 add-i c = search needs
 
--- src/main.rt:46:5
 loop-less : tie.Need-loop-less Inv-loop μ-loop
 loop-less c = search needs
 
--- src/main.rt:46:5
 loop-again : tie.Need-loop-again Inv-loop μ-loop
 loop-again c = ⊎-elim (λ w. (omega arith, omega arith, c .before .before .before .compare-one .kept .0 ∙ c .before .before .before .before .before .before .loop .inv .2)) (λ w. (omega arith, omega arith, c .before .before .before .compare-one .kept .0 ∙ c .before .before .before .before .before .before .loop .inv .2)) (c .if1 .came)
 
--- src/main.rt:41:1
 same-length : tie.Need-same-length Inv-loop μ-loop
 same-length c = c .before .loop .inv .2
 
--- src/main.rt:41:1
 returns : tie.Need-returns Inv-loop μ-loop
 returns c = search needs
 

@@ -9,23 +9,18 @@ use Rattle.replay.proofs.agrees.Lts as lts
 use Rattle.checks.proofs.check.Reads as check-reads
 use Rattle.checks.proofs.number.Reads as number-reads
 
--- src/main.rt:16:45
 slice-aggregate-check : tie.Need-slice-aggregate-check
 slice-aggregate-check c = sym (length-take-le (c .before .before .before .args .len) (c .before .before .before .args .buf .now) (c .before .if1 .taken))
 
--- src/main.rt:16:31
 check-requires : tie.Need-check-requires
 check-requires c κs = search needs
 
--- src/main.rt:16:16
 number-requires : tie.Need-number-requires
 number-requires c κs = search needs
 
--- src/main.rt:16:9
 returns : tie.Need-returns
 returns c = search needs
 
--- src/main.rt:14:1
 returns-2 : tie.Need-returns-2
 returns-2 c = search needs
 

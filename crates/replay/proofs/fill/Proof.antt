@@ -8,27 +8,21 @@ use Rattle.replay.proofs.fill.Reads as reads
 use Rattle.replay.proofs.fill.Lts as lts
 use Rattle.io.proofs.read_full.Reads as read-full-reads
 
--- src/main.rt:8:44
 slice-relend-prefix-read-full : tie.Need-slice-relend-prefix-read-full
 slice-relend-prefix-read-full c = search needs
 
--- src/main.rt:8:44
 slice-aggregate-read-full : tie.Need-slice-aggregate-read-full
 slice-aggregate-read-full c = sym (length-take-le (c .before .before .before .args .n) (c .before .before .before .args .buf .now) (c .before .if1 .taken))
 
--- src/main.rt:8:16
 read-full-requires : tie.Need-read-full-requires
 read-full-requires c κs = search needs
 
--- src/main.rt:8:9
 same-length : tie.Need-same-length
 same-length c = search needs
 
--- src/main.rt:8:9
 returns : tie.Need-returns
 returns c = search needs
 
--- src/main.rt:6:1
 returns-2 : tie.Need-returns-2
 returns-2 c = search needs
 

@@ -34,31 +34,24 @@ start-within-below t =
 abbrev start-within-claims : ℕ → start-within-lts.Claims
 start-within-claims t = (kind-reads.Asked, kind-reads.Learnt, position-reads.Asked, position-reads.Learnt, child-reads.Asked, child-reads.Learnt, start-within-below t, start-within.Post)
 
--- src/lib.rt:159:9
 start-within-kind-requires : (t : ℕ) → start-within-lts.Need-kind-requires (start-within-claims t) (start-within-at t) start-within.Post
 start-within-kind-requires t c κs = search needs
 
--- src/lib.rt:161:9
 start-within-position-requires : (t : ℕ) → start-within-lts.Need-position-requires (start-within-claims t) (start-within-at t) start-within.Post
 start-within-position-requires t c κs = search needs
 
--- src/lib.rt:161:9
 start-within-returns : (t : ℕ) → start-within-lts.Need-returns (start-within-claims t) (start-within-at t) start-within.Post
 start-within-returns t c = cc (start-spent (c .before .before .before .before .args .left) (c .before .before .before .before .args .s .now) (c .before .before .before .before .args .n) (c .before .if1 .taken))
 
--- src/lib.rt:164:29
 start-within-sub-start-within : (t : ℕ) → start-within-lts.Need-sub-start-within (start-within-claims t) (start-within-at t) start-within.Post
 start-within-sub-start-within t c = omega arith
 
--- src/lib.rt:164:42
 start-within-child-requires : (t : ℕ) → start-within-lts.Need-child-requires (start-within-claims t) (start-within-at t) start-within.Post
 start-within-child-requires t c κs = search needs
 
--- src/lib.rt:164:9
 start-within-start-within-requires : (t : ℕ) → start-within-lts.Need-start-within-requires (start-within-claims t) (start-within-at t) start-within.Post
 start-within-start-within-requires t c κs = omega arith
 
--- src/lib.rt:164:9
 start-within-returns-2 : (t : ℕ) → start-within-lts.Need-returns-2 (start-within-claims t) (start-within-at t) start-within.Post
 start-within-returns-2 t c =
     let a = c .before .before .before .before .before .before .args in
@@ -66,11 +59,9 @@ start-within-returns-2 t c =
     (start-inside (a .left) (a .s .now) (a .n) (c .before .before .before .if1 .left)
     (ap startsInside (sym (c .before .before .before .before .kind .ensures)) ∙ c .before .before .if2 .taken))
 
--- src/lib.rt:166:5
 start-within-position-requires-2 : (t : ℕ) → start-within-lts.Need-position-requires-2 (start-within-claims t) (start-within-at t) start-within.Post
 start-within-position-requires-2 t c κs = search needs
 
--- src/lib.rt:156:1
 start-within-returns-3 : (t : ℕ) → start-within-lts.Need-returns-3 (start-within-claims t) (start-within-at t) start-within.Post
 start-within-returns-3 t c =
     let a = c .before .before .before .before .before .args in

@@ -7,11 +7,9 @@ use Rattle.sheet.proofs.child.Reads as reads
 use Rattle.sheet.proofs.child.Lts as lts
 use Rattle.std.proofs.num.wrapping_add_u32.Reads as wrapping-add-u32-reads
 
--- src/lib.rt:132:5
 wrapping-add-u32-requires : tie.Need-wrapping-add-u32-requires
 wrapping-add-u32-requires c κs = search needs
 
--- src/lib.rt:129:1
 returns : tie.Need-returns
 unfolding child
 returns c = search needs

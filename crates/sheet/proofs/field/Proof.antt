@@ -7,23 +7,18 @@ use Rattle.sheet.proofs.field.Reads as reads
 use Rattle.sheet.proofs.field.Lts as lts
 use Rattle.words.proofs.word_at.Reads as word-at-reads
 
--- src/lib.rt:75:31
 mul-word-at : tie.Need-mul-word-at
 mul-word-at c = search needs
 
--- src/lib.rt:75:16
 add-word-at : tie.Need-add-word-at
 add-word-at c = search needs
 
--- src/lib.rt:75:16
 add-word-at-2 : tie.Need-add-word-at-2
 add-word-at-2 c = search needs
 
--- src/lib.rt:75:5
 word-at-requires : tie.Need-word-at-requires
 word-at-requires c κs = search needs
 
--- src/lib.rt:72:1
 returns : tie.Need-returns
 unfolding field
 returns c = search needs

@@ -8,19 +8,15 @@ use Rattle.sheet.proofs.local_text.Lts as lts
 use Rattle.sheet.proofs.locals_at.Reads as locals-at-reads
 use Rattle.words.proofs.word_at.Reads as word-at-reads
 
--- src/lib.rt:125:16
 locals-at-requires : tie.Need-locals-at-requires
 locals-at-requires c κs = search needs
 
--- src/lib.rt:125:16
 add-word-at : tie.Need-add-word-at
 add-word-at c = search needs
 
--- src/lib.rt:125:5
 word-at-requires : tie.Need-word-at-requires
 word-at-requires c κs = search needs
 
--- src/lib.rt:122:1
 returns : tie.Need-returns
 unfolding localText
 returns c = cc

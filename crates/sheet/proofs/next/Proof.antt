@@ -8,15 +8,12 @@ use Rattle.sheet.proofs.next.Lts as lts
 use Rattle.sheet.proofs.span.Reads as span-reads
 use Rattle.std.proofs.num.wrapping_add_u32.Reads as wrapping-add-u32-reads
 
--- src/lib.rt:139:35
 span-requires : tie.Need-span-requires
 span-requires c κs = search needs
 
--- src/lib.rt:139:5
 wrapping-add-u32-requires : tie.Need-wrapping-add-u32-requires
 wrapping-add-u32-requires c κs = search needs
 
--- src/lib.rt:136:1
 returns : tie.Need-returns
 unfolding next
 returns c = search needs

@@ -8,19 +8,15 @@ use Rattle.sheet.proofs.position.Lts as lts
 use Rattle.sheet.proofs.positions_at.Reads as positions-at-reads
 use Rattle.words.proofs.word_at.Reads as word-at-reads
 
--- src/lib.rt:118:16
 positions-at-requires : tie.Need-positions-at-requires
 positions-at-requires c κs = search needs
 
--- src/lib.rt:118:16
 add-word-at : tie.Need-add-word-at
 add-word-at c = search needs
 
--- src/lib.rt:118:5
 word-at-requires : tie.Need-word-at-requires
 word-at-requires c κs = search needs
 
--- src/lib.rt:115:1
 returns : tie.Need-returns
 unfolding position
 returns c = cc

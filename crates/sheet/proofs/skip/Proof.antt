@@ -18,27 +18,21 @@ Inv-loop s m j i₀ at₀ i at = (i ≤ m) × (walks.skip s (m - i) at ≡ walks
 abbrev μ-loop : tie.MeasureT-loop
 μ-loop s m j i₀ at₀ i at = m - i
 
--- src/lib.rt:195:5
 loop-holds : tie.Need-loop-holds Inv-loop μ-loop
 loop-holds c = (omega arith, cc (sub-zero (c .before .args .m)))
 
--- src/lib.rt:196:9
 next-requires : tie.Need-next-requires Inv-loop μ-loop
 next-requires c κs = search needs
 
--- src/lib.rt:197:9
 add-i : tie.Need-add-i Inv-loop μ-loop
 add-i c = search needs
 
--- src/lib.rt:195:5
 loop-less : tie.Need-loop-less Inv-loop μ-loop
 loop-less c = search needs
 
--- src/lib.rt:195:5
 loop-again : tie.Need-loop-again Inv-loop μ-loop
 loop-again c = (omega arith, cc (skip-more (c .before .before .before .before .args .s .now) (c .before .before .before .before .args .m) (c .before .before .loop .i) (c .before .before .loop .at) (c .before .loop-test .taken)))
 
--- src/lib.rt:190:1
 returns : tie.Need-returns Inv-loop μ-loop
 returns c = cc (skip-done (c .before .before .before .args .s .now) (c .before .before .before .args .m) (c .before .loop .i) (c .before .loop .at) (c .loop-test .left))
 

@@ -8,15 +8,12 @@ use Rattle.sheet.proofs.start_of.Lts as lts
 use Rattle.sheet.proofs.node_count.Reads as node-count-reads
 use Rattle.sheet.proofs.start_within.Reads as start-within-reads
 
--- src/lib.rt:173:18
 node-count-requires : tie.Need-node-count-requires
 node-count-requires c κs = search needs
 
--- src/lib.rt:173:5
 start-within-requires : tie.Need-start-within-requires
 start-within-requires c κs = search needs
 
--- src/lib.rt:170:1
 returns : tie.Need-returns
 unfolding startOf
 returns c = cc

@@ -10,39 +10,30 @@ use Rattle.sheet.proofs.text_length.Reads as text-length-reads
 use Rattle.sheet.proofs.text_start.Reads as text-start-reads
 use Rattle.words.proofs.part.Reads as part-reads
 
--- src/lib.rt:180:18
 bytes-at-requires : tie.Need-bytes-at-requires
 bytes-at-requires c κs = search needs
 
--- src/lib.rt:180:14
 mul-at : tie.Need-mul-at
 mul-at c = search needs
 
--- src/lib.rt:180:33
 text-start-requires : tie.Need-text-start-requires
 text-start-requires c κs = search needs
 
--- src/lib.rt:180:33
 cast-at : tie.Need-cast-at
 cast-at c = search needs
 
--- src/lib.rt:180:14
 add-at : tie.Need-add-at
 add-at c = search needs
 
--- src/lib.rt:181:15
 text-length-requires : tie.Need-text-length-requires
 text-length-requires c κs = search needs
 
--- src/lib.rt:181:15
 cast-len : tie.Need-cast-len
 cast-len c = search needs
 
--- src/lib.rt:182:5
 part-requires : tie.Need-part-requires
 part-requires c κs = search needs
 
--- src/lib.rt:177:1
 returns : tie.Need-returns
 unfolding text
 returns c = cc

@@ -8,19 +8,15 @@ use Rattle.sheet.proofs.text_length.Lts as lts
 use Rattle.sheet.proofs.lengths_at.Reads as lengths-at-reads
 use Rattle.words.proofs.word_at.Reads as word-at-reads
 
--- src/lib.rt:152:16
 lengths-at-requires : tie.Need-lengths-at-requires
 lengths-at-requires c κs = search needs
 
--- src/lib.rt:152:16
 add-word-at : tie.Need-add-word-at
 add-word-at c = search needs
 
--- src/lib.rt:152:5
 word-at-requires : tie.Need-word-at-requires
 word-at-requires c κs = search needs
 
--- src/lib.rt:149:1
 returns : tie.Need-returns
 unfolding textLength
 returns c = cc

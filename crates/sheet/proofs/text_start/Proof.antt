@@ -8,19 +8,15 @@ use Rattle.sheet.proofs.text_start.Lts as lts
 use Rattle.sheet.proofs.starts_at.Reads as starts-at-reads
 use Rattle.words.proofs.word_at.Reads as word-at-reads
 
--- src/lib.rt:146:16
 starts-at-requires : tie.Need-starts-at-requires
 starts-at-requires c κs = search needs
 
--- src/lib.rt:146:16
 add-word-at : tie.Need-add-word-at
 add-word-at c = search needs
 
--- src/lib.rt:146:5
 word-at-requires : tie.Need-word-at-requires
 word-at-requires c κs = search needs
 
--- src/lib.rt:143:1
 returns : tie.Need-returns
 unfolding textStart
 returns c = cc

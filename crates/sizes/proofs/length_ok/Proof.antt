@@ -8,27 +8,21 @@ use Rattle.sizes.proofs.length_ok.Lts as lts
 use Rattle.sheet.proofs.local_count.Reads as local-count-reads
 use Rattle.sheet.proofs.locals_at.Reads as locals-at-reads
 
--- src/lib.rt:26:17
 locals-at-requires : tie.Need-locals-at-requires
 locals-at-requires c κs = search needs
 
--- src/lib.rt:26:33
 local-count-requires : tie.Need-local-count-requires
 local-count-requires c κs = search needs
 
--- src/lib.rt:26:33
 cast-words : tie.Need-cast-words
 cast-words c = search needs
 
--- src/lib.rt:26:17
 add-words : tie.Need-add-words
 add-words c = search needs
 
--- src/lib.rt:27:16
 mul-result : tie.Need-mul-result
 mul-result c = search needs
 
--- src/lib.rt:23:1
 returns : tie.Need-returns
 unfolding lengthOk
 returns c = cc

@@ -10,23 +10,18 @@ use Rattle.sheet.proofs.local_count.Reads as local-count-reads
 use Rattle.sheet.proofs.node_count.Reads as node-count-reads
 use Rattle.sheet.proofs.text_count.Reads as text-count-reads
 
--- src/lib.rt:15:9
 node-count-requires : tie.Need-node-count-requires
 node-count-requires c κs = search needs
 
--- src/lib.rt:16:9
 text-count-requires : tie.Need-text-count-requires
 text-count-requires c κs = search needs
 
--- src/lib.rt:17:9
 byte-count-requires : tie.Need-byte-count-requires
 byte-count-requires c κs = search needs
 
--- src/lib.rt:18:9
 local-count-requires : tie.Need-local-count-requires
 local-count-requires c κs = search needs
 
--- src/lib.rt:12:1
 returns : tie.Need-returns
 unfolding limitsOk
 returns c = cc

@@ -9,47 +9,36 @@ use Rattle.sheet.proofs.byte_count.Reads as byte-count-reads
 use Rattle.sheet.proofs.bytes_at.Reads as bytes-at-reads
 use Rattle.words.proofs.byte.Reads as byte-reads
 
--- src/lib.rt:35:13
 byte-count-requires : tie.Need-byte-count-requires
 byte-count-requires c κs = search needs
 
--- src/lib.rt:35:13
 cast-b : tie.Need-cast-b
 cast-b c = search needs
 
--- src/lib.rt:36:23
 add-ended : tie.Need-add-ended
 add-ended c = search needs
 
--- src/lib.rt:36:17
 mul-ended : tie.Need-mul-ended
 mul-ended c = search needs
 
--- src/lib.rt:36:38
 add-ended-2 : tie.Need-add-ended-2
 add-ended-2 c = search needs
 
--- src/lib.rt:37:28
 bytes-at-requires : tie.Need-bytes-at-requires
 bytes-at-requires c κs = search needs
 
--- src/lib.rt:37:24
 mul-byte : tie.Need-mul-byte
 mul-byte c = search needs
 
--- src/lib.rt:37:24
 add-byte : tie.Need-add-byte
 add-byte c = search needs
 
--- src/lib.rt:37:24
 add-byte-2 : tie.Need-add-byte-2
 add-byte-2 c = search needs
 
--- src/lib.rt:37:16
 byte-requires : tie.Need-byte-requires
 byte-requires c κs = search needs
 
--- src/lib.rt:31:1
 returns : tie.Need-returns
 unfolding padOk
 returns c = cc

@@ -7,19 +7,15 @@ use Rattle.sizes.proofs.padding_ok.Reads as reads
 use Rattle.sizes.proofs.padding_ok.Lts as lts
 use Rattle.sizes.proofs.pad_ok.Reads as pad-ok-reads
 
--- src/lib.rt:45:5
 pad-ok-requires : tie.Need-pad-ok-requires
 pad-ok-requires c κs = search needs
 
--- src/lib.rt:45:20
 pad-ok-requires-2 : tie.Need-pad-ok-requires-2
 pad-ok-requires-2 c κs = search needs
 
--- src/lib.rt:45:35
 pad-ok-requires-3 : tie.Need-pad-ok-requires-3
 pad-ok-requires-3 c κs = search needs
 
--- src/lib.rt:42:1
 returns : tie.Need-returns
 unfolding paddingOk
 returns c = cc

@@ -9,19 +9,15 @@ use Rattle.sizes.proofs.length_ok.Reads as length-ok-reads
 use Rattle.sizes.proofs.limits_ok.Reads as limits-ok-reads
 use Rattle.sizes.proofs.padding_ok.Reads as padding-ok-reads
 
--- src/lib.rt:52:5
 limits-ok-requires : tie.Need-limits-ok-requires
 limits-ok-requires c κs = search needs
 
--- src/lib.rt:52:20
 length-ok-requires : tie.Need-length-ok-requires
 length-ok-requires c κs = search needs
 
--- src/lib.rt:52:35
 padding-ok-requires : tie.Need-padding-ok-requires
 padding-ok-requires c κs = search needs
 
--- src/lib.rt:49:1
 returns : tie.Need-returns
 unfolding sizesOk
 returns c = cc

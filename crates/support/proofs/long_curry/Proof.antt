@@ -15,33 +15,26 @@ use Rattle.sheet.proofs.kind.Reads as kind-reads
 use Rattle.sheet.proofs.text.Reads as text-reads
 use Rattle.text.proofs.is_curry.Reads as is-curry-reads
 
--- src/lib.rt:19:9
 kind-requires : tie.Need-kind-requires
 kind-requires c κs = search needs
 
--- src/lib.rt:20:9
 count-requires : tie.Need-count-requires
 count-requires c κs = search needs
 
--- src/lib.rt:22:40
 field-a-requires : tie.Need-field-a-requires
 field-a-requires c κs = search needs
 
--- src/lib.rt:22:25
 text-requires : tie.Need-text-requires
 text-requires c κs = search needs
 
--- src/lib.rt:22:9
 is-curry-requires : tie.Need-is-curry-requires
 is-curry-requires c κs = search needs
 
--- src/lib.rt:22:9
 returns : tie.Need-returns
 returns c = let a = c .before .before .before .before .before .before .before .args in
     let h : (eqb (kind (a .s .now) (a .n)) 13 && ltb 1 (count (a .s .now) (a .n))) ≡ true = cc in
     cc (curry-call (a .s .now) (a .n) h)
 
--- src/lib.rt:16:1
 returns-2 : tie.Need-returns-2
 returns-2 c = let a = c .before .before .before .before .args in
     let h : (eqb (kind (a .s .now) (a .n)) 13 && ltb 1 (count (a .s .now) (a .n))) ≡ false = cc in

@@ -6,7 +6,6 @@ use Rattle.support.proofs.refused_kind.Tie as tie
 use Rattle.support.proofs.refused_kind.Reads as reads
 use Rattle.support.proofs.refused_kind.Lts as lts
 
--- src/lib.rt:9:1
 returns : tie.Need-returns
 unfolding refusedKind
 returns c = refl

@@ -9,19 +9,15 @@ use Rattle.sheet.proofs.kind.Reads as kind-reads
 use Rattle.support.proofs.long_curry.Reads as long-curry-reads
 use Rattle.support.proofs.refused_kind.Reads as refused-kind-reads
 
--- src/lib.rt:31:32
 kind-requires : tie.Need-kind-requires
 kind-requires c κs = search needs
 
--- src/lib.rt:31:9
 refused-kind-requires : tie.Need-refused-kind-requires
 refused-kind-requires c κs = search needs
 
--- src/lib.rt:32:9
 long-curry-requires : tie.Need-long-curry-requires
 long-curry-requires c κs = search needs
 
--- src/lib.rt:28:1
 returns : tie.Need-returns
 unfolding supported
 returns c = cc

@@ -20,36 +20,28 @@ Inv-loop s m n₀ n = (n ≤ m) × (allBelow n (supported s) ≡ true)
 abbrev μ-loop : tie.MeasureT-loop
 μ-loop s m n₀ n = m - n
 
--- src/lib.rt:40:9
 node-count-requires : tie.Need-node-count-requires Inv-loop μ-loop
 node-count-requires c κs = search needs
 
--- src/lib.rt:42:5
 loop-holds : tie.Need-loop-holds Inv-loop μ-loop
 loop-holds c = (omega arith, all-none (supported (c .before .before .args .s .now)))
 
--- src/lib.rt:43:12
 supported-requires : tie.Need-supported-requires Inv-loop μ-loop
 supported-requires c κs = search needs
 
--- src/lib.rt:44:13
 add-n : tie.Need-add-n Inv-loop μ-loop
 add-n c = search needs
 
--- src/lib.rt:42:5
 loop-less : tie.Need-loop-less Inv-loop μ-loop
 loop-less c = search needs
 
--- src/lib.rt:42:5
 loop-again : tie.Need-loop-again Inv-loop μ-loop
 loop-again c = (omega arith, all-more (supported (c .before .before .before .before .before .before .args .s .now)) (c .before .before .before .loop .n) (c .before .before .before .loop .inv .1) (cc))
 
--- src/lib.rt:46:13
 returns : tie.Need-returns Inv-loop μ-loop
 unfolding supportedOk
 returns c = cc (all-fails (supported (c .before .before .before .before .before .before .args .s .now)) (c .before .before .before .before .node-count .result) (c .before .before .before .loop .n) (c .before .before .loop-test .taken) (cc))
 
--- src/lib.rt:37:1
 returns-2 : tie.Need-returns-2 Inv-loop μ-loop
 unfolding supportedOk
 returns-2 c = let e : c .before .loop .n ≡ c .before .before .node-count .result = omega arith in cc

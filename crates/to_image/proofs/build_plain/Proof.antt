@@ -1,5 +1,5 @@
-use mathlib.Core.List.{[]}
 -- Lowered from nothing, counted, and written where it fits.
+use mathlib.Core.List.{[]}
 use native.Mathlib.Omega.{arith}
 use mathlib.Core.Path.{refl}
 use Rattle.to_image.specs.PlainLaws.{plain-long, plain-built}
@@ -14,43 +14,33 @@ use Rattle.image.proofs.write_front.Reads as write-front-reads
 use Rattle.sheet.proofs.node_count.Reads as node-count-reads
 use Rattle.store.proofs.start.Reads as start-reads
 
--- src/lib.rt:67:16
 node-count-requires : tie.Need-node-count-requires
 node-count-requires c κs = search needs
 
--- src/lib.rt:69:45
 start-requires : tie.Need-start-requires
 start-requires c κs = search needs
 
--- src/lib.rt:69:9
 expression-requires : tie.Need-expression-requires
 expression-requires c κs = search needs
 
--- src/lib.rt:70:9
 image-len-requires : tie.Need-image-len-requires
 image-len-requires c κs = search needs
 
--- src/lib.rt:72:9
 same-length : tie.Need-same-length
 same-length c = search needs
 
--- src/lib.rt:72:9
 returns : tie.Need-returns
 returns c = λ R h. plain-long _ h _ _ _ _ _ _ [] _ _ R refl refl (c .before .before .before .before .before .before .before .before .node-count .ensures) _ (c .before .before .before .before .before .before .start .ensures) (c .before .before .before .before .before .expression .ensures) (c .before .image-len .ensures) (omega arith)
 
--- src/lib.rt:74:5
 write-front-requires : tie.Need-write-front-requires
 write-front-requires c κs = search needs
 
--- src/lib.rt:62:1
 same-length-2 : tie.Need-same-length-2
 same-length-2 c = search needs
 
--- src/lib.rt:62:1
 same-length-3 : tie.Need-same-length-3
 same-length-3 c = search needs
 
--- src/lib.rt:62:1
 returns-2 : tie.Need-returns-2
 returns-2 c = λ R h. plain-built _ h _ _ _ _ _ _ _ _ _ R refl refl (c .before .before .before .before .before .before .before .before .before .before .before .before .before .node-count .ensures) _ (c .before .before .before .before .before .before .before .before .before .before .before .start .ensures) (c .before .before .before .before .before .before .before .before .before .before .expression .ensures) (c .before .before .before .before .before .before .image-len .ensures) (omega arith) (λ a g k. c .before .before .write-front .ensures a g k)
 

@@ -7,35 +7,27 @@ use Rattle.to_image.proofs.refusal.Tie as tie
 use Rattle.to_image.proofs.refusal.Reads as reads
 use Rattle.to_image.proofs.refusal.Lts as lts
 
--- src/lib.rt:44:9
 returns : tie.Need-returns
 returns c = early-9 _ _ _ _ (c .if1 .taken)
 
--- src/lib.rt:47:9
 returns-2 : tie.Need-returns-2
 returns-2 c = early-10 _ _ _ _ (c .before .before .if1 .left) (omega arith)
 
--- src/lib.rt:49:27
 mul-if3 : tie.Need-mul-if3
 mul-if3 c = search needs
 
--- src/lib.rt:49:53
 mul-if3-2 : tie.Need-mul-if3-2
 mul-if3-2 c = search needs
 
--- src/lib.rt:49:27
 add-if3 : tie.Need-add-if3
 add-if3 c = search needs
 
--- src/lib.rt:49:27
 add-if3-2 : tie.Need-add-if3-2
 add-if3-2 c = search needs
 
--- src/lib.rt:50:9
 returns-3 : tie.Need-returns-3
 returns-3 c = early-11 _ _ _ _ (c .before .before .before .before .if1 .left) (omega arith) (omega arith)
 
--- src/lib.rt:40:1
 returns-4 : tie.Need-returns-4
 returns-4 c = early-none _ _ _ _ (c .before .before .before .before .if1 .left) (omega arith) (omega arith)
 

@@ -9,15 +9,12 @@ use Rattle.words.proofs.word_at.Reads as reads
 use Rattle.words.proofs.word_at.Lts as lts
 use Rattle.words.proofs.whole.Reads as whole-reads
 
--- src/lib.rt:36:9
 whole-requires : tie.Need-whole-requires
 whole-requires c κs = search needs
 
--- src/lib.rt:36:9
 returns : tie.Need-returns
 returns c = search needs
 
--- src/lib.rt:32:1
 returns-2 : tie.Need-returns-2
 returns-2 c = sym (word-past (c .before .before .args .s .now) (c .before .before .args .i) (omega arith))
 

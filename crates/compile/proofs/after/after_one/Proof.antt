@@ -4,79 +4,60 @@ use borrow.Author.Needs.{needs}
 use Rattle.compile.proofs.after.after_one.Statement.{statement}
 use Rattle.compile.proofs.after.after_one.Tie as tie
 
--- src/after.rt:47:27
 enum-told : tie.Need-enum-told
 enum-told c = search needs
 
--- src/after.rt:48:38
 enum-told-2 : tie.Need-enum-told-2
 enum-told-2 c = search needs
 
--- src/after.rt:48:30
 emit-requires : tie.Need-emit-requires
 emit-requires c κs = search needs
 
--- src/after.rt:49:34
 enum-told-3 : tie.Need-enum-told-3
 enum-told-3 c = search needs
 
--- src/after.rt:49:26
 emit-requires-2 : tie.Need-emit-requires-2
 emit-requires-2 c κs = search needs
 
--- src/after.rt:50:25
 enum-known-by : tie.Need-enum-known-by
 enum-known-by c = search needs
 
--- src/after.rt:50:54
 jump-on-requires : tie.Need-jump-on-requires
 jump-on-requires c κs = search needs
 
--- src/after.rt:50:39
 emit-requires-3 : tie.Need-emit-requires-3
 emit-requires-3 c κs = search needs
 
--- src/after.rt:51:25
 enum-known-by-2 : tie.Need-enum-known-by-2
 enum-known-by-2 c = search needs
 
--- src/after.rt:51:33
 unless-requires : tie.Need-unless-requires
 unless-requires c κs = search needs
 
--- src/after.rt:43:1
 returns : tie.Need-returns
 returns c = λ s. after-nothing _ _ _ (c .enum-told .given .1)
 
--- src/after.rt:43:1
 same-length : tie.Need-same-length
 same-length c = search needs
 
--- src/after.rt:43:1
 returns-2 : tie.Need-returns-2
 returns-2 c = λ s. after-check _ _ _ (c .before .before .before .before .enum-told2 .given .1) (c .before .before .emit .ensures s tt)
 
--- src/after.rt:43:1
 same-length-2 : tie.Need-same-length-2
 same-length-2 c = search needs
 
--- src/after.rt:43:1
 returns-3 : tie.Need-returns-3
 returns-3 c = λ s. after-append _ _ _ (c .before .before .before .before .enum-told3 .given .1) (c .before .before .emit2 .ensures s tt)
 
--- src/after.rt:43:1
 same-length-3 : tie.Need-same-length-3
 same-length-3 c = search needs
 
--- src/after.rt:43:1
 returns-4 : tie.Need-returns-4
 returns-4 c = λ s. after-decide _ _ _ _ _ _ (c .before .before .before .before .before .before .by .given .1) (c .before .before .before .jump-on .ensures) (c .before .before .emit3 .ensures s)
 
--- src/after.rt:43:1
 same-length-4 : tie.Need-same-length-4
 same-length-4 c = search needs
 
--- src/after.rt:43:1
 returns-5 : tie.Need-returns-5
 returns-5 c = λ s. after-unless _ _ _ _ (c .before .before .before .before .before .by2 .given .1) (c .before .before .unless .ensures s _)
 

@@ -4,11 +4,9 @@ use Rattle.compile.specs.AfterLaws.{jump-on-false, jump-on-true, after-n
 use Rattle.compile.proofs.after.jump_on.Statement.{statement}
 use Rattle.compile.proofs.after.jump_on.Tie as tie
 
--- src/after.rt:24:1
 returns : tie.Need-returns
 returns c = jump-on-false _ _ (c .if1 .taken)
 
--- src/after.rt:24:1
 returns-2 : tie.Need-returns-2
 returns-2 c = jump-on-true _ _ (omega arith)
 

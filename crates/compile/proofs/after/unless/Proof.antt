@@ -7,19 +7,15 @@ use Rattle.compile.proofs.after.unless.Reads as reads
 use Rattle.compile.proofs.after.unless.Lts as lts
 use Rattle.store.proofs.emit.Reads as emit-reads
 
--- src/after.rt:38:9
 emit-requires : tie.Need-emit-requires
 emit-requires c κs = search needs
 
--- src/after.rt:39:5
 emit-requires-2 : tie.Need-emit-requires-2
 emit-requires-2 c κs = search needs
 
--- src/after.rt:35:1
 same-length : tie.Need-same-length
 same-length c = search needs
 
--- src/after.rt:35:1
 returns : tie.Need-returns
 returns c = λ s i. unless-does _ i _ (c .before .before .before .before .before .before .emit .ensures s tt) (c .before .before .emit2 .ensures s tt)
 

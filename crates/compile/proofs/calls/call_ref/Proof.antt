@@ -7,27 +7,21 @@ use borrow.Author.Needs.{needs}
 use Rattle.compile.proofs.calls.call_ref.Statement.{statement}
 use Rattle.compile.proofs.calls.call_ref.Tie as tie
 
--- src/calls.rt:135:9
 add-name-requires : tie.Need-add-name-requires
 add-name-requires c κs = search needs
 
--- src/calls.rt:138:15
 count-requires : tie.Need-count-requires
 count-requires c κs = search needs
 
--- src/calls.rt:141:26
 position-requires : tie.Need-position-requires
 position-requires c κs = search needs
 
--- src/calls.rt:141:5
 emit-requires : tie.Need-emit-requires
 emit-requires c κs = search needs
 
--- src/calls.rt:132:1
 same-length : tie.Need-same-length
 same-length c = search needs
 
--- src/calls.rt:132:1
 returns : tie.Need-returns
 returns c =
     λ p n v.

@@ -10,23 +10,18 @@ use Rattle.compile.proofs.calls.call_as.Reads as call-as-reads
 use Rattle.compile.proofs.calls.one_more.Reads as one-more-reads
 use Rattle.store.proofs.add_token.Reads as add-token-reads
 
--- src/calls.rt:188:9
 add-token-requires : tie.Need-add-token-requires
 add-token-requires c κs = search needs
 
--- src/calls.rt:189:31
 one-more-requires : tie.Need-one-more-requires
 one-more-requires c κs = search needs
 
--- src/calls.rt:189:5
 call-as-requires : tie.Need-call-as-requires
 call-as-requires c κs = search needs
 
--- src/calls.rt:185:1
 same-length : tie.Need-same-length
 same-length c = search needs
 
--- src/calls.rt:185:1
 returns : tie.Need-returns
 returns c = λ p n v. call-token-does _ _ (c .before .before .before .one-more .ensures) (c .before .before .before .before .before .before .before .add-token .ensures .place) (c .before .before .before .before .before .before .before .add-token .ensures .does v) (c .before .before .call-as .ensures p n (omega arith) v)
 

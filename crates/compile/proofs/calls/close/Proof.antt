@@ -6,141 +6,107 @@ use borrow.Author.Needs.{needs}
 use Rattle.compile.proofs.calls.close.Statement.{statement}
 use Rattle.compile.proofs.calls.close.Tie as tie
 
--- src/calls.rt:218:31
 enum-told : tie.Need-enum-told
 enum-told c = search needs
 
--- src/calls.rt:218:65
 child-requires : tie.Need-child-requires
 child-requires c κs = search needs
 
--- src/calls.rt:218:53
 position-requires : tie.Need-position-requires
 position-requires c κs = search needs
 
--- src/calls.rt:218:23
 emit-requires : tie.Need-emit-requires
 emit-requires c κs = search needs
 
--- src/calls.rt:219:47
 enum-told-2 : tie.Need-enum-told-2
 enum-told-2 c = search needs
 
--- src/calls.rt:219:27
 close-pointer-requires : tie.Need-close-pointer-requires
 close-pointer-requires c κs = search needs
 
--- src/calls.rt:220:20
 enum-known-w : tie.Need-enum-known-w
 enum-known-w c = search needs
 
--- src/calls.rt:220:29
 call-ref-requires : tie.Need-call-ref-requires
 call-ref-requires c κs = search needs
 
--- src/calls.rt:221:41
 enum-told-3 : tie.Need-enum-told-3
 enum-told-3 c = search needs
 
--- src/calls.rt:221:23
 close-named-requires : tie.Need-close-named-requires
 close-named-requires c κs = search needs
 
--- src/calls.rt:222:37
 enum-told-4 : tie.Need-enum-told-4
 enum-told-4 c = search needs
 
--- src/calls.rt:222:22
 call-ref-requires-2 : tie.Need-call-ref-requires-2
 call-ref-requires-2 c κs = search needs
 
--- src/calls.rt:223:38
 enum-told-5 : tie.Need-enum-told-5
 enum-told-5 c = search needs
 
--- src/calls.rt:223:23
 call-end-requires : tie.Need-call-end-requires
 call-end-requires c κs = search needs
 
--- src/calls.rt:224:34
 enum-told-6 : tie.Need-enum-told-6
 enum-told-6 c = search needs
 
--- src/calls.rt:224:22
 residual-requires : tie.Need-residual-requires
 residual-requires c κs = search needs
 
--- src/calls.rt:225:34
 enum-told-7 : tie.Need-enum-told-7
 enum-told-7 c = search needs
 
--- src/calls.rt:225:22
 residual-requires-2 : tie.Need-residual-requires-2
 residual-requires-2 c κs = search needs
 
--- src/calls.rt:214:1
 same-length : tie.Need-same-length
 same-length c = search needs
 
--- src/calls.rt:214:1
 returns : tie.Need-returns
 returns c =
     let at-pos = c .before .before .before .position .ensures ∙ ap (position (c .before .before .before .before .before .before .before .before .before .before .args .s .now)) (c .before .before .before .before .child .ensures) in
     close-make _ _ _ _ (c .before .before .before .before .before .before .enum-told .given .1) at-pos (c .before .before .emit .ensures _ tt)
 
--- src/calls.rt:214:1
 same-length-2 : tie.Need-same-length-2
 same-length-2 c = search needs
 
--- src/calls.rt:214:1
 returns-2 : tie.Need-returns-2
 returns-2 c = close-pointer _ _ _ (c .before .before .before .before .enum-told2 .given .1) (c .before .before .close-pointer .ensures)
 
--- src/calls.rt:214:1
 same-length-3 : tie.Need-same-length-3
 same-length-3 c = search needs
 
--- src/calls.rt:214:1
 returns-3 : tie.Need-returns-3
 returns-3 c = close-local _ _ _ _ (c .before .before .before .before .before .w .given .1) (c .before .before .call-ref .ensures)
 
--- src/calls.rt:214:1
 same-length-4 : tie.Need-same-length-4
 same-length-4 c = search needs
 
--- src/calls.rt:214:1
 returns-4 : tie.Need-returns-4
 returns-4 c = close-name _ _ _ (c .before .before .before .before .enum-told3 .given .1) (c .before .before .close-named .ensures)
 
--- src/calls.rt:214:1
 same-length-5 : tie.Need-same-length-5
 same-length-5 c = search needs
 
--- src/calls.rt:214:1
 returns-5 : tie.Need-returns-5
 returns-5 c = close-this _ _ _ (c .before .before .before .before .enum-told4 .given .1) (c .before .before .call-ref2 .ensures)
 
--- src/calls.rt:214:1
 same-length-6 : tie.Need-same-length-6
 same-length-6 c = search needs
 
--- src/calls.rt:214:1
 returns-6 : tie.Need-returns-6
 returns-6 c = close-value _ _ _ (c .before .before .before .before .enum-told5 .given .1) (c .before .before .call-end .ensures)
 
--- src/calls.rt:214:1
 same-length-7 : tie.Need-same-length-7
 same-length-7 c = search needs
 
--- src/calls.rt:214:1
 returns-7 : tie.Need-returns-7
 returns-7 c = close-eval _ _ _ (c .before .before .before .before .enum-told6 .given .1) (c .before .before .residual .ensures _)
 
--- src/calls.rt:214:1
 same-length-8 : tie.Need-same-length-8
 same-length-8 c = search needs
 
--- src/calls.rt:214:1
 returns-8 : tie.Need-returns-8
 returns-8 c = close-kept _ _ _ (c .before .before .before .before .enum-told7 .given .1) (c .before .before .residual2 .ensures _)
 

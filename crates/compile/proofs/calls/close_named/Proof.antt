@@ -7,39 +7,30 @@ use borrow.Author.Needs.{needs}
 use Rattle.compile.proofs.calls.close_named.Statement.{statement}
 use Rattle.compile.proofs.calls.close_named.Tie as tie
 
--- src/calls.rt:158:59
 child-requires : tie.Need-child-requires
 child-requires c κs = search needs
 
--- src/calls.rt:158:47
 position-requires : tie.Need-position-requires
 position-requires c κs = search needs
 
--- src/calls.rt:158:9
 emit-requires : tie.Need-emit-requires
 emit-requires c κs = search needs
 
--- src/calls.rt:159:38
 count-requires : tie.Need-count-requires
 count-requires c κs = search needs
 
--- src/calls.rt:159:29
 one-less-requires : tie.Need-one-less-requires
 one-less-requires c κs = search needs
 
--- src/calls.rt:159:9
 rotate-requires : tie.Need-rotate-requires
 rotate-requires c κs = search needs
 
--- src/calls.rt:160:5
 call-ref-requires : tie.Need-call-ref-requires
 call-ref-requires c κs = search needs
 
--- src/calls.rt:155:1
 same-length : tie.Need-same-length
 same-length c = search needs
 
--- src/calls.rt:155:1
 returns : tie.Need-returns
 returns c =
     let s = c .before .before .before .before .before .before .before .before .before .before .before .before .before .before .before .before .before .before .args .s .now in

@@ -6,31 +6,24 @@ use borrow.Author.Needs.{needs}
 use Rattle.compile.proofs.calls.close_pointer.Statement.{statement}
 use Rattle.compile.proofs.calls.close_pointer.Tie as tie
 
--- src/calls.rt:207:24
 count-requires : tie.Need-count-requires
 count-requires c κs = search needs
 
--- src/calls.rt:207:15
 one-less-requires : tie.Need-one-less-requires
 one-less-requires c κs = search needs
 
--- src/calls.rt:208:18
 field-b-requires : tie.Need-field-b-requires
 field-b-requires c κs = search needs
 
--- src/calls.rt:210:24
 position-requires : tie.Need-position-requires
 position-requires c κs = search needs
 
--- src/calls.rt:210:5
 emit-requires : tie.Need-emit-requires
 emit-requires c κs = search needs
 
--- src/calls.rt:203:1
 same-length : tie.Need-same-length
 same-length c = search needs
 
--- src/calls.rt:203:1
 returns : tie.Need-returns
 returns c =
     let others = c .before .before .before .before .before .before .one-less .ensures ∙ ap (λ (n : ℕ). n - 1) (c .before .before .before .before .before .before .before .count .ensures) in

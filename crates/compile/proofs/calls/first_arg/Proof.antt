@@ -11,90 +11,70 @@ use Rattle.compile.proofs.calls.first_arg.Lts as lts
 use Rattle.sheet.proofs.child.Reads as child-reads
 use Rattle.sheet.proofs.next.Reads as next-reads
 
--- src/calls.rt:98:9
 child-requires : tie.Need-child-requires
 child-requires c κs = search needs
 
--- src/calls.rt:100:23
 enum-told : tie.Need-enum-told
 enum-told c = search needs
 
--- src/calls.rt:101:27
 enum-told-2 : tie.Need-enum-told-2
 enum-told-2 c = search needs
 
--- src/calls.rt:102:26
 enum-told-3 : tie.Need-enum-told-3
 enum-told-3 c = search needs
 
--- src/calls.rt:102:26
 next-requires : tie.Need-next-requires
 next-requires c κs = search needs
 
--- src/calls.rt:103:23
 enum-told-4 : tie.Need-enum-told-4
 enum-told-4 c = search needs
 
--- src/calls.rt:103:23
 next-requires-2 : tie.Need-next-requires-2
 next-requires-2 c κs = search needs
 
--- src/calls.rt:104:22
 enum-told-5 : tie.Need-enum-told-5
 enum-told-5 c = search needs
 
--- src/calls.rt:104:22
 next-requires-3 : tie.Need-next-requires-3
 next-requires-3 c κs = search needs
 
--- src/calls.rt:105:23
 enum-told-6 : tie.Need-enum-told-6
 enum-told-6 c = search needs
 
--- src/calls.rt:106:22
 enum-told-7 : tie.Need-enum-told-7
 enum-told-7 c = search needs
 
--- src/calls.rt:107:22
 enum-told-8 : tie.Need-enum-told-8
 enum-told-8 c = search needs
 
--- src/calls.rt:95:1
 returns : tie.Need-returns
 unfolding firstArg
 returns c = c .before .before .child .ensures ∙ first-at _ _ _ _ (c .enum-told .given .1)
 
--- src/calls.rt:95:1
 returns-2 : tie.Need-returns-2
 unfolding firstArg
 returns-2 c = c .before .before .child .ensures ∙ first-at _ _ _ _ (c .enum-told2 .given .1)
 
--- src/calls.rt:95:1
 returns-3 : tie.Need-returns-3
 unfolding firstArg
 returns-3 c = c .next .ensures ∙ ap (next _) (c .before .before .before .child .ensures) ∙ first-at _ _ _ _ (c .before .enum-told3 .given .1)
 
--- src/calls.rt:95:1
 returns-4 : tie.Need-returns-4
 unfolding firstArg
 returns-4 c = c .next2 .ensures ∙ ap (next _) (c .before .before .before .child .ensures) ∙ first-at _ _ _ _ (c .before .enum-told4 .given .1)
 
--- src/calls.rt:95:1
 returns-5 : tie.Need-returns-5
 unfolding firstArg
 returns-5 c = c .next3 .ensures ∙ ap (next _) (c .before .before .before .child .ensures) ∙ first-at _ _ _ _ (c .before .enum-told5 .given .1)
 
--- src/calls.rt:95:1
 returns-6 : tie.Need-returns-6
 unfolding firstArg
 returns-6 c = c .before .before .child .ensures ∙ first-at _ _ _ _ (c .enum-told6 .given .1)
 
--- src/calls.rt:95:1
 returns-7 : tie.Need-returns-7
 unfolding firstArg
 returns-7 c = c .before .before .child .ensures ∙ first-at _ _ _ _ (c .enum-told7 .given .1)
 
--- src/calls.rt:95:1
 returns-8 : tie.Need-returns-8
 unfolding firstArg
 returns-8 c = c .before .before .child .ensures ∙ first-at _ _ _ _ (c .enum-told8 .given .1)

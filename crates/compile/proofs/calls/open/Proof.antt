@@ -7,99 +7,76 @@ use borrow.Author.Needs.{needs}
 use Rattle.compile.proofs.calls.open.Statement.{statement}
 use Rattle.compile.proofs.calls.open.Tie as tie
 
--- src/calls.rt:117:23
 enum-told : tie.Need-enum-told
 enum-told c = search needs
 
--- src/calls.rt:118:27
 enum-told-2 : tie.Need-enum-told-2
 enum-told-2 c = search needs
 
--- src/calls.rt:119:26
 enum-told-3 : tie.Need-enum-told-3
 enum-told-3 c = search needs
 
--- src/calls.rt:120:38
 enum-told-4 : tie.Need-enum-told-4
 enum-told-4 c = search needs
 
--- src/calls.rt:120:45
 child-requires : tie.Need-child-requires
 child-requires c κs = search needs
 
--- src/calls.rt:120:23
 add-name-requires : tie.Need-add-name-requires
 add-name-requires c κs = search needs
 
--- src/calls.rt:122:25
 enum-told-5 : tie.Need-enum-told-5
 enum-told-5 c = search needs
 
--- src/calls.rt:122:58
 child-requires-2 : tie.Need-child-requires-2
 child-requires-2 c κs = search needs
 
--- src/calls.rt:122:46
 position-requires : tie.Need-position-requires
 position-requires c κs = search needs
 
--- src/calls.rt:122:17
 emit-requires : tie.Need-emit-requires
 emit-requires c κs = search needs
 
--- src/calls.rt:125:23
 enum-told-6 : tie.Need-enum-told-6
 enum-told-6 c = search needs
 
--- src/calls.rt:126:22
 enum-told-7 : tie.Need-enum-told-7
 enum-told-7 c = search needs
 
--- src/calls.rt:127:22
 enum-told-8 : tie.Need-enum-told-8
 enum-told-8 c = search needs
 
--- src/calls.rt:112:1
 returns : tie.Need-returns
 returns c = open-make _ _ (c .enum-told .given .1)
 
--- src/calls.rt:112:1
 returns-2 : tie.Need-returns-2
 returns-2 c = open-pointer _ _ (c .enum-told2 .given .1)
 
--- src/calls.rt:112:1
 returns-3 : tie.Need-returns-3
 returns-3 c = open-local _ _ _ (c .enum-told3 .given .1)
 
--- src/calls.rt:112:1
 same-length : tie.Need-same-length
 same-length c = search needs
 
--- src/calls.rt:112:1
 returns-4 : tie.Need-returns-4
 returns-4 c =
     let named = c .before .before .add-name .ensures in
     open-named _ _ _ _ (c .before .before .before .before .before .enum-told4 .given .1) (c .before .before .before .child .ensures) (named .0 (lit< tt)) (λ a u h. named .1 a (lit< tt) u h)
 
--- src/calls.rt:112:1
 same-length-2 : tie.Need-same-length-2
 same-length-2 c = search needs
 
--- src/calls.rt:112:1
 returns-5 : tie.Need-returns-5
 returns-5 c =
     let at-pos = c .before .before .before .position .ensures ∙ ap (position (c .before .before .before .before .before .before .before .before .before .before .args .s .now)) (c .before .before .before .before .child2 .ensures) in
     open-this _ _ _ (c .before .before .before .before .before .before .enum-told5 .given .1) at-pos (c .before .before .emit .ensures _ tt)
 
--- src/calls.rt:112:1
 returns-6 : tie.Need-returns-6
 returns-6 c = open-value _ _ (c .enum-told6 .given .1)
 
--- src/calls.rt:112:1
 returns-7 : tie.Need-returns-7
 returns-7 c = open-eval _ _ (c .enum-told7 .given .1)
 
--- src/calls.rt:112:1
 returns-8 : tie.Need-returns-8
 returns-8 c = open-kept _ _ (c .enum-told8 .given .1)
 

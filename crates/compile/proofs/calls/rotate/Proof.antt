@@ -5,19 +5,15 @@ use borrow.Author.Needs.{needs}
 use Rattle.compile.proofs.calls.rotate.Statement.{statement}
 use Rattle.compile.proofs.calls.rotate.Tie as tie
 
--- src/calls.rt:149:9
 returns : tie.Need-returns
 returns c = λ s. rotate-none _ (c .if1 .taken)
 
--- src/calls.rt:151:5
 emit-requires : tie.Need-emit-requires
 emit-requires c κs = search needs
 
--- src/calls.rt:145:1
 same-length : tie.Need-same-length
 same-length c = search needs
 
--- src/calls.rt:145:1
 returns-2 : tie.Need-returns-2
 returns-2 c = λ s. rotate-some _ (omega arith) (c .before .before .emit .ensures s tt)
 

@@ -7,39 +7,30 @@ use Rattle.compile.proofs.calls.way_first.Reads as reads
 use Rattle.compile.proofs.calls.way_first.Lts as lts
 use Rattle.rules.proofs.calls.receiver.Reads as receiver-reads
 
--- src/calls.rt:55:9
 receiver-requires : tie.Need-receiver-requires
 receiver-requires c κs = search needs
 
--- src/calls.rt:57:22
 enum-known-first : tie.Need-enum-known-first
 enum-known-first c = search needs
 
--- src/calls.rt:58:25
 enum-told : tie.Need-enum-told
 enum-told c = search needs
 
--- src/calls.rt:59:24
 enum-told-2 : tie.Need-enum-told-2
 enum-told-2 c = search needs
 
--- src/calls.rt:60:25
 enum-told-3 : tie.Need-enum-told-3
 enum-told-3 c = search needs
 
--- src/calls.rt:52:1
 returns : tie.Need-returns
 returns c = first-local _ _ _ _ (c .before .before .before .receiver .ensures) (c .before .first .given .1)
 
--- src/calls.rt:52:1
 returns-2 : tie.Need-returns-2
 returns-2 c = first-named _ _ _ (c .before .before .receiver .ensures) (c .enum-told .given .1)
 
--- src/calls.rt:52:1
 returns-3 : tie.Need-returns-3
 returns-3 c = first-this _ _ _ (c .before .before .receiver .ensures) (c .enum-told2 .given .1)
 
--- src/calls.rt:52:1
 returns-4 : tie.Need-returns-4
 returns-4 c = first-value _ _ _ (c .before .before .receiver .ensures) (c .enum-told3 .given .1)
 

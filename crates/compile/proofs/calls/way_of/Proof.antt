@@ -9,51 +9,39 @@ use Rattle.compile.proofs.calls.way_of.Lts as lts
 use Rattle.compile.proofs.calls.way_first.Reads as way-first-reads
 use Rattle.rules.proofs.calls.call_rule.Reads as call-rule-reads
 
--- src/calls.rt:68:9
 call-rule-requires : tie.Need-call-rule-requires
 call-rule-requires c κs = search needs
 
--- src/calls.rt:70:28
 enum-told : tie.Need-enum-told
 enum-told c = search needs
 
--- src/calls.rt:71:32
 enum-told-2 : tie.Need-enum-told-2
 enum-told-2 c = search needs
 
--- src/calls.rt:72:32
 enum-told-3 : tie.Need-enum-told-3
 enum-told-3 c = search needs
 
--- src/calls.rt:72:32
 way-first-requires : tie.Need-way-first-requires
 way-first-requires c κs = search needs
 
--- src/calls.rt:73:27
 enum-told-4 : tie.Need-enum-told-4
 enum-told-4 c = search needs
 
--- src/calls.rt:74:31
 enum-told-5 : tie.Need-enum-told-5
 enum-told-5 c = search needs
 
--- src/calls.rt:65:1
 returns : tie.Need-returns
 returns c = way-make _ _ _ (c .before .before .call-rule .ensures) (c .enum-told .given .1)
 
--- src/calls.rt:65:1
 returns-2 : tie.Need-returns-2
 returns-2 c = way-pointer _ _ _ (c .before .before .call-rule .ensures) (c .enum-told2 .given .1)
 
--- src/calls.rt:65:1
 returns-3 : tie.Need-returns-3
 returns-3 c = c .way-first .ensures ∙ way-lowerable _ _ _ (c .before .before .before .call-rule .ensures) (c .before .enum-told3 .given .1)
 
--- src/calls.rt:65:1
 returns-4 : tie.Need-returns-4
 returns-4 c = way-eval _ _ _ (c .before .before .call-rule .ensures) (c .enum-told4 .given .1)
 
--- src/calls.rt:65:1
 returns-5 : tie.Need-returns-5
 returns-5 c = way-kept _ _ _ (c .before .before .call-rule .ensures) (c .enum-told5 .given .1)
 

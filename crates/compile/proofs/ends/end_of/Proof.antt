@@ -8,23 +8,18 @@ use Rattle.compile.proofs.ends.end_of.Reads as reads
 use Rattle.compile.proofs.ends.end_of.Lts as lts
 use Rattle.counting.proofs.tally.Reads as tally-reads
 
--- src/ends.rt:21:9
 tally-requires : tie.Need-tally-requires
 tally-requires c κs = search needs
 
--- src/ends.rt:22:14
 cast-e : tie.Need-cast-e
 cast-e c = search needs
 
--- src/ends.rt:22:13
 add-e : tie.Need-add-e
 add-e c = omega (arith, capped-len _ _ (c .before .before .tally .ensures))
 
--- src/ends.rt:23:5
 cast-result : tie.Need-cast-result
 cast-result c = search needs
 
--- src/ends.rt:18:1
 returns : tie.Need-returns
 returns c = end-is (c .before .before .before .before .args .st .code) _ _ (c .before .before .tally .ensures)
 

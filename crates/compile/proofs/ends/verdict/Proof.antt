@@ -8,31 +8,24 @@ use Rattle.compile.proofs.ends.verdict.Lts as lts
 use Rattle.store.proofs.at_depth.Reads as at-depth-reads
 use Rattle.store.proofs.emit.Reads as emit-reads
 
--- src/ends.rt:31:37
 sub-t12 : tie.Need-sub-t12
 sub-t12 c = search needs
 
--- src/ends.rt:31:9
 emit-requires : tie.Need-emit-requires
 emit-requires c κs = search needs
 
--- src/ends.rt:32:9
 emit-requires-2 : tie.Need-emit-requires-2
 emit-requires-2 c κs = search needs
 
--- src/ends.rt:33:9
 at-depth-requires : tie.Need-at-depth-requires
 at-depth-requires c κs = search needs
 
--- src/ends.rt:34:5
 emit-requires-3 : tie.Need-emit-requires-3
 emit-requires-3 c κs = search needs
 
--- src/ends.rt:27:1
 same-length : tie.Need-same-length
 same-length c = search needs
 
--- src/ends.rt:27:1
 returns : tie.Need-returns
 returns c = λ s a few h room. verdict-holds (c .before .before .before .before .before .before .before .before .before .before .before .before .before .before .args .stop) (c .before .before .before .before .before .before .before .before .before .before .before .before .before .before .args .end) (c .before .before .before .before .before .before .before .before .before .before .before .before .before .before .args .d) a few h room (c .before .before .before .before .before .before .before .before .before .before .before .emit .ensures s tt) (c .before .before .before .before .before .before .before .emit2 .ensures s tt) (λ b g k. held-at-depth (c .before .before .before .before .at-depth .ensures) g k) (c .before .before .emit3 .ensures s tt)
 

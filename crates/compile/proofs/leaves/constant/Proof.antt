@@ -8,19 +8,15 @@ use Rattle.compile.proofs.leaves.constant.Lts as lts
 use Rattle.store.proofs.add_const.Reads as add-const-reads
 use Rattle.store.proofs.emit.Reads as emit-reads
 
--- src/leaves.rt:25:9
 add-const-requires : tie.Need-add-const-requires
 add-const-requires c κs = search needs
 
--- src/leaves.rt:26:5
 emit-requires : tie.Need-emit-requires
 emit-requires c κs = search needs
 
--- src/leaves.rt:22:1
 same-length : tie.Need-same-length
 same-length c = search needs
 
--- src/leaves.rt:22:1
 returns : tie.Need-returns
 returns c = λ v. constant-does _ (c .before .before .before .before .before .before .add-const .ensures .place) (c .before .before .before .before .before .before .add-const .ensures .does v) (c .before .before .emit .ensures _ tt)
 

@@ -5,23 +5,18 @@ use borrow.Author.Needs.{needs}
 use Rattle.compile.proofs.leaves.load_named.Statement.{statement}
 use Rattle.compile.proofs.leaves.load_named.Tie as tie
 
--- src/leaves.rt:33:9
 add-name-requires : tie.Need-add-name-requires
 add-name-requires c κs = search needs
 
--- src/leaves.rt:34:43
 position-requires : tie.Need-position-requires
 position-requires c κs = search needs
 
--- src/leaves.rt:34:5
 emit-requires : tie.Need-emit-requires
 emit-requires c κs = search needs
 
--- src/leaves.rt:30:1
 same-length : tie.Need-same-length
 same-length c = search needs
 
--- src/leaves.rt:30:1
 returns : tie.Need-returns
 returns c =
     let named = c .before .before .before .before .before .before .before .add-name .ensures in

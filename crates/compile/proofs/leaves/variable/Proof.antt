@@ -10,50 +10,39 @@ use borrow.Author.Needs.{needs}
 use Rattle.compile.proofs.leaves.variable.Statement.{statement}
 use Rattle.compile.proofs.leaves.variable.Tie as tie
 
--- src/leaves.rt:41:50
 field-a-requires : tie.Need-field-a-requires
 field-a-requires c κs = search needs
 
--- src/leaves.rt:41:35
 text-requires : tie.Need-text-requires
 text-requires c κs = search needs
 
--- src/leaves.rt:41:9
 resolve-requires : tie.Need-resolve-requires
 resolve-requires c κs = search needs
 
--- src/leaves.rt:43:19
 enum-known-found : tie.Need-enum-known-found
 enum-known-found c = search needs
 
--- src/leaves.rt:43:28
 emit-requires : tie.Need-emit-requires
 emit-requires c κs = search needs
 
--- src/leaves.rt:44:44
 enum-told : tie.Need-enum-told
 enum-told c = search needs
 
--- src/leaves.rt:44:27
 load-named-requires : tie.Need-load-named-requires
 load-named-requires c κs = search needs
 
--- src/leaves.rt:38:1
 same-length : tie.Need-same-length
 same-length c = search needs
 
--- src/leaves.rt:38:1
 returns : tie.Need-returns
 returns c =
     let s = c .before .before .before .before .before .before .before .before .before .before .before .before .args .s .now in
     let is = c .before .before .before .before .before .before .before .resolve .ensures ∙ ap (λ (b : List ℕ). found (resolve s b)) (c .before .before .before .before .before .before .before .before .text .ensures ∙ ap (text s) (c .before .before .before .before .before .before .before .before .before .field-a .ensures)) in
     λ p v. variable-local _ _ _ is (c .before .before .before .before .before .found .given .1) (c .before .before .emit .ensures _ tt)
 
--- src/leaves.rt:38:1
 same-length-2 : tie.Need-same-length-2
 same-length-2 c = search needs
 
--- src/leaves.rt:38:1
 returns-2 : tie.Need-returns-2
 returns-2 c =
     let s = c .before .before .before .before .before .before .before .before .before .before .before .args .s .now in

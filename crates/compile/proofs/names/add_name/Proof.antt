@@ -8,19 +8,15 @@ use Rattle.compile.proofs.names.add_name.Lts as lts
 use Rattle.compile.proofs.names.key_of.Reads as key-of-reads
 use Rattle.store.proofs.add_name.Reads as add-name-reads
 
--- src/names.rt:34:34
 key-of-requires : tie.Need-key-of-requires
 key-of-requires c κs = search needs
 
--- src/names.rt:34:5
 add-name-requires : tie.Need-add-name-requires
 add-name-requires c κs = search needs
 
--- src/names.rt:30:1
 same-length : tie.Need-same-length
 same-length c = search needs
 
--- src/names.rt:30:1
 returns : tie.Need-returns
 returns c = (name-does _ _ _ (c .before .before .before .key-of .ensures) (c .before .before .add-name .ensures), name-place _ _ _ (c .before .before .before .key-of .ensures) (c .before .before .add-name .ensures))
 

@@ -10,27 +10,21 @@ use Rattle.sheet.proofs.position.Reads as position-reads
 use Rattle.store.proofs.add_chain.Reads as add-chain-reads
 use Rattle.store.proofs.emit.Reads as emit-reads
 
--- src/steps.rt:84:9
 add-chain-requires : tie.Need-add-chain-requires
 add-chain-requires c κs = search needs
 
--- src/steps.rt:85:39
 position-requires : tie.Need-position-requires
 position-requires c κs = search needs
 
--- src/steps.rt:85:55
 popped-requires : tie.Need-popped-requires
 popped-requires c κs = search needs
 
--- src/steps.rt:85:5
 emit-requires : tie.Need-emit-requires
 emit-requires c κs = search needs
 
--- src/steps.rt:81:1
 same-length : tie.Need-same-length
 same-length c = search needs
 
--- src/steps.rt:81:1
 returns : tie.Need-returns
 returns c = λ v a p h room. close-does _ _ _ _ a (c .before .before .before .before .position .ensures) (c .before .before .before .popped .ensures) (c .before .before .before .before .before .before .before .before .add-chain .ensures .place a h p) (c .before .before .before .before .before .before .before .before .add-chain .ensures .holds v a h p) (c .before .before .emit .ensures _ tt) room
 

@@ -8,15 +8,12 @@ use Rattle.compile.proofs.steps.method.Reads as reads
 use Rattle.compile.proofs.steps.method.Lts as lts
 use Rattle.store.proofs.add_name.Reads as add-name-reads
 
--- src/steps.rt:56:9
 add-name-requires : tie.Need-add-name-requires
 add-name-requires c κs = search needs
 
--- src/steps.rt:53:1
 same-length : tie.Need-same-length
 same-length c = search needs
 
--- src/steps.rt:53:1
 returns : tie.Need-returns
 returns c = λ k v. method-does _ k (c .before .before .before .add-name .ensures .0 (omega arith) v)
 

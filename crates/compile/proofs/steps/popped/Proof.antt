@@ -10,23 +10,18 @@ use Rattle.chains.proofs.operands.Reads as operands-reads
 use Rattle.counting.proofs.links.temporary.Reads as temporary-reads
 use Rattle.sheet.proofs.child.Reads as child-reads
 
--- src/steps.rt:77:5
 operands-requires : tie.Need-operands-requires
 operands-requires c κs = search needs
 
--- src/steps.rt:77:35
 child-requires : tie.Need-child-requires
 child-requires c κs = search needs
 
--- src/steps.rt:77:22
 temporary-requires : tie.Need-temporary-requires
 temporary-requires c κs = search needs
 
--- src/steps.rt:77:5
 add-result : tie.Need-add-result
 add-result c = omega (arith, c .before .before .operands .ensures, c .temporary .ensures, operands-few (c .before .before .before .before .args .s .now) (c .before .before .before .before .args .j), temporary-few (c .before .before .before .before .args .s .now) (c .before .child .result))
 
--- src/steps.rt:74:1
 returns : tie.Need-returns
 returns c = popped-is (c .before .before .before .before .args .s .now) (c .before .before .before .before .args .j) _ _ (c .before .child .result) (c .before .before .operands .ensures) (c .temporary .ensures) (c .before .child .ensures)
 

@@ -8,23 +8,18 @@ use Rattle.compile.proofs.steps.property.Reads as reads
 use Rattle.compile.proofs.steps.property.Lts as lts
 use Rattle.store.proofs.add_name.Reads as add-name-reads
 
--- src/steps.rt:46:9
 add-name-requires : tie.Need-add-name-requires
 add-name-requires c κs = search needs
 
--- src/steps.rt:47:9
 add-name-requires-2 : tie.Need-add-name-requires-2
 add-name-requires-2 c κs = search needs
 
--- src/steps.rt:48:9
 add-name-requires-3 : tie.Need-add-name-requires-3
 add-name-requires-3 c κs = search needs
 
--- src/steps.rt:43:1
 same-length : tie.Need-same-length
 same-length c = search needs
 
--- src/steps.rt:43:1
 returns : tie.Need-returns
 returns c = λ k v. property-does _ k (c .before .before .before .before .before .before .before .before .before .before .before .add-name .ensures .0 (omega arith) v) (c .before .before .before .before .before .before .before .add-name2 .ensures .0 (omega arith) v) (c .before .before .before .add-name3 .ensures .0 (omega arith) v)
 

@@ -9,23 +9,18 @@ use Rattle.compile.proofs.steps.root_name.Lts as lts
 use Rattle.sheet.proofs.kind.Reads as kind-reads
 use Rattle.store.proofs.add_name.Reads as add-name-reads
 
--- src/steps.rt:35:8
 kind-requires : tie.Need-kind-requires
 kind-requires c κs = search needs
 
--- src/steps.rt:36:13
 add-name-requires : tie.Need-add-name-requires
 add-name-requires c κs = search needs
 
--- src/steps.rt:37:9
 same-length : tie.Need-same-length
 same-length c = search needs
 
--- src/steps.rt:37:9
 returns : tie.Need-returns
 returns c = λ v. root-named _ _ (c .before .before .before .before .before .before .kind .ensures) (c .before .before .before .before .before .if1 .taken) (c .before .before .before .add-name .ensures .0 (omega arith) v)
 
--- src/steps.rt:32:1
 returns-2 : tie.Need-returns-2
 returns-2 c = λ v. root-other _ _ (c .before .kind .ensures) (c .if1 .left)
 

@@ -10,63 +10,48 @@ use Rattle.compile.proofs.steps.property.Reads as property-reads
 use Rattle.rules.proofs.chains.operand_of.Reads as operand-of-reads
 use Rattle.rules.proofs.chains.step_rule.Reads as step-rule-reads
 
--- src/steps.rt:64:9
 step-rule-requires : tie.Need-step-rule-requires
 step-rule-requires c κs = search needs
 
--- src/steps.rt:66:28
 enum-told : tie.Need-enum-told
 enum-told c = search needs
 
--- src/steps.rt:67:46
 enum-told-2 : tie.Need-enum-told-2
 enum-told-2 c = search needs
 
--- src/steps.rt:67:53
 operand-of-requires : tie.Need-operand-of-requires
 operand-of-requires c κs = search needs
 
--- src/steps.rt:67:31
 property-requires : tie.Need-property-requires
 property-requires c κs = search needs
 
--- src/steps.rt:68:42
 enum-told-3 : tie.Need-enum-told-3
 enum-told-3 c = search needs
 
--- src/steps.rt:68:49
 operand-of-requires-2 : tie.Need-operand-of-requires-2
 operand-of-requires-2 c κs = search needs
 
--- src/steps.rt:68:29
 method-requires : tie.Need-method-requires
 method-requires c κs = search needs
 
--- src/steps.rt:69:30
 enum-told-4 : tie.Need-enum-told-4
 enum-told-4 c = search needs
 
--- src/steps.rt:61:1
 returns : tie.Need-returns
 returns c = λ v. names-index _ _ (c .before .before .step-rule .ensures) (c .enum-told .given .1)
 
--- src/steps.rt:61:1
 same-length : tie.Need-same-length
 same-length c = search needs
 
--- src/steps.rt:61:1
 returns-2 : tie.Need-returns-2
 returns-2 c = λ v. names-property _ _ _ (c .before .before .before .before .before .before .before .step-rule .ensures) (c .before .before .before .before .before .enum-told2 .given .1) (c .before .before .before .operand-of .ensures) v (c .before .before .property .ensures)
 
--- src/steps.rt:61:1
 same-length-2 : tie.Need-same-length-2
 same-length-2 c = search needs
 
--- src/steps.rt:61:1
 returns-3 : tie.Need-returns-3
 returns-3 c = λ v. names-method _ _ _ (c .before .before .before .before .before .before .before .step-rule .ensures) (c .before .before .before .before .before .enum-told3 .given .1) (c .before .before .before .operand-of2 .ensures) v (c .before .before .method .ensures)
 
--- src/steps.rt:61:1
 returns-4 : tie.Need-returns-4
 returns-4 c = λ v. names-nothing _ _ (c .before .before .step-rule .ensures) (c .enum-told4 .given .1)
 

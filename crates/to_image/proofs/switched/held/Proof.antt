@@ -9,23 +9,18 @@ use Rattle.dispatch.proofs.case_consts.Reads as case-consts-reads
 use Rattle.dispatch.proofs.switch.Reads as switch-reads
 use Rattle.store.proofs.start.Reads as start-reads
 
--- src/switched.rt:30:30
 start-requires : tie.Need-start-requires
 start-requires c κs = search needs
 
--- src/switched.rt:30:9
 switch-requires : tie.Need-switch-requires
 switch-requires c κs = search needs
 
--- src/switched.rt:31:5
 case-consts-requires : tie.Need-case-consts-requires
 case-consts-requires c κs = search needs
 
--- src/switched.rt:17:1
 same-length : tie.Need-same-length
 same-length c = search needs
 
--- src/switched.rt:17:1
 returns : tie.Need-returns
 returns c = λ P. planned-holds _ _ _ _ _ _ _ _ _ _ _ P (c .before .before .before .before .before .before .before .start .ensures) (c .before .before .before .before .before .before .switch .ensures) (c .before .before .case-consts .ensures)
 

@@ -29,59 +29,45 @@ Inv-loop s g h y n want at r₀ c₀ i₀ r c i = (i ≤ n) × (n ≤ 64) × (le
 abbrev μ-loop : tie.MeasureT-loop
 μ-loop s g h y n want at r₀ c₀ i₀ r c i = n - i
 
--- src/targets.rt:36:21
 field-b-requires : tie.Need-field-b-requires Inv-loop μ-loop
 field-b-requires c κs = tt
 
--- src/targets.rt:36:21
 cast-at-most : tie.Need-cast-at-most Inv-loop μ-loop
 cast-at-most c = word-fits _ (c .field-b .ok)
 
--- src/targets.rt:36:9
 at-most-requires : tie.Need-at-most-requires Inv-loop μ-loop
 at-most-requires c κs = tt
 
--- src/targets.rt:39:17
 no-targets-requires : tie.Need-no-targets-requires Inv-loop μ-loop
 no-targets-requires c κs = tt
 
--- src/targets.rt:40:9
 first-case-requires : tie.Need-first-case-requires Inv-loop μ-loop
 first-case-requires c κs = tt
 
--- src/targets.rt:42:5
 loop-holds : tie.Need-loop-holds Inv-loop μ-loop
 loop-holds c = (zero-le, cut-off-at _ _ 64 (c .before .before .before .before .at-most .ensures), c .before .no-targets .ensures, first-at _ _ (c .first-case .ensures), λ A. first-none _ _)
 
--- src/targets.rt:43:68
 case-blocks-requires : tie.Need-case-blocks-requires Inv-loop μ-loop
 case-blocks-requires c κs = tt
 
--- src/targets.rt:43:16
 case-target-requires : tie.Need-case-target-requires Inv-loop μ-loop
 case-target-requires c κs = tt
 
--- src/targets.rt:43:9
 mul-r : tie.Need-mul-r Inv-loop μ-loop
 mul-r c = scaled-fits _ 64 _ (step-below _ _ (c .before .before .loop-test .taken) 64 (c .before .before .before .loop .inv .1)) (lit< tt)
 
--- src/targets.rt:43:9
 array-write-r : tie.Need-array-write-r Inv-loop μ-loop
 array-write-r c = step-below _ _ (c .before .before .loop-test .taken) 64 (c .before .before .before .loop .inv .1)
 
--- src/targets.rt:44:9
 next-requires : tie.Need-next-requires Inv-loop μ-loop
 next-requires c κs = tt
 
--- src/targets.rt:45:9
 add-i : tie.Need-add-i Inv-loop μ-loop
 add-i c = step-fits-64 _ _ (c .before .before .before .loop-test .taken) (c .before .before .before .before .loop .inv .1)
 
--- src/targets.rt:42:5
 loop-less : tie.Need-loop-less Inv-loop μ-loop
 loop-less c = step-falls _ _ (c .before .before .before .loop-test .taken)
 
--- src/targets.rt:42:5
 loop-again : tie.Need-loop-again Inv-loop μ-loop
 loop-again c =
     let w = c .before .before .before .before .loop in
@@ -96,7 +82,6 @@ loop-again c =
           (w .inv .4 A),
     )
 
--- src/targets.rt:32:1
 returns : tie.Need-returns Inv-loop μ-loop
 returns c = let w = c .before .loop in λ A. first-done _ _ _ _
     (all-passed _ _ _ (w .inv .0) (c .loop-test .left)

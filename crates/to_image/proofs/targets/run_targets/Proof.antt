@@ -27,51 +27,39 @@ Inv-loop s g x p e y start n runs want at r₀ i₀ r i = (i ≤ n) × (n ≤ 25
 abbrev μ-loop : tie.MeasureT-loop
 μ-loop s g x p e y start n runs want at r₀ i₀ r i = n - i
 
--- src/targets.rt:78:9
 at-most-runs-requires : tie.Need-at-most-runs-requires Inv-loop μ-loop
 at-most-runs-requires c κs = tt
 
--- src/targets.rt:82:17
 no-run-targets-requires : tie.Need-no-run-targets-requires Inv-loop μ-loop
 no-run-targets-requires c κs = tt
 
--- src/targets.rt:84:5
 loop-holds : tie.Need-loop-holds Inv-loop μ-loop
 loop-holds c = (zero-le, cut-off-at _ _ 255 (c .before .before .before .before .at-most-runs .ensures), search (needs, length-mapped), c .no-run-targets .ensures, λ A. first-none _ _)
 
--- src/targets.rt:85:17
 mul-w : tie.Need-mul-w Inv-loop μ-loop
 mul-w c = scaled-fits _ 255 _ (step-below _ _ (c .loop-test .taken) 255 (c .before .loop .inv .1)) (lit< tt)
 
--- src/targets.rt:85:17
 array-copy-out-w : tie.Need-array-copy-out-w Inv-loop μ-loop
 array-copy-out-w c = step-below _ _ (c .loop-test .taken) 255 (c .before .loop .inv .1)
 
--- src/targets.rt:86:70
 piece-blocks-requires : tie.Need-piece-blocks-requires Inv-loop μ-loop
 piece-blocks-requires c κs = tt
 
--- src/targets.rt:86:16
 run-target-requires : tie.Need-run-target-requires Inv-loop μ-loop
 run-target-requires c κs = tt
 
--- src/targets.rt:86:9
 mul-r : tie.Need-mul-r Inv-loop μ-loop
 mul-r c = scaled-fits _ 255 _ (step-below _ _ (c .before .before .before .loop-test .taken) 255 (c .before .before .before .before .loop .inv .1)) (lit< tt)
 
--- src/targets.rt:86:9
 array-write-r : tie.Need-array-write-r Inv-loop μ-loop
 array-write-r c = step-below _ _ (c .before .before .before .loop-test .taken) 255 (c .before .before .before .before .loop .inv .1)
 
--- src/targets.rt:87:9
 add-i : tie.Need-add-i Inv-loop μ-loop
 add-i c = step-fits _ _ (c .before .before .before .loop-test .taken) (c .before .before .before .before .loop .inv .1)
 
--- src/targets.rt:84:5
 loop-less : tie.Need-loop-less Inv-loop μ-loop
 loop-less c = step-falls _ _ (c .before .before .before .loop-test .taken)
 
--- src/targets.rt:84:5
 loop-again : tie.Need-loop-again Inv-loop μ-loop
 loop-again c =
     let w = c .before .before .before .before .loop in
@@ -86,7 +74,6 @@ loop-again c =
           (w .inv .4 A),
     )
 
--- src/targets.rt:73:1
 returns : tie.Need-returns Inv-loop μ-loop
 returns c = let w = c .before .loop in λ A. first-done _ _ _ _
     (all-passed _ _ _ (w .inv .0) (c .loop-test .left) (c .before .before .before .before .before .before .at-most-runs .ensures))
