@@ -226,16 +226,21 @@ fn operand(draft: &mut Draft, which: usize, property: u32, method: u32) {
     }
 }
 
-/// An Array of variables with so many names of their own, which are no locals.
-pub fn names(count: usize) -> Vec<u8> {
+/// An Array of so many leaves of a kind, each with a text of its own.
+fn texts(kind: u32, stem: &str, count: usize) -> Vec<u8> {
     let mut draft = Draft::new();
     draft.open(ARRAY, [0; 3], 1);
     for index in 0..count {
-        let text = draft.text(format!("name_{index:05}").as_bytes());
-        draft.leaf(VARIABLE, [text, 0, 0], 2);
+        let text = draft.text(format!("{stem}_{index:05}").as_bytes());
+        draft.leaf(kind, [text, 0, 0], 2);
     }
     draft.close();
     draft.to_bytes()
+}
+
+/// An Array of variables with so many names of their own, which are no locals.
+pub fn names(count: usize) -> Vec<u8> {
+    texts(VARIABLE, "name", count)
 }
 
 /// So many integers, all different.
@@ -251,14 +256,7 @@ pub fn constants(count: usize) -> Vec<u8> {
 
 /// An Array of so many Strings, all different.
 pub fn strings(count: usize) -> Vec<u8> {
-    let mut draft = Draft::new();
-    draft.open(ARRAY, [0; 3], 1);
-    for index in 0..count {
-        let text = draft.text(format!("text_{index:05}").as_bytes());
-        draft.leaf(STRING, [text, 0, 0], 2);
-    }
-    draft.close();
-    draft.to_bytes()
+    texts(STRING, "text", count)
 }
 
 /// An Array of so many chains `this.p`, all different by their positions.
