@@ -1,0 +1,10 @@
+pub mod Tells
+pub mod Real
+pub mod EdgeLaws
+pub mod ComeLaws
+pub mod Told
+pub mod Right
+pub mod Complete
+pub mod WordLaws
+pub mod Theorem
+pub mod Samples
