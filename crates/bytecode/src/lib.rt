@@ -1,4 +1,10 @@
 // The records of an image: instructions, chains and their steps, switch tables. specs/ gives the words of each.
+mod table;
+
+pub use table::counted;
+pub use table::effects;
+pub use table::entry;
+pub use table::kept;
 
 // Where CallRef finds the variable that it calls through.
 pub enum Receiver {

@@ -41,7 +41,7 @@ module _ (w : List ℕ) (A : Aims w) (N : TablesNamed w) (G : RunsAgree w) (R : 
   real-agree t d e x y =
       sym (ap (λ (st : State). st .depth) (x .there))
       ∙ G (x .ways) (y .ways) (x .count) (y .count)
-          (ap (λ (st : State). st .place) (x .there) ∙ sym (ap (λ (st : State). st .place) (y .there)))
+      (ap (λ (st : State). st .place) (x .there) ∙ sym (ap (λ (st : State). st .place) (y .there)))
       ∙ ap (λ (st : State). st .depth) (y .there)
 
   real-finds : (p d : ℕ) → p < instructions w → Real w p d → needs w p ≤ d
@@ -128,6 +128,7 @@ module _ (w : List ℕ) (A : Aims w) (N : TablesNamed w) (G : RunsAgree w) (R : 
       where
         i : ℕ
         i = aAt w p
+
         rows : (r : ℕ) → Real w (tableTarget w (aAt w p) r) (after w p d)
         rows r = targets table e r .2
 
@@ -179,7 +180,6 @@ module _ (w : List ℕ) (A : Aims w) (N : TablesNamed w) (G : RunsAgree w) (R : 
     tabled = λ i b d g. absurd (omega (arith, start-else w size (tableNode w i) (λ e. omega arith)));
   }
   fine-marked size (suc p) z h = fine-by p h (marked w size p) (fine-marked size p z (omega arith)) (mark (marked w size p) p) refl
-
 
   -- the marks of the pass over the whole code
   pub marks-right : DepthReached w → (size : ℕ) → instructions w + 1 + tables w ≤ size → Right w (marked w size (instructions w))

@@ -37,30 +37,30 @@ unfolding placeBy
 tells-place w l p zero = tells-always (λ d e. absurd (omega arith))
 tells-place w l p (suc d) =
     tells-as (tells-and (tells-le (needs w p) d) (tells-all (edges (flowAt w p)) (λ way. tells-eq (mark l (edge (flowAt w p) w p way)) (suc (after w p d)))))
-        (λ h e q. subst (PlaceRight w l p) (omega arith) (record { finds = h .0; leads = h .1 }))
-        (λ h. let r = h d refl in (r .finds, r .leads))
+    (λ h e q. subst (PlaceRight w l p) (omega arith) (record { finds = h .0; leads = h .1 }))
+    (λ h. let r = h d refl in (r .finds, r .leads))
 
 tells-table : (w l : List ℕ) (i m : ℕ) → Tells (tableBy m w l i) ((d : ℕ) → m ≡ suc d → TableRight w l i d)
 unfolding tableBy
 tells-table w l i zero = tells-always (λ d e. absurd (omega arith))
 tells-table w l i (suc d) =
     tells-as (tells-all (suc (switchWord w i 2)) (λ r. tells-eq (mark l (tableTarget w i r)) (suc d)))
-        (λ h e q. subst (TableRight w l i) (omega arith) h)
-        (λ h. h d refl)
+    (λ h e q. subst (TableRight w l i) (omega arith) h)
+    (λ h. h d refl)
 
 pub tells-right : (w l : List ℕ) → Tells (marksRight w l) (Right w l)
 unfolding marksRight
 tells-right w l =
     tells-as
-        (tells-and
-            (tells-and
-                (tells-and
-                    (tells-all (instructions w) (λ p. tells-place w l p (mark l p)))
-                    (tells-all (tables w) (λ i. tells-table w l i (mark l (tableNode w i)))))
-                (tells-eq (mark l (instructions w)) 2))
-            (tells-eq (most l (instructions w)) (suc (greatestDepth w))))
-        (λ h. record { places = h .0 .0 .0; tabled = h .0 .0 .1; ends = h .0 .1; greatest = h .1 })
-        (λ r. (((r .places, r .tabled), r .ends), r .greatest))
+    (tells-and
+    (tells-and
+    (tells-and
+    (tells-all (instructions w) (λ p. tells-place w l p (mark l p)))
+    (tells-all (tables w) (λ i. tells-table w l i (mark l (tableNode w i)))))
+    (tells-eq (mark l (instructions w)) 2))
+    (tells-eq (most l (instructions w)) (suc (greatestDepth w))))
+    (λ h. record { places = h .0 .0 .0; tabled = h .0 .0 .1; ends = h .0 .1; greatest = h .1 })
+    (λ r. (((r .places, r .tabled), r .ends), r .greatest))
 
 pub most-above : (l : List ℕ) (n t : ℕ) → t ≤ n → mark l t ≤ most l n
 unfolding most

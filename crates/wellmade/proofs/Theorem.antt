@@ -26,15 +26,15 @@ pub well-made : (s w : List ℕ) → Tells (wellMade s w) (WellMade s w)
 unfolding wellMade
 well-made s w =
     tells-as
-        (tells-then
-            (tells-then
-                (tells-then
-                    (tells-and (tells-le sizesWords (length w)) (tells-eq (length w) (endAt w)))
-                    (λ z. tells-words s w))
-                (λ z. tells-targets s w (z .1)))
-            (λ z. tells-right w (marked w (length w) (instructions w))))
-        (λ z. made (z .0 .0 .0 .0) (z .0 .0 .0 .1) (z .0 .0 .1) (z .0 .1) (z .1))
-        (λ m. ((((m .enough, m .sizes), m .words), m .targets), marks-right w (m .targets) (words-named s w (m .words)) (m .agree) (m .runs) (m .depth) (length w) (room w (m .enough) (m .sizes))))
+    (tells-then
+    (tells-then
+    (tells-then
+    (tells-and (tells-le sizesWords (length w)) (tells-eq (length w) (endAt w)))
+    (λ z. tells-words s w))
+    (λ z. tells-targets s w (z .1)))
+    (λ z. tells-right w (marked w (length w) (instructions w))))
+    (λ z. made (z .0 .0 .0 .0) (z .0 .0 .0 .1) (z .0 .0 .1) (z .0 .1) (z .1))
+    (λ m. ((((m .enough, m .sizes), m .words), m .targets), marks-right w (m .targets) (words-named s w (m .words)) (m .agree) (m .runs) (m .depth) (length w) (room w (m .enough) (m .sizes))))
   where
     made : sizesWords ≤ length w → length w ≡ endAt w → WordsRight s w → Aims w → Right w (marked w (length w) (instructions w)) → WellMade s w
     made a e W A R =

@@ -46,32 +46,32 @@ pub tells-words : (s w : List ℕ) → Tells (wordsRight s w) (WordsRight s w)
 unfolding wordsRight
 tells-words s w =
     tells-as
-        (tells-and (tells-and (tells-and (tells-and (tells-and (tells-and (tells-and (tells-and (tells-and (tells-and
-            (each (instructions w) (λ p. codeRules s w p) w (λ p. codeAt + 4 * p))
-            (each (constants w) (λ i. constRules s w i) w (λ i. constsAt w + 3 * i)))
-            (each (names w) (λ i. nameRules s) w (λ i. namesAt w + 2 * i)))
-            (each (tokens w) (λ i. tokenRules) w (λ i. tokensAt w + i)))
-            (each (residuals w) (λ i. residualRules s) w (λ i. residualsAt w + i)))
-            (each (chains w) (λ i. chainRules s w i) w (λ i. chainsAt w + 6 * i)))
-            (each (steps w) (λ j. stepRules w j) w (λ j. stepsAt w + 6 * j)))
-            (tells-all (chains w) (λ i. each (chainWord w i 4) (λ k. operandRules w i (chainWord w i 3 + k)) w (λ k. stepsAt w + 6 * (chainWord w i 3 + k)))))
-            (each (tables w) (λ i. tableRules w i) w (λ i. switchesAt w + 4 * i)))
-            (each (cases w) (λ i. caseRules w) w (λ i. casesAt w + 2 * i)))
-            (each (ranges w) (λ i. rangeRules w) w (λ i. rangesAt w + 6 * i)))
-        (λ h. record {
-          code = h .0 .0 .0 .0 .0 .0 .0 .0 .0 .0;
-          consts = h .0 .0 .0 .0 .0 .0 .0 .0 .0 .1;
-          named = h .0 .0 .0 .0 .0 .0 .0 .0 .1;
-          tokened = h .0 .0 .0 .0 .0 .0 .0 .1;
-          residual = h .0 .0 .0 .0 .0 .0 .1;
-          chained = h .0 .0 .0 .0 .0 .1;
-          stepped = h .0 .0 .0 .0 .1;
-          operands = h .0 .0 .0 .1;
-          tabled = h .0 .0 .1;
-          cased = h .0 .1;
-          ranged = h .1;
-        })
-        (λ r. ((((((((((r .code, r .consts), r .named), r .tokened), r .residual), r .chained), r .stepped), r .operands), r .tabled), r .cased), r .ranged))
+    (tells-and (tells-and (tells-and (tells-and (tells-and (tells-and (tells-and (tells-and (tells-and (tells-and
+    (each (instructions w) (λ p. codeRules s w p) w (λ p. codeAt + 4 * p))
+    (each (constants w) (λ i. constRules s w i) w (λ i. constsAt w + 3 * i)))
+    (each (names w) (λ i. nameRules s) w (λ i. namesAt w + 2 * i)))
+    (each (tokens w) (λ i. tokenRules) w (λ i. tokensAt w + i)))
+    (each (residuals w) (λ i. residualRules s) w (λ i. residualsAt w + i)))
+    (each (chains w) (λ i. chainRules s w i) w (λ i. chainsAt w + 6 * i)))
+    (each (steps w) (λ j. stepRules w j) w (λ j. stepsAt w + 6 * j)))
+    (tells-all (chains w) (λ i. each (chainWord w i 4) (λ k. operandRules w i (chainWord w i 3 + k)) w (λ k. stepsAt w + 6 * (chainWord w i 3 + k)))))
+    (each (tables w) (λ i. tableRules w i) w (λ i. switchesAt w + 4 * i)))
+    (each (cases w) (λ i. caseRules w) w (λ i. casesAt w + 2 * i)))
+    (each (ranges w) (λ i. rangeRules w) w (λ i. rangesAt w + 6 * i)))
+    (λ h. record {
+      code = h .0 .0 .0 .0 .0 .0 .0 .0 .0 .0;
+      consts = h .0 .0 .0 .0 .0 .0 .0 .0 .0 .1;
+      named = h .0 .0 .0 .0 .0 .0 .0 .0 .1;
+      tokened = h .0 .0 .0 .0 .0 .0 .0 .1;
+      residual = h .0 .0 .0 .0 .0 .0 .1;
+      chained = h .0 .0 .0 .0 .0 .1;
+      stepped = h .0 .0 .0 .0 .1;
+      operands = h .0 .0 .0 .1;
+      tabled = h .0 .0 .1;
+      cased = h .0 .1;
+      ranged = h .1;
+    })
+    (λ r. ((((((((((r .code, r .consts), r .named), r .tokened), r .residual), r .chained), r .stepped), r .operands), r .tabled), r .cased), r .ranged))
 
 -- of the kinds only 15 goes by a table
 goesByTable : Flow → Bool
@@ -88,7 +88,7 @@ is-15 : (k : ℕ) → k < 25 → effect k .flow ≡ table → k ≡ 15
 unfolding goesByTable
 is-15 k h e =
     eqb-true k 15
-        (subst (λ (F : Flow). (not (goesByTable F) || eqb k 15) ≡ true) e (all-at (λ k. not (goesByTable (effect k .flow)) || eqb k 15) 25 k only-15 h))
+    (subst (λ (F : Flow). (not (goesByTable F) || eqb k 15) ≡ true) e (all-at (λ k. not (goesByTable (effect k .flow)) || eqb k 15) 25 k only-15 h))
 
 pub words-named : (s w : List ℕ) → WordsRight s w → TablesNamed w
 unfolding codeTable Fits
@@ -177,8 +177,8 @@ module _ (s w : List ℕ) (W : WordsRight s w) (p : ℕ) (h : p < instructions w
   unfolding AimsBy goesTo branchTarget
   tells-branch =
       tells-as (tells-and (tells-lt p (aAt w p)) (tells-le (aAt w p) (instructions w)))
-          (λ g. elim [ zero ↦ (omega arith, omega arith) | suc way ↦ g ])
-          (λ g. g 1)
+      (λ g. elim [ zero ↦ (omega arith, omega arith) | suc way ↦ g ])
+      (λ g. g 1)
 
   inside : flowAt w p ≡ table → (r : ℕ) → tableTarget w (aAt w p) r ≤ instructions w
   unfolding Fits switchWord
@@ -196,13 +196,13 @@ module _ (s w : List ℕ) (W : WordsRight s w) (p : ℕ) (h : p < instructions w
   tells-aims table e =
       let i = aAt w p in
       tells-as (tells-lt p (leastTarget w i))
-          (λ g way.
-              let b = least-below (rowTarget w i) (switchWord w i 3) (switchWord w i 2) p g in
-              (targets-by (λ t. p < t) w i (b .1) (b .0) way, inside e way))
-          (λ g.
-              least-of (rowTarget w i) (switchWord w i 3) (switchWord w i 2) p
-                  (subst (λ (t : ℕ). p < t) (default-there w i) (g (switchWord w i 2) .0))
-                  (λ r b. subst (λ (t : ℕ). p < t) (row-there w i r b) (g r .0)))
+      (λ g way.
+      let b = least-below (rowTarget w i) (switchWord w i 3) (switchWord w i 2) p g in
+      (targets-by (λ t. p < t) w i (b .1) (b .0) way, inside e way))
+      (λ g.
+      least-of (rowTarget w i) (switchWord w i 3) (switchWord w i 2) p
+      (subst (λ (t : ℕ). p < t) (default-there w i) (g (switchWord w i 2) .0))
+      (λ r b. subst (λ (t : ℕ). p < t) (row-there w i r b) (g r .0)))
 
   tells-there : Tells (aims (flowAt w p) w p) ((way : ℕ) → (p < next w way p) × (next w way p ≤ instructions w))
   unfolding next AimsBy
