@@ -10,8 +10,9 @@ use Rattle.bytecode.specs.declared.Op.{Op}
 use Rattle.bytecode.specs.declared.Op.the-variants.{Const, Unit, Bool, LoadLocal, LoadNamed, LoadThis, Pop, Jump, JumpIfTrue, JumpIfFalse, SkipIfNotUnit, Call, CallRef, Rotate, Switch, MakeFnPtr, CallFnPtr, InterpolateStart, InterpolateAppend, InterpolateEnd, MakeArray, CheckSize, Chain, EvalAst}
 use Rattle.bytecode.specs.Op.{four, receiverKind, receiverWord, opWords}
 use Rattle.bytecode.specs.Effect.{effect, refArgc, popped}
+use Rattle.bytecode.specs.Table.{countNumber, numbersOf, entry, counted}
 use Rattle.emission.specs.Made.{after}
-use Rattle.store.specs.Effects.{Narrow, joined, callRefWords, entries, counted, afterWords}
+use Rattle.store.specs.Effects.{Narrow, joined, callRefWords, afterWords}
 
 pub joined-small : (argc n : ℕ) → argc < 256 → n < 256 → joined argc n ≡ argc + 256 * n
 unfolding joined
@@ -41,7 +42,7 @@ call-ref-words x name argc r w e f h =
 -- the table gives the effects
 module _ (n d : ℕ) where
   pub after-op : (op : Op) → afterWords (opWords op) n d ≡ after op n d
-  unfolding afterWords opWords after effect entries counted popped
+  unfolding afterWords opWords after effect entry numbersOf countNumber counted popped
   after-op (Const i) = refl
   after-op Unit = refl
   after-op (Bool t) = refl

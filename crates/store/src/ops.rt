@@ -1,10 +1,11 @@
 // Instructions: their words, and what they do to the depth.
 ghost use mathlib.Core.Path.{_≡_};
-ghost use Rattle.bytecode.specs.Effect.{refArgc};
 ghost use Rattle.bytecode.specs.Op.{opWords};
 ghost use Rattle.store.specs.Effects as effects;
 use bytecode::Op;
 use bytecode::Receiver;
+use bytecode::counted;
+use bytecode::entry;
 
 // A receiver's number, and the word that names it.
 fn receiver_words(r: Receiver) -> [u32; 2]
@@ -73,137 +74,15 @@ fn call_ref(name: u32, argc: u32, r: Receiver) -> [u32; 4]
     [13, name, joined(argc, w[0]), w[1]]
 }
 
-// For each kind from 0 on: pops, pushes, and which count is popped besides: 0 none, 1 argc of Call, 2 argc of CallRef, 3 the word a,
-// 4 what a chain takes. Kind 0 is no kind.
-const EFFECTS: [u8; 75] = [
-    0,
-    0,
-    0,
-    0,
-    1,
-    0,
-    0,
-    1,
-    0,
-    0,
-    1,
-    0,
-    0,
-    1,
-    0,
-    0,
-    1,
-    0,
-    0,
-    1,
-    0,
-    1,
-    0,
-    0,
-    0,
-    0,
-    0,
-    1,
-    0,
-    0,
-    1,
-    0,
-    0,
-    0,
-    0,
-    0,
-    0,
-    1,
-    1,
-    0,
-    1,
-    2,
-    0,
-    0,
-    0,
-    0,
-    0,
-    0,
-    1,
-    1,
-    0,
-    1,
-    1,
-    3,
-    0,
-    1,
-    0,
-    2,
-    1,
-    0,
-    1,
-    1,
-    0,
-    0,
-    1,
-    3,
-    0,
-    0,
-    0,
-    0,
-    1,
-    4,
-    0,
-    1,
-    0,
-];
-
-// The table's entries for a kind, 0 where there is none.
-fn effect(kind: u32) -> [u64; 3]
-    ensures { λ r. ⌜ r ≡ effects.entries kind ⌝ }
-{
-    let t = EFFECTS;
-    let at = 3 * (kind as usize);
-    if at < 75 {
-        [t[at] as u64, t[at + 1] as u64, t[at + 2] as u64]
-    } else {
-        [0, 0, 0]
-    }
-}
-
-// The count that is popped besides: a Local receiver of CallRef is not on the stack.
-fn counted(which: u64, a: u32, b: u32, n: u32) -> u64
-    ensures { λ r. ⌜ r ≡ effects.counted which a b n ⌝ }
-{
-    if which == 1 {
-        return (b % 256) as u64;
-    }
-    if which == 2 {
-        return ref_argc(b);
-    }
-    if which == 3 {
-        return a as u64;
-    }
-    if which == 4 {
-        return n as u64;
-    }
-    0
-}
-
-fn ref_argc(b: u32) -> u64
-    ensures { λ r. ⌜ r ≡ refArgc b ⌝ }
-{
-    let argc = (b % 256) as u64;
-    if b / 256 == 0 {
-        if argc == 0 { 0 } else { argc - 1 }
-    } else {
-        argc
-    }
-}
-
 // The depth after an instruction with these words at depth `d`; `n` is what a chain takes.
 pub fn after(w: [u32; 4], n: u32, d: u32) -> u64
     ensures { λ r. ⌜ r ≡ effects.afterWords w n d ⌝ }
 {
-    let e = effect(w[0]);
-    let pops = e[0] + counted(e[2], w[1], w[2], n);
+    let t = bytecode::effects();
+    let pops = (entry(&t, w[0], 0) as u64) + counted(entry(&t, w[0], 3), w[1], w[2], n as u64);
+    let pushes = entry(&t, w[0], 1) as u64;
     if pops < (d as u64) {
-        return (d as u64) - pops + e[1];
+        return (d as u64) - pops + pushes;
     }
-    e[1]
+    pushes
 }

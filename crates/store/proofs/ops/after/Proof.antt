@@ -1,17 +1,27 @@
 -- `store::ops::after` meets its contract: one law for each way.
-use Rattle.store.specs.TableLaws.{pops-fit, result-fits, after-some, after-none}
+use Rattle.store.specs.TableLaws.{pops-fit, after-some, after-none}
+use native.Mathlib.Omega.{arith}
 use borrow.Author.Needs.{needs}
 use Rattle.store.proofs.ops.after.Statement.{statement}
 use Rattle.store.proofs.ops.after.Tie as tie
 
-array-read-effect : tie.Need-array-read-effect
-array-read-effect c = search needs
+effects-requires : tie.Need-effects-requires
+effects-requires c κs = search needs
 
-effect-requires : tie.Need-effect-requires
-effect-requires c κs = search needs
+array-read-entry : tie.Need-array-read-entry
+array-read-entry c = search needs
 
-array-read-pops : tie.Need-array-read-pops
-array-read-pops c = search needs
+entry-requires : tie.Need-entry-requires
+entry-requires c κs = search needs
+
+cast-pops : tie.Need-cast-pops
+cast-pops c = search needs
+
+array-read-entry-2 : tie.Need-array-read-entry-2
+array-read-entry-2 c = search needs
+
+entry-requires-2 : tie.Need-entry-requires-2
+entry-requires-2 c κs = search needs
 
 array-read-counted : tie.Need-array-read-counted
 array-read-counted c = search needs
@@ -19,56 +29,80 @@ array-read-counted c = search needs
 array-read-counted-2 : tie.Need-array-read-counted-2
 array-read-counted-2 c = search needs
 
-array-read-counted-3 : tie.Need-array-read-counted-3
-array-read-counted-3 c = search needs
-
 counted-requires : tie.Need-counted-requires
 counted-requires c κs = search needs
 
 add-pops : tie.Need-add-pops
 add-pops c =
-    let a = c .before .before .args in
-    pops-fit (a .t1) (a .n) (a .d) (c .before .effect .result) (c .counted .result) (c .before .effect .ensures) (c .counted .ensures) (search needs) (c .before .before .fits .n)
+    let second = c .before in
+    let first = second .before .before in
+    let start = first .before .before .before in
+    let table = first .before .before .effects .ensures in
+    pops-fit (start .args .t1) (start .args .n) 0 _ 0 _ _
+    (first .entry .ensures table (omega arith))
+    (second .entry2 .ensures table (omega arith))
+    (c .counted .ensures)
+    (search needs)
+    (start .fits .n)
+
+array-read-entry-3 : tie.Need-array-read-entry-3
+array-read-entry-3 c = search needs
+
+entry-requires-3 : tie.Need-entry-requires-3
+entry-requires-3 c κs = search needs
+
+cast-pushes : tie.Need-cast-pushes
+cast-pushes c = search needs
 
 sub-result : tie.Need-sub-result
 sub-result c = search needs
 
-array-read-result : tie.Need-array-read-result
-array-read-result c = search needs
-
 add-result : tie.Need-add-result
-add-result c =
-    let a = c .before .before .before .args in
-    result-fits (a .t1) (a .n) (a .d) (c .before .before .effect .result) (c .before .counted .result) (c .before .before .effect .ensures) (c .before .counted .ensures) (c .before .before .before .fits .d)
+add-result c = search needs
 
 returns : tie.Need-returns
 returns c =
-    let a = c .before .before .before .args in
-    after-some (a .t1) (a .n) (a .d) (c .before .before .effect .result) (c .before .counted .result) (c .before .before .effect .ensures) (c .before .counted .ensures)
-
-array-read-result-2 : tie.Need-array-read-result-2
-array-read-result-2 c = search needs
+    let third = c .before in
+    let second = third .before .before .before in
+    let first = second .before .before in
+    let table = first .before .before .effects .ensures in
+    after-some _ _ _ _ _ _ _
+    (first .entry .ensures table (omega arith))
+    (second .entry2 .ensures table (omega arith))
+    (third .before .before .counted .ensures)
+    (third .entry3 .ensures table (omega arith))
 
 returns-2 : tie.Need-returns-2
 returns-2 c =
-    let a = c .before .before .before .args in
-    after-none (a .t1) (a .n) (a .d) (c .before .before .effect .result) (c .before .counted .result) (c .before .before .effect .ensures) (c .before .counted .ensures) (c .if1 .left)
+    let third = c .before in
+    let second = third .before .before .before in
+    let first = second .before .before in
+    let table = first .before .before .effects .ensures in
+    after-none _ _ _ _ _ _ _
+    (first .entry .ensures table (omega arith))
+    (second .entry2 .ensures table (omega arith))
+    (third .before .before .counted .ensures)
+    (third .entry3 .ensures table (omega arith))
+    (c .if1 .left)
 
 pub after-spec : {M : Type 1} → statement M
 after-spec =
     tie.close
     (tie.spec
-    array-read-effect
-    effect-requires
-    array-read-pops
+    effects-requires
+    array-read-entry
+    entry-requires
+    cast-pops
+    array-read-entry-2
+    entry-requires-2
     array-read-counted
     array-read-counted-2
-    array-read-counted-3
     counted-requires
     add-pops
+    array-read-entry-3
+    entry-requires-3
+    cast-pushes
     sub-result
-    array-read-result
     add-result
     returns
-    array-read-result-2
     returns-2)
