@@ -1,1 +1,8 @@
-// The definition of the lowering stands in specs/; there is no code here.
+// The definition of the lowering stands in specs/. Here are its refusals; 1 to 8 are those of the check.
+pub const EVAL_REACHED: u32 = 9;
+
+pub const TOO_MANY_EMITTED: u32 = 10;
+
+pub const SCRATCH_TOO_SHORT: u32 = 11;
+
+pub const IMAGE_TOO_LONG: u32 = 12;

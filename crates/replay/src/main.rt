@@ -1,16 +1,8 @@
 // Replays answers of the oracle. Standard input holds the count of records, then each record: the expected number, the sheet's length in
 // bytes, and the sheet padded with zeros to a word. Prints how many answers were the same, and how many were not.
 ghost use Prim.Native.Nat.{_≤_};
-use libc::STDIN_FILENO;
-use libc::STDOUT_FILENO;
-
-// Reads `n` bytes to the start of `buf`, and answers whether they were there.
-fn fill(buf: &mut [u8], n: usize) -> bool {
-    if n <= buf.len() {
-        return io::read_full(STDIN_FILENO, &mut buf[..n]) == n;
-    }
-    false
-}
+use records::fill;
+use records::print_result;
 
 // The answer for the first `len` bytes of `buf` is `expected`.
 fn agrees(buf: &[u8], len: usize, expected: u32) -> bool {
@@ -30,12 +22,6 @@ fn compare_one(buf: &mut [u8]) -> bool {
         }
     }
     false
-}
-
-fn print(label: &[u8], count: u64) {
-    io::write_all(STDOUT_FILENO, label);
-    io::print_decimal(STDOUT_FILENO, count);
-    io::write_all(STDOUT_FILENO, b"\n");
 }
 
 // How many of `most` records agree.
@@ -59,7 +45,6 @@ fn main() {
     if fill(head, 4) {
         let most = words::word_at(head, 0);
         let same = agreeing(head, most);
-        print(b"same ", same as u64);
-        print(b"different ", (most - same) as u64);
+        print_result(same, most);
     }
 }

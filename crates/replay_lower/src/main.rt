@@ -7,10 +7,13 @@ ghost use lib.Dec.{eqb};
 ghost use mathlib.Core.Path.{_≡_};
 ghost use Rattle.words.specs.Count.{allBelow};
 ghost use Rattle.replay_lower.specs.Left as left;
-use libc::STDIN_FILENO;
-use libc::STDOUT_FILENO;
+use lowering::IMAGE_TOO_LONG;
+use records::fill;
+use records::left_as;
+use records::noise;
+use records::print_result;
+use records::put_noise;
 use to_image::Answer;
-use to_image::IMAGE_TOO_LONG;
 use to_image::lower;
 
 // Room for the image or the scratch of a record.
@@ -18,29 +21,6 @@ fn room() -> [u32; 20480]
     ensures { λ r. ⌜ 20480 ≡ length r ⌝ }
 {
     [0; 20480]
-}
-
-// Reads `n` bytes to the start of `buf`, and answers whether they were there.
-fn fill(buf: &mut [u8], n: usize) -> bool {
-    if n <= buf.len() {
-        return io::read_full(STDIN_FILENO, &mut buf[..n]) == n;
-    }
-    false
-}
-
-// What stands in word `i` of a buffer before a lowering.
-fn noise(i: usize) -> u32
-    ensures { λ r. ⌜ r ≡ left.noise i ⌝ }
-{
-    2863311530 - (i % 65536) as u32
-}
-
-fn put_noise(buf: &mut [u32]) {
-    let mut i = 0;
-    while i < buf.len() {
-        buf[i] = noise(i);
-        i += 1;
-    }
 }
 
 // The answer has this number and this word count.
@@ -63,16 +43,6 @@ fn image_word(wanted: &[u8], count: usize, i: usize) -> u32
     noise(i)
 }
 
-// Word `i` of the scratch after a lowering: 0 under success and a long image, else what was there.
-fn scratch_word(number: u32, i: usize) -> u32
-    ensures { λ r. ⌜ r ≡ left.scratchWord number i ⌝ }
-{
-    if (number == 0) | (number == IMAGE_TOO_LONG) {
-        return 0;
-    }
-    noise(i)
-}
-
 // Each word of the image's room is as it must be.
 fn image_same(image: &[u32], wanted: &[u8], count: usize) -> bool
     ensures { λ r. ⌜ r ≡ allBelow (length (now (image .entry))) (λ i. eqb (getD (now (image .entry)) i 0) (left.imageWord (now (wanted .entry)) count i)) ⌝ }
@@ -80,21 +50,6 @@ fn image_same(image: &[u32], wanted: &[u8], count: usize) -> bool
     let mut i = 0;
     while i < image.len() {
         if image[i] == image_word(wanted, count, i) {
-            i += 1;
-        } else {
-            return false;
-        }
-    }
-    true
-}
-
-// Each word of the scratch is as it must be.
-fn scratch_same(scratch: &[u32], number: u32) -> bool
-    ensures { λ r. ⌜ r ≡ allBelow (length (now (scratch .entry))) (λ i. eqb (getD (now (scratch .entry)) i 0) (left.scratchWord number i)) ⌝ }
-{
-    let mut i = 0;
-    while i < scratch.len() {
-        if scratch[i] == scratch_word(number, i) {
             i += 1;
         } else {
             return false;
@@ -116,7 +71,7 @@ fn lowers(
     put_noise(scratch);
     let answer = answered(lower(sheet, image, scratch), number, count);
     let words = image_same(&image[..], wanted, count);
-    let rest = scratch_same(&scratch[..], number);
+    let rest = left_as(&scratch[..], (number == 0) | (number == IMAGE_TOO_LONG));
     answer & words & rest
 }
 
@@ -185,12 +140,6 @@ fn compare_one() -> bool {
     false
 }
 
-fn print(label: &[u8], count: u64) {
-    io::write_all(STDOUT_FILENO, label);
-    io::print_decimal(STDOUT_FILENO, count);
-    io::write_all(STDOUT_FILENO, b"\n");
-}
-
 // How many of `most` records agree.
 fn agreeing(most: u32) -> u32
     ensures { λ r. ⌜ r ≤ most ⌝ }
@@ -211,7 +160,6 @@ fn main() {
     if fill(&mut head, 4) {
         let most = words::word_at(&head, 0);
         let same = agreeing(most);
-        print(b"same ", same as u64);
-        print(b"different ", (most - same) as u64);
+        print_result(same, most);
     }
 }

@@ -5,7 +5,7 @@ use mathlib.Core.List.{List, [], _∷_, _++_, map, map-append, append-assoc, app
 use native.Mathlib.Omega.{arith}
 use native.Mathlib.Numerals.{add-one}
 use native.Mathlib.Nat.{add-comm, mul-zero, mul-suc}
-use lib.ListN.{length, take, getD, set, replicate, length-append, length-map, length-replicate}
+use lib.ListN.{length, take, getD, set, length-append, length-map}
 use lib.Seq.{take-suc, take-all, length-take-le}
 use Rattle.sheet.specs.Node.{kind, fieldA, fieldB}
 use Rattle.lowering.specs.Pools.{Const, Name, constOf}
@@ -33,18 +33,7 @@ section-one f x = append-nil (f x)
 pub section-snoc : {A : Type 0} (f : A → List ℕ) (xs : List A) (x : A) → section f (xs ++ (x ∷ [])) ≡ section f xs ++ f x
 section-snoc f xs x = section-append f xs (x ∷ []) ∙ ap (λ (l : List ℕ). section f xs ++ l) (section-one f x)
 
--- n zeros
-abbrev pub zeros : ℕ → List ℕ
-zeros n = replicate n 0
-
-zeros-more : (i : ℕ) → zeros (suc i) ≡ zeros i ++ (0 ∷ [])
-zeros-more zero = refl
-zeros-more (suc i) = ap (λ (l : List ℕ). 0 ∷ l) (zeros-more i)
-
-zeros-length : (i : ℕ) → length (zeros i) ≡ i
-zeros-length i = length-replicate {A = ℕ} i 0
-
--- a word for each: copied, zero, a token
+-- a word for each: copied, a token
 module _ {x₀ x : List ℕ} where
   pub copy-next :
       (l : List ℕ) (i : ℕ) → length x₀ ≡ length l → i < length l → Written x₀ x (take i l)
@@ -56,15 +45,6 @@ module _ {x₀ x : List ℕ} where
   copy-end l i e h w =
       let all = take-whole l i h in
       written-all w (ap length all ∙ sym e) ∙ all
-
-  pub zero-next : (i : ℕ) → i < length x₀ → Written x₀ x (zeros i) → Written x₀ (set x i 0) (zeros (i + 1))
-  zero-next i h w = rw (add-one i, zeros-more i) (written-one w i 0 (zeros-length i) h)
-
-  pub zero-end : (i : ℕ) → length x₀ ≤ i → Written x₀ x (zeros i) → x ≡ zeros (length x₀)
-  zero-end i h w =
-      let n = zeros-length i in
-      let e : i ≡ length x₀ = omega (arith, w .fits) in
-      written-all w (n ∙ e) ∙ ap zeros e
 
   pub map-next :
       (f : ℕ → ℕ) (l : List ℕ) (i v : ℕ) → length x₀ ≡ length l → i < length l → v ≡ f (getD l i 0) → Written x₀ x (map f (take i l))

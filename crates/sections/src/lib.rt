@@ -12,7 +12,6 @@ ghost use Rattle.chains.specs.Steps as chains;
 ghost use Rattle.chains.specs.Kept as kept;
 ghost use Rattle.keys.specs.Keys.{nameOf};
 ghost use Rattle.sections.specs.PutLaws.{putPart};
-ghost use Rattle.sections.specs.RowLaws.{zeros};
 use bytecode::Chain;
 use bytecode::Step;
 use chains::chain_of;
@@ -47,17 +46,6 @@ pub fn copy(out: &mut [u32], src: &[u32])
     let mut i = 0;
     while i < src.len() {
         out[i] = src[i];
-        i += 1;
-    }
-}
-
-// Zeros.
-pub fn zero(out: &mut [u32])
-    ensures { λ _. ⌜ now (out .exit) ≡ zeros (length (now (out .entry))) ⌝ }
-{
-    let mut i = 0;
-    while i < out.len() {
-        out[i] = 0;
         i += 1;
     }
 }

@@ -21,7 +21,7 @@ use Rattle.totals.specs.Total.{total}
 use Rattle.totals.specs.OutcomeLaws.{scratchTotal, outcome-9, outcome-10, outcome-11, outcome-12, outcome-image}
 use Rattle.to_image.specs.declared.Answer.{Answer}
 use Rattle.to_image.specs.declared.Answer.the-variants.{Lowered, Refused}
-use Rattle.sections.specs.RowLaws.{zeros}
+use Rattle.zeros.specs.Zeros.{zeros}
 use Rattle.to_image.specs.Answer.{answer, imageAfter, scratchAfter, Answers}
 use Rattle.to_image.specs.Making.{early, Ready, Built}
 

@@ -17,7 +17,10 @@ use counting::tallies::MAX_EMITTED;
 use counting::tallies::Tally;
 use image::image_len;
 use image::write_front;
-use sections::zero;
+use lowering::EVAL_REACHED;
+use lowering::IMAGE_TOO_LONG;
+use lowering::SCRATCH_TOO_SHORT;
+use lowering::TOO_MANY_EMITTED;
 use sheet::kind;
 use sheet::limits::MAX_DEPTH;
 use sheet::node_count;
@@ -25,21 +28,13 @@ use store::Layout;
 use store::start;
 use sums::SWITCH;
 use sums::total;
+use zeros::zero;
 
 // What a lowering answers: the image's word count, or 01's refusal number.
 pub enum Answer {
     Lowered { words: usize },
     Refused { number: u32 },
 }
-
-// The refusals of the lowering. 1 to 8 are those of the check.
-pub const EVAL_REACHED: u32 = 9;
-
-pub const TOO_MANY_EMITTED: u32 = 10;
-
-pub const SCRATCH_TOO_SHORT: u32 = 11;
-
-pub const IMAGE_TOO_LONG: u32 = 12;
 
 // words of scratch for each emitted instruction, for each node, and besides
 pub const PER_EMITTED: u64 = 16;

@@ -9,7 +9,7 @@ use Rattle.words.specs.Count.{allBelow}
 use Rattle.words.specs.CountLaws.{all-none}
 use borrow.Author.Needs.{needs}
 use Rattle.replay_lower.specs.Left.{imageWord}
-use Rattle.replay_lower.specs.LeftLaws.{same-more, same-fails, same-done}
+use Rattle.records.proofs.LeftLaws.{same-more, same-fails, same-done}
 use Rattle.replay_lower.proofs.image_same.Statement.{statement}
 use Rattle.replay_lower.proofs.image_same.Tie as tie
 

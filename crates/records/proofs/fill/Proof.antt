@@ -1,12 +1,9 @@
--- `replay::fill` is safe: the part that is read into is as long as it says.
+-- `records::fill` is safe: the part that is read into is as long as it says.
 use lib.Seq.{length-take-le}
 use mathlib.Core.Path.{sym}
 use borrow.Author.Needs.{needs}
-use Rattle.replay.proofs.fill.Statement.{statement}
-use Rattle.replay.proofs.fill.Tie as tie
-use Rattle.replay.proofs.fill.Reads as reads
-use Rattle.replay.proofs.fill.Lts as lts
-use Rattle.io.proofs.read_full.Reads as read-full-reads
+use Rattle.records.proofs.fill.Statement.{statement}
+use Rattle.records.proofs.fill.Tie as tie
 
 slice-relend-prefix-read-full : tie.Need-slice-relend-prefix-read-full
 slice-relend-prefix-read-full c = search needs
@@ -27,12 +24,4 @@ returns-2 : tie.Need-returns-2
 returns-2 c = search needs
 
 pub fill-spec : {M : Type 1} → statement M
-fill-spec =
-    tie.close
-    (tie.spec
-    slice-relend-prefix-read-full
-    slice-aggregate-read-full
-    read-full-requires
-    same-length
-    returns
-    returns-2)
+fill-spec = tie.close (tie.spec slice-relend-prefix-read-full slice-aggregate-read-full read-full-requires same-length returns returns-2)

@@ -1,10 +1,10 @@
--- `replay_lower::put_noise` is safe and ends.
+-- `records::put_noise` is safe and ends.
 use Prim.Native.Nat.{_-_, _≤_}
 use mathlib.Core.Path.{_≡_}
 use lib.ListN.{length}
 use borrow.Author.Needs.{needs}
-use Rattle.replay_lower.proofs.put_noise.Statement.{statement}
-use Rattle.replay_lower.proofs.put_noise.Tie as tie
+use Rattle.records.proofs.put_noise.Statement.{statement}
+use Rattle.records.proofs.put_noise.Tie as tie
 
 abbrev Inv-loop : tie.InvT-loop
 Inv-loop buf₀ i₀ buf i = (i ≤ length buf₀) × (length buf ≡ length buf₀)

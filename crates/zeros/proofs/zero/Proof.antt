@@ -1,24 +1,23 @@
--- `sections::zero` meets its contract. Invariant: the first i words are zero.
-use borrow.Author.Needs.{needs}
+-- `zeros::zero` meets its contract. Invariant: the first i words are zero, and the rest is as it was.
 use Prim.Native.Nat.{_≤_, _-_}
-use mathlib.Core.Path.{_≡_, refl}
-use lib.ListN.{length}
-use Rattle.sections.specs.Written.{Written}
-use Rattle.sections.specs.PutLaws.{written-none, written-length}
-use Rattle.sections.specs.RowLaws.{zeros, zero-next, zero-end}
+use mathlib.Core.Path.{_≡_, refl, _∙_}
+use mathlib.Core.List.{_++_}
 use native.Mathlib.Omega.{arith}
-use Prim.Native.Nat.{_≤_, _-_}
-use Rattle.sections.proofs.zero.Statement.{statement}
-use Rattle.sections.proofs.zero.Tie as tie
+use borrow.Author.Needs.{needs}
+use lib.ListN.{length, drop, length-set}
+use Rattle.zeros.specs.Zeros.{zeros}
+use Rattle.zeros.proofs.ZeroLaws.{zero-more, zero-all}
+use Rattle.zeros.proofs.zero.Statement.{statement}
+use Rattle.zeros.proofs.zero.Tie as tie
 
 abbrev Inv-loop : tie.InvT-loop
-Inv-loop out₀ i₀ out i = (i ≤ length out₀) × (length out ≡ length out₀) × Written out₀ out (zeros i)
+Inv-loop out₀ i₀ out i = (i ≤ length out₀) × (length out ≡ length out₀) × (out ≡ zeros i ++ drop i out₀)
 
 abbrev μ-loop : tie.MeasureT-loop
 μ-loop out₀ i₀ out i = length out₀ - i
 
 loop-holds : tie.Need-loop-holds Inv-loop μ-loop
-loop-holds c = (omega arith, refl, written-none (c .args .out .now))
+loop-holds c = (omega arith, refl, refl)
 
 mul-out : tie.Need-mul-out Inv-loop μ-loop
 mul-out c = search needs
@@ -33,13 +32,15 @@ loop-less : tie.Need-loop-less Inv-loop μ-loop
 loop-less c = search needs
 
 loop-again : tie.Need-loop-again Inv-loop μ-loop
-loop-again c = let w = zero-next (c .before .loop .i) (omega arith) (c .before .loop .inv .2) in (omega arith, written-length w, w)
+loop-again c =
+    let here = c .before .loop in
+    (omega arith, length-set (here .out) (here .i) 0 ∙ here .inv .1, zero-more _ _ (here .i) (omega arith) (here .inv .2))
 
 same-length : tie.Need-same-length Inv-loop μ-loop
 same-length c = c .before .loop .inv .1
 
 returns : tie.Need-returns Inv-loop μ-loop
-returns c = zero-end (c .before .loop .i) (omega arith) (c .before .loop .inv .2)
+returns c = let here = c .before .loop in zero-all _ _ (here .i) (here .inv .0) (omega arith) (here .inv .2)
 
 pub zero-spec : {M : Type 1} → statement M
 zero-spec =
