@@ -6,21 +6,16 @@ use mathlib.Core.List.{List}
 use native.Mathlib.Omega.{arith}
 use lib.ListN.{length}
 use Rattle.lowering.specs.Limits.{sizesWords}
-use Rattle.lowering.specs.Words.{word, instructions, codeAt, constsAt, chainsAt, switchesAt, casesAt, rangesAt}
-use Rattle.wellmade.specs.Rules.{tables, endAt}
+use Rattle.lowering.specs.Words.{instructions}
+use Rattle.wellmade.specs.Rules.{endAt}
 use Rattle.wellmade.specs.WellMade.{WellMade, WordsRight}
-use Rattle.wellmade.specs.Marks.{marked, marksRight}
+use Rattle.wellmade.specs.Marks.{marksThere, marked}
 use Rattle.wellmade.specs.Test.{wordsRight, targetsRight, wellMade}
 use Rattle.wellmade.proofs.Tells.{Tells, tells-and, tells-then, tells-as, tells-le, tells-eq}
 use Rattle.wellmade.proofs.Told.{Aims, marked-start, marked-told}
 use Rattle.wellmade.proofs.Right.{Right, tells-right, right-runs, right-agree, right-depth}
 use Rattle.wellmade.proofs.Complete.{marks-right}
 use Rattle.wellmade.proofs.WordLaws.{tells-words, tells-targets, words-named}
-
--- the marks have room in as many words as the image has
-pub room : (w : List ℕ) → sizesWords ≤ length w → length w ≡ endAt w → instructions w + 1 + tables w ≤ length w
-unfolding endAt rangesAt casesAt switchesAt chainsAt constsAt
-room w a e = omega arith
 
 pub well-made : (s w : List ℕ) → Tells (wellMade s w) (WellMade s w)
 unfolding wellMade
@@ -32,15 +27,15 @@ well-made s w =
     (tells-and (tells-le sizesWords (length w)) (tells-eq (length w) (endAt w)))
     (λ z. tells-words s w))
     (λ z. tells-targets s w (z .1)))
-    (λ z. tells-right w (marked w (length w) (instructions w))))
+    (λ z. tells-right w (marked w (marksThere w) (instructions w))))
     (λ z. made (z .0 .0 .0 .0) (z .0 .0 .0 .1) (z .0 .0 .1) (z .0 .1) (z .1))
-    (λ m. ((((m .enough, m .sizes), m .words), m .targets), marks-right w (m .targets) (words-named s w (m .words)) (m .agree) (m .runs) (m .depth) (length w) (room w (m .enough) (m .sizes))))
+    (λ m. ((((m .enough, m .sizes), m .words), m .targets), marks-right w (m .targets) (words-named s w (m .words)) (m .agree) (m .runs) (m .depth) (marksThere w) (omega arith)))
   where
-    made : sizesWords ≤ length w → length w ≡ endAt w → WordsRight s w → Aims w → Right w (marked w (length w) (instructions w)) → WellMade s w
+    made : sizesWords ≤ length w → length w ≡ endAt w → WordsRight s w → Aims w → Right w (marked w (marksThere w) (instructions w)) → WellMade s w
     made a e W A R =
-        let l = marked w (length w) (instructions w) in
+        let l = marked w (marksThere w) (instructions w) in
         let N = words-named s w W in
-        let S = marked-start w (length w) (instructions w) (omega arith) in
+        let S = marked-start w (marksThere w) (instructions w) (omega arith) in
         record {
           enough = a;
           sizes = e;
@@ -48,5 +43,5 @@ well-made s w =
           targets = A;
           runs = right-runs w l A N S (R .places) (R .tabled) (R .ends) (R .greatest);
           agree = right-agree w l A N S (R .places) (R .tabled);
-          depth = right-depth w l (marked-told w A (length w) (instructions w) (omega arith) (omega arith)) (R .greatest);
+          depth = right-depth w l (marked-told w A (marksThere w) (instructions w) (omega arith) (omega arith)) (R .greatest);
         }
