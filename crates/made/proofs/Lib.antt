@@ -1,0 +1,12 @@
+pub mod Sections
+pub mod Listed
+pub mod ListedLaws
+pub mod FromProgram
+pub mod Gives
+pub mod GivesLeaf
+pub mod GivesBranch
+pub mod GivesCall
+pub mod GivesChain
+pub mod GivesExpression
+pub mod Facts
+pub mod PlainMade
