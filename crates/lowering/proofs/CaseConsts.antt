@@ -42,11 +42,11 @@ module _ {A : Type 0} (test : A → Bool) where
       by false e f = let q = f (λ z. h (first-no x xs e ∙ ap suc z)) in rw (first-no x xs e) (omega arith, q .1)
 
   module _ (x : A) (xs : List A) where
-    added-new : eqb (firstWhere test xs) (length xs) ≡ true → added test x xs ≡ xs ++ (x ∷ [])
+    pub added-new : eqb (firstWhere test xs) (length xs) ≡ true → added test x xs ≡ xs ++ (x ∷ [])
     unfolding added
     added-new h = rw (h, added)
 
-    added-old : eqb (firstWhere test xs) (length xs) ≡ false → added test x xs ≡ xs
+    pub added-old : eqb (firstWhere test xs) (length xs) ≡ false → added test x xs ≡ xs
     unfolding added
     added-old h = rw (h, added)
 

@@ -88,11 +88,11 @@ module _ (root : Root) (xs : List Step) (n : ℕ) (p : Pools) where
       }
 
   -- the two answers of pushChain
-  push-new : eqb (chainAt root xs n p) (length (p .chains)) ≡ true → pushChain root xs n p ≡ newChain root xs n p
+  pub push-new : eqb (chainAt root xs n p) (length (p .chains)) ≡ true → pushChain root xs n p ≡ newChain root xs n p
   unfolding pushChain
   push-new h = rw (h, pushChain)
 
-  push-old : eqb (chainAt root xs n p) (length (p .chains)) ≡ false → pushChain root xs n p ≡ p
+  pub push-old : eqb (chainAt root xs n p) (length (p .chains)) ≡ false → pushChain root xs n p ≡ p
   unfolding pushChain
   push-old h = rw (h, pushChain)
 

@@ -38,7 +38,7 @@ unfolding codeWords section
 code-section [] = refl
 code-section (i ∷ c) = ap (λ (l : List ℕ). opWords (i .op) ++ l) (code-section c)
 
-steps-section : (xs : List Step) → stepsWords xs ≡ section stepWords xs
+pub steps-section : (xs : List Step) → stepsWords xs ≡ section stepWords xs
 unfolding stepsWords section
 steps-section [] = refl
 steps-section (x ∷ xs) = ap (λ (l : List ℕ). stepWords x ++ l) (steps-section xs)
@@ -67,22 +67,22 @@ greatest-is r = refl
 abbrev toPositions : Program → List ℕ
 toPositions r = sizes r ++ codeWords (r .code)
 
-abbrev toConsts : Program → List ℕ
+abbrev pub toConsts : Program → List ℕ
 toConsts r = toPositions r ++ positions (r .code)
 
-abbrev toNames : Program → List ℕ
+abbrev pub toNames : Program → List ℕ
 toNames r = toConsts r ++ section constWords (r .pools .consts)
 
-abbrev toTokens : Program → List ℕ
+abbrev pub toTokens : Program → List ℕ
 toTokens r = toNames r ++ section nameWords (r .pools .names)
 
-abbrev toResiduals : Program → List ℕ
+abbrev pub toResiduals : Program → List ℕ
 toResiduals r = toTokens r ++ r .pools .tokens
 
-abbrev toChains : Program → List ℕ
+abbrev pub toChains : Program → List ℕ
 toChains r = toResiduals r ++ r .pools .residuals
 
-abbrev toSteps : Program → List ℕ
+abbrev pub toSteps : Program → List ℕ
 toSteps r = toChains r ++ section chainWords (r .pools .chains)
 
 abbrev toSwitches : Program → List ℕ
@@ -91,15 +91,15 @@ toSwitches r = toSteps r ++ stepsWords (r .pools .steps)
 abbrev toCases : Program → List ℕ
 toCases r = toSwitches r ++ section switchWords (r .switches)
 
-abbrev toRanges : Program → List ℕ
+abbrev pub toRanges : Program → List ℕ
 toRanges r = toCases r ++ section caseWords (r .cases)
 
 -- where the sections start
-consts-at : (r : Program) → length (toConsts r) ≡ constsAt (words r)
+pub consts-at : (r : Program) → length (toConsts r) ≡ constsAt (words r)
 unfolding constsAt words sizes
 consts-at r = omega (arith, length-append (toPositions r) (positions (r .code)), length-append (sizes r) (codeWords (r .code)), code-length (r .code), positions-length (r .code))
 
-chains-at : (r : Program) → length (toChains r) ≡ chainsAt (words r)
+pub chains-at : (r : Program) → length (toChains r) ≡ chainsAt (words r)
 unfolding chainsAt words sizes
 chains-at r =
     omega (
@@ -129,7 +129,7 @@ cases-at : (r : Program) → length (toCases r) ≡ casesAt (words r)
 unfolding casesAt words sizes
 cases-at r = omega (arith, switches-at r, length-append (toSwitches r) (section switchWords (r .switches)), section-length switchWords 4 switch-width (r .switches))
 
-ranges-at : (r : Program) → length (toRanges r) ≡ rangesAt (words r)
+pub ranges-at : (r : Program) → length (toRanges r) ≡ rangesAt (words r)
 unfolding rangesAt words sizes
 ranges-at r = omega (arith, cases-at r, length-append (toCases r) (section caseWords (r .cases)), section-length caseWords 2 case-width (r .cases))
 
@@ -143,10 +143,10 @@ behind-cases : (r : Program) {o : ℕ} {xs : List ℕ} → Part (toRanges r) o x
 unfolding words
 behind-cases r t = part-more (section rangeWords (r .ranges)) t
 
-behind-switches : (r : Program) {o : ℕ} {xs : List ℕ} → Part (toCases r) o xs → Part (words r) o xs
+pub behind-switches : (r : Program) {o : ℕ} {xs : List ℕ} → Part (toCases r) o xs → Part (words r) o xs
 behind-switches r t = behind-cases r (part-more (section caseWords (r .cases)) t)
 
-behind-chains : (r : Program) {o : ℕ} {xs : List ℕ} → Part (toSteps r) o xs → Part (words r) o xs
+pub behind-chains : (r : Program) {o : ℕ} {xs : List ℕ} → Part (toSteps r) o xs → Part (words r) o xs
 behind-chains r t = behind-switches r (part-more (section switchWords (r .switches)) (part-more (stepsWords (r .pools .steps)) t))
 
 behind-consts : (r : Program) {o : ℕ} {xs : List ℕ} → Part (toNames r) o xs → Part (words r) o xs
@@ -179,7 +179,7 @@ code-part r =
 
 -- word f of each record
 module _ (r : Program) where
-  ins-word : (p f : ℕ) → p < length (r .code) → f < 4 → word (words r) (sizesWords + 4 * p + f) ≡ getD (opWords (getD (r .code) p noIns .op)) f 0
+  pub ins-word : (p f : ℕ) → p < length (r .code) → f < 4 → word (words r) (sizesWords + 4 * p + f) ≡ getD (opWords (getD (r .code) p noIns .op)) f 0
   ins-word p f h g = record-word insWords 4 ins-width (r .code) (code-part r) noIns p f h g
 
   pub const-word : (d : Const) (k f : ℕ) → k < length (r .pools .consts) → f < 3 → constWord (words r) k f ≡ getD (constWords (getD (r .pools .consts) k d)) f 0

@@ -23,20 +23,20 @@ use Rattle.lowering.proofs.Choice.{chooses-right}
 use Rattle.lowering.proofs.Demand3From.{demand3-from}
 
 -- a refusal is no image
-not-image : (s : List ℕ) (imageLength scratchLength n : ℕ) (w : List ℕ) → outcomeAfter s imageLength scratchLength n ≡ image w → n ≡ 0
+pub not-image : (s : List ℕ) (imageLength scratchLength n : ℕ) (w : List ℕ) → outcomeAfter s imageLength scratchLength n ≡ image w → n ≡ 0
 unfolding outcomeAfter
 not-image s imageLength scratchLength zero w e = refl
 not-image s imageLength scratchLength (suc n) w e = let z : _≡_ {A = ℕ} 0 1 = cc in absurd (omega arith)
 
 module _ (s : List ℕ) (a : numberOf (checked s) ≡ 0) where
-  lower-typed : WellTyped (lower s)
+  pub lower-typed : WellTyped (lower s)
   lower-typed = by (eqb (kind s 0) switchKind) refl
     where
       by : (t : Bool) → eqb (kind s 0) switchKind ≡ t → WellTyped (lower s)
       by true h = subst WellTyped (sym (lower-switch s h)) (accepted-typed s a (eqb-true (kind s 0) switchKind h) (expression maxDepth s) (expression-meets maxDepth s))
       by false h = subst WellTyped (sym (lower-plain s h)) (plain-typed s)
 
-  lower-reached : AllReached (lower s)
+  pub lower-reached : AllReached (lower s)
   lower-reached = by (eqb (kind s 0) switchKind) refl
     where
       by : (t : Bool) → eqb (kind s 0) switchKind ≡ t → AllReached (lower s)

@@ -18,11 +18,11 @@ use Rattle.lowering.specs.Nodes.{Row, row-first, row-rest}
 use Rattle.lowering.proofs.LinksAll.{LinksAll, link-cons, link-residual, link-then}
 
 module _ (s : List ℕ) (rec : Rec) where
-  array-lowers : (j b d : ℕ) (p : Pools) → leb (count s j) maxElements ≡ true → array s rec j b d p ≡ andThen (elements s rec (count s j) 0 (child j) b d p) (ins (MakeArray (count s j)) (d + count s j) (position s j) ∷ [])
+  pub array-lowers : (j b d : ℕ) (p : Pools) → leb (count s j) maxElements ≡ true → array s rec j b d p ≡ andThen (elements s rec (count s j) 0 (child j) b d p) (ins (MakeArray (count s j)) (d + count s j) (position s j) ∷ [])
   unfolding array
   array-lowers j b d p h = rw (h, array)
 
-  array-stays : (j b d : ℕ) (p : Pools) → leb (count s j) maxElements ≡ false → array s rec j b d p ≡ residualExpr j d p
+  pub array-stays : (j b d : ℕ) (p : Pools) → leb (count s j) maxElements ≡ false → array s rec j b d p ≡ residualExpr j d p
   unfolding array
   array-stays j b d p h = rw (h, array)
 

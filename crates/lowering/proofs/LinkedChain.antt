@@ -61,11 +61,11 @@ module _ (s : List ℕ) (rec : Rec) where
   unfolding steps
   steps-fail c cs n b d p q h = rw (h, steps)
 
-  chain-flat : (j b d : ℕ) (p : Pools) → flattens s (links maxDepth s j) ≡ true → chain s rec j b d p ≡ chainOf s rec (rootOf s (child j) p) j b d (steps s rec (links maxDepth s j) 0 b d (rootPools s (child j) p))
+  pub chain-flat : (j b d : ℕ) (p : Pools) → flattens s (links maxDepth s j) ≡ true → chain s rec j b d p ≡ chainOf s rec (rootOf s (child j) p) j b d (steps s rec (links maxDepth s j) 0 b d (rootPools s (child j) p))
   unfolding chain
   chain-flat j b d p h = rw (h, chain)
 
-  chain-stays : (j b d : ℕ) (p : Pools) → flattens s (links maxDepth s j) ≡ false → chain s rec j b d p ≡ residualExpr j d p
+  pub chain-stays : (j b d : ℕ) (p : Pools) → flattens s (links maxDepth s j) ≡ false → chain s rec j b d p ≡ residualExpr j d p
   unfolding chain
   chain-stays j b d p h = rw (h, chain)
 

@@ -32,7 +32,7 @@ use Rattle.lowering.proofs.LinkedCall.{call-links}
 use Rattle.lowering.proofs.LinkedChain.{chain-links}
 
 -- the least count of children of a node that has the rule
-abbrev least : Rule → ℕ
+abbrev pub least : Rule → ℕ
 least boolean = 0
 least unit = 0
 least constant = 0
@@ -54,7 +54,7 @@ least-bound k h =
     (all-at (λ k. leb (least (getD rules k residual)) (bound k 0)) (suc lastKind) k refl (omega arith))
 
 module _ (s : List ℕ) (C : Right s) where
-  rule-count : (j : ℕ) → Valid s j → least (rule s j) ≤ count s j
+  pub rule-count : (j : ℕ) → Valid s j → least (rule s j) ≤ count s j
   unfolding rule
   rule-count j v = let h = node-bounds s C j v in omega (arith, least-bound (kind s j) (h .0))
 

@@ -15,11 +15,11 @@ use Rattle.lowering.proofs.Effect.{Context}
 use Rattle.lowering.proofs.Linked.{Linked}
 use Rattle.lowering.proofs.LinksAll.{link-emit}
 
-variable-local : (s : List ℕ) (j d : ℕ) (p : Pools) (slot : ℕ) → resolve s (text s (fieldA s j)) ≡ some slot → variable s j d p ≡ emitAt (LoadLocal slot) noPos d p
+pub variable-local : (s : List ℕ) (j d : ℕ) (p : Pools) (slot : ℕ) → resolve s (text s (fieldA s j)) ≡ some slot → variable s j d p ≡ emitAt (LoadLocal slot) noPos d p
 unfolding variable
 variable-local s j d p slot h = rw (h, variable)
 
-variable-named : (s : List ℕ) (j d : ℕ) (p : Pools) → resolve s (text s (fieldA s j)) ≡ none → variable s j d p ≡ loadNamed s j d p
+pub variable-named : (s : List ℕ) (j d : ℕ) (p : Pools) → resolve s (text s (fieldA s j)) ≡ none → variable s j d p ≡ loadNamed s j d p
 unfolding variable
 variable-named s j d p h = rw (h, variable)
 

@@ -36,7 +36,7 @@ module _ (s : List ℕ) (a : numberOf (checked s) ≡ 0) where
       by true e = e
       by false e = let z = ap numberOf (says-4 s (accepted-sizes s a) (accepted-shape s a) accepted-texts e) in absurd (omega arith)
 
-  accepted-right : Right s
+  pub accepted-right : Right s
   accepted-right = right s (accepted-sizes s a) (accepted-shape s a)
 
   module _ (k : kind s 0 ≡ switchKind) where

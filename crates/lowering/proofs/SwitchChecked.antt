@@ -112,7 +112,7 @@ module _ (s : List ℕ) (C : Right s) (n : numbersOk s ≡ true) (e : kind s 0 �
   switch-kind : (i : ℕ) → i < count s 0 → childKind (kind s 0) (blockCount s) (fieldB s 0) i (kind s (skip s i subject)) ≡ true
   switch-kind = child-kind s C 0 (root-valid s C)
 
-  case-node : (c : ℕ) → List·Memᴰ c (casesOf s) → Valid s c × (kind s c ≡ 20)
+  pub case-node : (c : ℕ) → List·Memᴰ c (casesOf s) → Valid s c × (kind s c ≡ 20)
   unfolding casesOf
   case-node c m =
       let K = blockCount s in

@@ -100,7 +100,7 @@ module _ (s : List ℕ) (rec : Rec) (M : Meets rec) (def : ℕ) (X : Context) (l
       let e = sound-first A N g (some-code (x .code) g) (body-stands s rec (X .chains) l (Y .out) def x (h .among) .stands) W in
       subst (λ (t : ℕ). Aim (l .bodiesPlace) 1 t A N) (sym (h .place-is)) (f .from, e .0, e .1)
 
-  default-aim : Aim (l .bodiesPlace) 1 (defaultAt def l) A N
+  pub default-aim : Aim (l .bodiesPlace) 1 (defaultAt def l) A N
   unfolding defaultAt
   default-aim = by def refl
     where
@@ -111,7 +111,7 @@ module _ (s : List ℕ) (rec : Rec) (M : Meets rec) (def : ℕ) (X : Context) (l
       by zero q = subst (λ (n : ℕ). Within (switchCode n l) A N → Aim (l .bodiesPlace) 1 (defaultAt n l) A N) (sym q) missing W
       by (suc k) q = subst (λ (n : ℕ). Aim (l .bodiesPlace) 1 (defaultAt n l) A N) (sym q) (body-aim k (Y .default-body k q))
 
-  fallback-aim : Aim (l .dispatch) 1 (fallbackAt def (l .splits) l) A N
+  pub fallback-aim : Aim (l .dispatch) 1 (fallbackAt def (l .splits) l) A N
   unfolding fallbackAt
   fallback-aim = by (l .splits) refl
     where
@@ -149,7 +149,7 @@ module _ (s : List ℕ) (rec : Rec) (M : Meets rec) (def : ℕ) (X : Context) (l
       let g = arm-stands-from s rec (X .chains) (switchCode def l) (l .bodies) fb lo arms at falls stands a m in
       entry-aim lo fb a (g .0) (g .1) le f (names-at (λ (k : ℕ). HasBody k (l .bodies)) arms names a m))
 
-  case-aim : (c : ℕ) → Aim (length (l .subjectCode) + 1) 1 (caseTarget s def l c) A N
+  pub case-aim : (c : ℕ) → Aim (length (l .subjectCode) + 1) 1 (caseTarget s def l c) A N
   case-aim c =
       let f = fallback-aim in
       let h₁ = Y .out .places .dispatch-is in
@@ -164,7 +164,7 @@ module _ (s : List ℕ) (rec : Rec) (M : Meets rec) (def : ℕ) (X : Context) (l
       let x : rangesExtent (l .splits) (l .rangeArms) ≡ suc (armsExtent (l .rangeArms)) = ap (λ (y : List Split.Entry). rangesExtent y (l .rangeArms)) q in
       omega arith
 
-  range-aim : (e : Split.Entry) (es : List Split.Entry) → l .splits ≡ e ∷ es → (x : Split.Entry)
+  pub range-aim : (e : Split.Entry) (es : List Split.Entry) → l .splits ≡ e ∷ es → (x : Split.Entry)
       → Aim (l .dispatch + 1) 1 (rangeTarget def l x) A N
   range-aim e es q x =
       let f = default-aim in
@@ -275,7 +275,7 @@ agree-at A b (i ∷ c) h = (
   agree-at A (suc b) c (λ p lt. let e : suc b + p ≡ b + suc p = omega arith in ap A e ∙ h (suc p) (omega arith)),
 )
 
-depths-agree : (c : Code) → Agree (depthAt c) 0 c
+pub depths-agree : (c : Code) → Agree (depthAt c) 0 c
 depths-agree c = agree-at (depthAt c) 0 c (λ p lt. ap (depthAt c) (zero-add p))
 
 depth-end : (c : Code) → depthAt c (length c) ≡ 1

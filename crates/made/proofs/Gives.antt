@@ -9,7 +9,7 @@ use native.Mathlib.Omega.{arith}
 use borrow.Author.Tests.{eqb-true, eqb-false}
 use lib.Dec.{eqb}
 use lib.ListN.{length, getD, length-append}
-use Rattle.sheet.specs.Layout.{nodeCount, textCount, localCount}
+use Rattle.sheet.specs.Layout.{nodeCount}
 use Rattle.bytecode.specs.declared.Receiver.{Receiver}
 use Rattle.bytecode.specs.declared.Receiver.the-variants as Receivers
 use Rattle.bytecode.specs.declared.Root.{Root}
@@ -20,64 +20,36 @@ use Rattle.bytecode.specs.declared.Chain as ChainRecord
 use Rattle.bytecode.specs.declared.Op.{Op}
 use Rattle.bytecode.specs.declared.Op.the-variants.{Const, Unit, Bool, LoadLocal, LoadNamed, LoadThis, Pop, Jump, JumpIfTrue, JumpIfFalse, SkipIfNotUnit, Call, CallRef, Rotate, Switch, MakeFnPtr, CallFnPtr, InterpolateStart, InterpolateAppend, InterpolateEnd, MakeArray, CheckSize, Chain, EvalAst}
 use Rattle.lowering.specs.Code.{Ins, Code, ins}
-use Rattle.lowering.specs.Pools as P
-use Rattle.lowering.specs.Pools.{Pools, firstWhere, added, emits, pushConst, constAt, pushName, nameAt, pushResidual}
-use Rattle.lowering.specs.Out.{Out, Rec, out, andThen, emitAt, residualExpr}
+use Rattle.lowering.specs.Pools.{Pools, firstWhere, added, emits}
+use Rattle.lowering.specs.Out.{Out, Rec, andThen, emitAt}
 use Rattle.lowering.specs.Nodes.{Valid}
-use Rattle.lowering.specs.Limits.{maxElements}
-use Rattle.made.proofs.Listed.{Counts, ReceiverOk, OpOk, ConstOk, RootOk, StepOk, StepIn, noStep}
+use Rattle.lowering.proofs.ChainPool.{first-within}
+use Rattle.lowering.proofs.CaseConsts.{added-new, added-old}
+use Rattle.made.proofs.Listed.{countsFor, ReceiverOk, OpOk, RootOk, StepOk, StepIn, noStep, ChainOk, AllIn, PoolsOk, CodeOk}
 
--- a fact of each entry of a list
-abbrev pub AllIn : {A : Type 0} → (A → Type 0) → List A → Type 0
-AllIn P [] = Prim.Unit {0}
-AllIn P (x ∷ xs) = P x × AllIn P xs
+-- ---- facts of all entries
+
+pub all-append : {A : Type 0} (P : A → Type 0) (xs ys : List A) → AllIn P xs → AllIn P ys → AllIn P (xs ++ ys)
+all-append P [] ys h g = g
+all-append P (x ∷ xs) ys h g = (h .0, all-append P xs ys (h .1) g)
+
+pub all-left : {A : Type 0} (P : A → Type 0) (xs ys : List A) → AllIn P (xs ++ ys) → AllIn P xs
+all-left P [] ys h = tt
+all-left P (x ∷ xs) ys h = (h .0, all-left P xs ys (h .1))
+
+pub all-right : {A : Type 0} (P : A → Type 0) (xs ys : List A) → AllIn P (xs ++ ys) → AllIn P ys
+all-right P [] ys h = h
+all-right P (x ∷ xs) ys h = all-right P xs ys (h .1)
 
 pub all-more : {A : Type 0} (P : A → Type 0) (xs : List A) (x : A) → AllIn P xs → P x → AllIn P (xs ++ (x ∷ []))
-all-more P [] x h g = (g, tt)
-all-more P (y ∷ xs) x h g = (h .0, all-more P xs x (h .1) g)
+all-more P xs x h g = all-append P xs (x ∷ []) h (g, tt)
 
 pub all-map : {A : Type 0} (P Q : A → Type 0) (xs : List A) → ((x : A) → P x → Q x) → AllIn P xs → AllIn Q xs
 all-map P Q [] f h = tt
 all-map P Q (x ∷ xs) f h = (f x (h .0), all-map P Q xs f (h .1))
 
-pub all-in-at : {A : Type 0} (P : A → Type 0) (xs : List A) (d : A) → AllIn P xs → (i : ℕ) → i < length xs → P (getD xs i d)
-all-in-at P [] d h i g = absurd (omega arith)
-all-in-at P (x ∷ xs) d h zero g = h .0
-all-in-at P (x ∷ xs) d h (suc i) g = all-in-at P xs d (h .1) i (omega arith)
+-- ---- pools only grow, and what names an entry stays right
 
--- with T tables
-abbrev pub countsFor : List ℕ → ℕ → Pools → Counts
-countsFor s T p = record {
-  consts = length (p .consts);
-  names = length (p .names);
-  tokens = length (p .tokens);
-  residuals = length (p .residuals);
-  chains = length (p .chains);
-  tables = T;
-  locals = localCount s;
-}
-
-abbrev pub NameOk : List ℕ → P.Name → Type 0
-NameOk s n = (n .text < textCount s) × (n .mark ≤ 1)
-
-abbrev pub TokenOk : ℕ → Type 0
-TokenOk t = (1 ≤ t) × (t ≤ 65535)
-
-pub record ChainOk (s : List ℕ) (p : Pools) (c : ChainRecord.Chain) : Type 0 where
-  pub root : RootOk (countsFor s 0 p) (c .root)
-  pub run : c .first + c .steps ≤ length (p .steps)
-  pub few : c .operands ≤ maxElements
-  pub inside : (k : ℕ) → k < c .steps → StepIn (c .operands) (getD (p .steps) (c .first + k) noStep)
-
-pub record PoolsOk (s : List ℕ) (p : Pools) : Type 0 where
-  pub consts : AllIn (ConstOk s) (p .consts)
-  pub names : AllIn (NameOk s) (p .names)
-  pub tokens : AllIn TokenOk (p .tokens)
-  pub residuals : AllIn (λ j. j < nodeCount s) (p .residuals)
-  pub chains : AllIn (ChainOk s p) (p .chains)
-  pub steps : AllIn (StepOk (countsFor s 0 p)) (p .steps)
-
--- pools only grow
 pub record More (p q : Pools) : Type 0 where
   pub consts : length (p .consts) ≤ length (q .consts)
   pub names : length (p .names) ≤ length (q .names)
@@ -97,55 +69,82 @@ more-trans {p} {q} {r} g h = record {
   chains = omega (arith, g .chains, h .chains);
 }
 
-pub receiver-more : (s : List ℕ) (T : ℕ) (p q : Pools) → More p q → (r : Receiver) → ReceiverOk (countsFor s T p) r → ReceiverOk (countsFor s T q) r
-receiver-more s T p q m (Receivers.Local slot) h = h
-receiver-more s T p q m (Receivers.Named i) h = omega (arith, m .names, h)
-receiver-more s T p q m Receivers.This h = h
+module _ (s : List ℕ) (T : ℕ) (p q : Pools) (m : More p q) where
+  pub receiver-more : (r : Receiver) → ReceiverOk (countsFor s T p) r → ReceiverOk (countsFor s T q) r
+  receiver-more (Receivers.Local slot) h = h
+  receiver-more (Receivers.Named i) h = omega (arith, m .names, h)
+  receiver-more Receivers.This h = h
 
-pub op-more : (s : List ℕ) (T : ℕ) (p q : Pools) → More p q → (op : Op) → OpOk (countsFor s T p) op → OpOk (countsFor s T q) op
-op-more s T p q m (Const i) h = omega (arith, m .consts, h)
-op-more s T p q m Unit h = h
-op-more s T p q m (Bool t) h = h
-op-more s T p q m (LoadLocal slot) h = h
-op-more s T p q m (LoadNamed i) h = omega (arith, m .names, h)
-op-more s T p q m LoadThis h = h
-op-more s T p q m Pop h = h
-op-more s T p q m (Jump t) h = h
-op-more s T p q m (JumpIfTrue t) h = h
-op-more s T p q m (JumpIfFalse t) h = h
-op-more s T p q m (SkipIfNotUnit t) h = h
-op-more s T p q m (Call i argc op capture) h = (omega (arith, m .names, h .0), h .1, h .2, omega (arith, m .tokens, h .3))
-op-more s T p q m (CallRef i argc r) h = (omega (arith, m .names, h .0), h .1, h .2, receiver-more s T p q m r (h .3))
-op-more s T p q m (Rotate n) h = h
-op-more s T p q m (Switch i) h = h
-op-more s T p q m MakeFnPtr h = h
-op-more s T p q m (CallFnPtr argc capture) h = h
-op-more s T p q m InterpolateStart h = h
-op-more s T p q m InterpolateAppend h = h
-op-more s T p q m InterpolateEnd h = h
-op-more s T p q m (MakeArray n) h = h
-op-more s T p q m (CheckSize i) h = h
-op-more s T p q m (Chain i) h = omega (arith, m .chains, h)
-op-more s T p q m (EvalAst i) h = omega (arith, m .residuals, h)
+  op-more : (op : Op) → OpOk (countsFor s T p) op → OpOk (countsFor s T q) op
+  op-more (Const i) h = omega (arith, m .consts, h)
+  op-more Unit h = h
+  op-more (Bool t) h = h
+  op-more (LoadLocal slot) h = h
+  op-more (LoadNamed i) h = omega (arith, m .names, h)
+  op-more LoadThis h = h
+  op-more Pop h = h
+  op-more (Jump t) h = h
+  op-more (JumpIfTrue t) h = h
+  op-more (JumpIfFalse t) h = h
+  op-more (SkipIfNotUnit t) h = h
+  op-more (Call i argc op capture) h = (omega (arith, m .names, h .0), h .1, h .2, omega (arith, m .tokens, h .3))
+  op-more (CallRef i argc r) h = (omega (arith, m .names, h .0), h .1, h .2, receiver-more r (h .3))
+  op-more (Rotate n) h = h
+  op-more (Switch i) h = h
+  op-more MakeFnPtr h = h
+  op-more (CallFnPtr argc capture) h = h
+  op-more InterpolateStart h = h
+  op-more InterpolateAppend h = h
+  op-more InterpolateEnd h = h
+  op-more (MakeArray n) h = h
+  op-more (CheckSize i) h = h
+  op-more (Chain i) h = omega (arith, m .chains, h)
+  op-more (EvalAst i) h = omega (arith, m .residuals, h)
 
-abbrev pub CodeOk : List ℕ → ℕ → Pools → Code → Type 0
-CodeOk s T p c = AllIn (λ (i : Ins). OpOk (countsFor s T p) (i .op)) c
+  pub code-more : (c : Code) → CodeOk s T p c → CodeOk s T q c
+  code-more c h =
+      all-map (λ (i : Ins). OpOk (countsFor s T p) (i .op)) (λ (i : Ins). OpOk (countsFor s T q) (i .op)) c (λ i g. op-more (i .op) g) h
 
-pub code-more : (s : List ℕ) (T : ℕ) (p q : Pools) → More p q → (c : Code) → CodeOk s T p c → CodeOk s T q c
-code-more s T p q m c h = all-map (λ (i : Ins). OpOk (countsFor s T p) (i .op)) (λ (i : Ins). OpOk (countsFor s T q) (i .op)) c (λ i g. op-more s T p q m (i .op) g) h
+module _ (m n : ℕ) (h : m ≤ n) where
+  pub root-more : (s : List ℕ) (r : Root) → RootOk s m r → RootOk s n r
+  root-more s (Roots.Local slot i) g = (g .0, omega (arith, g .1))
+  root-more s (Roots.Named i pos) g = omega arith
+  root-more s (Roots.This pos) g = g
+  root-more s Roots.Temporary g = g
 
-pub code-append : (s : List ℕ) (T : ℕ) (p : Pools) (c c′ : Code) → CodeOk s T p c → CodeOk s T p c′ → CodeOk s T p (c ++ c′)
-code-append s T p [] c′ h g = g
-code-append s T p (i ∷ c) c′ h g = (h .0, code-append s T p c c′ (h .1) g)
+  pub step-more : (t : Step) → StepOk m t → StepOk n t
+  step-more (Index operand flags pos bracket) g = g
+  step-more (Property i getter setter flags pos) g = (omega (arith, g .0), omega (arith, g .1), omega (arith, g .2), g .3)
+  step-more (Method i argc operand flags pos) g = (omega (arith, g .0), g .1, g .2)
 
--- code c from pools p to pools q
+  pub steps-more : (xs : List Step) → AllIn (StepOk m) xs → AllIn (StepOk n) xs
+  steps-more xs g = all-map (StepOk m) (StepOk n) xs step-more g
+
+pub chains-more : (s : List ℕ) (p q : Pools) → length (p .names) ≤ length (q .names) → p .steps ≡ q .steps
+    → AllIn (ChainOk s p) (p .chains) → AllIn (ChainOk s q) (p .chains)
+chains-more s p q m e h =
+    let Inside : ChainRecord.Chain → List Step → Type 0 = λ c xs. (i : ℕ) → i < c .steps → StepIn (c .operands) (getD xs (c .first + i) noStep) in
+    all-map (ChainOk s p) (ChainOk s q) (p .chains)
+    (λ c k. record {
+      root = root-more (length (p .names)) (length (q .names)) m s (c .root) (k .root);
+      run = subst (λ (xs : List Step). c .first + c .steps ≤ length xs) e (k .run);
+      few = k .few;
+      inside = subst (Inside c) e (k .inside);
+    }) h
+
+-- ---- code c from pools p to pools q
+
 pub record Gives (s : List ℕ) (T : ℕ) (p : Pools) (c : Code) (q : Pools) : Type 0 where
   pub good : PoolsOk s q
   pub more : More p q
   pub code : CodeOk s T q c
 
+abbrev pub GivesOut : List ℕ → ℕ → Pools → Out → Type 0
+GivesOut s T p o = Gives s T p (o .code) (o .pools)
+
+-- the lowering of every node of the sheet
 pub record GivesAll (s : List ℕ) (T : ℕ) (rec : Rec) : Type 0 where
-  pub gives : (j b d : ℕ) (p : Pools) → Valid s j → PoolsOk s p → Gives s T p (rec j b d p .code) (rec j b d p .pools)
+  pub gives : (j b d : ℕ) (p : Pools) → Valid s j → PoolsOk s p → GivesOut s T p (rec j b d p)
 
 -- to count instructions changes no pool
 pub good-emits : {s : List ℕ} {p : Pools} (n : ℕ) → PoolsOk s p → PoolsOk s (emits n p)
@@ -155,7 +154,7 @@ good-emits {s} {p} n g = record {
   names = g .names;
   tokens = g .tokens;
   residuals = g .residuals;
-  chains = all-map (ChainOk s p) (ChainOk s (emits n p)) (p .chains) (λ c k. record { root = k .root; run = k .run; few = k .few; inside = k .inside }) (g .chains);
+  chains = chains-more s p (emits n p) (omega arith) refl (g .chains);
   steps = g .steps;
 }
 
@@ -167,8 +166,13 @@ module _ {s : List ℕ} {T : ℕ} where
   gives-seq {p} {q} {r} {c} {c′} g h = record {
     good = h .good;
     more = more-trans (g .more) (h .more);
-    code = code-append s T r c c′ (code-more s T q r (h .more) c (g .code)) (h .code);
+    code = all-append (λ (i : Ins). OpOk (countsFor s T r) (i .op)) c c′ (code-more s T q r (h .more) c (g .code)) (h .code);
   }
+
+  -- pools that are made behind code
+  pub gives-behind : {p q r : Pools} {c : Code} → Gives s T p c q → Gives s T q [] r → Gives s T p c r
+  gives-behind {p} {q} {r} {c} g h =
+      record { good = h .good; more = more-trans (g .more) (h .more); code = code-more s T q r (h .more) c (g .code) }
 
   pub gives-one : {p : Pools} (i : Ins) → PoolsOk s p → OpOk (countsFor s T p) (i .op) → Gives s T p (i ∷ []) p
   gives-one {p} i g h = record { good = g; more = more-refl p; code = (h, tt) }
@@ -177,31 +181,30 @@ module _ {s : List ℕ} {T : ℕ} where
   unfolding emits
   gives-emits {p} {q} {c} n g = record {
     good = good-emits n (g .good);
-    more = record { consts = g .more .consts; names = g .more .names; tokens = g .more .tokens; residuals = g .more .residuals; chains = g .more .chains };
+    more = record {
+      consts = g .more .consts;
+      names = g .more .names;
+      tokens = g .more .tokens;
+      residuals = g .more .residuals;
+      chains = g .more .chains;
+    };
     code = g .code;
   }
 
-  pub gives-then : {p : Pools} (o : Out) (i : Ins) → Gives s T p (o .code) (o .pools) → OpOk (countsFor s T (o .pools)) (i .op) → Gives s T p (andThen o (i ∷ []) .code) (andThen o (i ∷ []) .pools)
+  -- one instruction that is emitted; behind code; behind pools that were made for it
+  pub gives-ins : {p : Pools} (i : Ins) → PoolsOk s p → OpOk (countsFor s T p) (i .op) → Gives s T p (i ∷ []) (emits 1 p)
+  gives-ins i g h = gives-emits 1 (gives-one i g h)
+
+  pub gives-then : {p : Pools} (o : Out) (i : Ins) → GivesOut s T p o → OpOk (countsFor s T (o .pools)) (i .op)
+      → GivesOut s T p (andThen o (i ∷ []))
   unfolding andThen
-  gives-then o i g h = gives-emits 1 (gives-seq g (gives-one i (g .good) h))
+  gives-then o i g h = gives-seq g (gives-ins i (g .good) h)
 
--- an entry that is looked for is there after it is added
-pub first-most : {A : Type 0} (test : A → Truth.Bool) (xs : List A) → firstWhere test xs ≤ length xs
-unfolding firstWhere
-first-most test [] = omega arith
-first-most test (x ∷ xs) = by (test x) refl (first-most test xs)
-  where
-    by : (b : Truth.Bool) → test x ≡ b → firstWhere test xs ≤ length xs → firstWhere test (x ∷ xs) ≤ suc (length xs)
-    by true e h = rw (e, firstWhere) (omega arith)
-    by false e h = rw (e, firstWhere) (omega arith)
+  pub gives-at : {p q : Pools} (op : Op) (pos d : ℕ) → Gives s T p [] q → OpOk (countsFor s T q) op → GivesOut s T p (emitAt op pos d q)
+  unfolding emitAt
+  gives-at op pos d g h = gives-seq g (gives-ins (ins op d pos) (g .good) h)
 
-pub added-new : {A : Type 0} (test : A → Truth.Bool) (x : A) (xs : List A) → eqb (firstWhere test xs) (length xs) ≡ true → added test x xs ≡ xs ++ (x ∷ [])
-unfolding added
-added-new test x xs e = rw (e, added)
-
-pub added-old : {A : Type 0} (test : A → Truth.Bool) (x : A) (xs : List A) → eqb (firstWhere test xs) (length xs) ≡ false → added test x xs ≡ xs
-unfolding added
-added-old test x xs e = rw (e, added)
+-- ---- an entry that is looked for is there after it is added
 
 pub record Added {A : Type 0} (P : A → Type 0) (test : A → Truth.Bool) (x : A) (xs : List A) : Type 0 where
   pub good : AllIn P (added test x xs)
@@ -227,5 +230,5 @@ added-right P test x xs h g = by (eqb (firstWhere test xs) (length xs)) refl
         record {
           good = subst (AllIn P) (sym q) h;
           more = omega arith;
-          there = omega (arith, first-most test xs, n);
+          there = omega (arith, first-within test xs, n);
         }

@@ -27,10 +27,12 @@ use Rattle.lowering.specs.Operands.{operands}
 use Rattle.lowering.specs.Call
 use Rattle.lowering.specs.Call.{First, CallRule}
 use Rattle.lowering.specs.Nodes.{Valid, Row, row-first, row-rest, row-others}
-use Rattle.made.proofs.Listed.{OpOk, ReceiverOk, RootOk, StepOk}
-use Rattle.made.proofs.Gives
-use Rattle.made.proofs.GivesLeaf.{name-pushed, name-there, residual-gives, operands-give, chain-more, steps-more}
-use Rattle.made.proofs.GivesBranch.{slot-there}
+use Rattle.lowering.proofs.SoundCall.{lowerable-count}
+use Rattle.made.proofs.Listed.{countsFor, ReceiverOk, PoolsOk, CodeOk}
+use Rattle.made.proofs.Gives.{chains-more, More, more-refl, receiver-more, Gives, GivesOut, GivesAll, gives-seq, gives-behind, gives-emits, gives-ins, gives-then}
+use Rattle.made.proofs.GivesPools.{name-pushed, name-there, token-pushed, token-there}
+use Rattle.made.proofs.GivesLeaf.{slot-there, residual-gives}
+use Rattle.made.proofs.GivesBranch.{operands-give}
 
 -- what the check says of a call
 pub record CallFacts (s : List ℕ) (j : ℕ) : Type 0 where
@@ -41,52 +43,26 @@ pub record CallFacts (s : List ℕ) (j : ℕ) : Type 0 where
   pub operator : fieldC s j ≤ 65535
   pub first : 1 ≤ count s j → kind s (child j) ≡ variableKind → fieldA s (child j) < textCount s
 
--- pools that were made behind code
-pub behind : {s : List ℕ} {T : ℕ} {p q r : Pools} {c : Code} → Gives.Gives s T p c q → Gives.Gives s T q [] r → Gives.Gives s T p c r
-behind {s} {T} {p} {q} {r} {c} g h =
-    record { good = h .good; more = Gives.more-trans (g .more) (h .more); code = Gives.code-more s T q r (h .more) c (g .code) }
-
-token-pushed : (s : List ℕ) (T : ℕ) (p : Pools) → Gives.PoolsOk s p → (t : ℕ) → Gives.TokenOk t → Gives.Gives s T p [] (pushToken t p)
-unfolding pushToken
-token-pushed s T p G t h =
-    let a = Gives.added-right Gives.TokenOk (eqb t) t (p .tokens) (G .tokens) h in
-    record {
-      good = record {
-        consts = G .consts;
-        names = G .names;
-        tokens = a .good;
-        residuals = G .residuals;
-        chains = chain-more s p (pushToken t p) (omega arith) refl (G .chains);
-        steps = steps-more s p (pushToken t p) (omega arith) (p .steps) (G .steps);
-      };
-      more = record { consts = omega arith; names = omega arith; tokens = a .more; residuals = omega arith; chains = omega arith };
-      code = tt;
-    }
-
-token-there : (s : List ℕ) (p : Pools) → Gives.PoolsOk s p → (t : ℕ) → Gives.TokenOk t → tokenAt t p < length (pushToken t p .tokens)
-unfolding tokenAt pushToken
-token-there s p G t h = Gives.added-right Gives.TokenOk (eqb t) t (p .tokens) (G .tokens) h .there
-
-good-defeat : (s : List ℕ) (p : Pools) → Gives.PoolsOk s p → Gives.PoolsOk s (defeat p)
+good-defeat : (s : List ℕ) (p : Pools) → PoolsOk s p → PoolsOk s (defeat p)
 unfolding defeat
 good-defeat s p G = record {
   consts = G .consts;
   names = G .names;
   tokens = G .tokens;
   residuals = G .residuals;
-  chains = chain-more s p (defeat p) (omega arith) refl (G .chains);
-  steps = steps-more s p (defeat p) (omega arith) (p .steps) (G .steps);
+  chains = chains-more s p (defeat p) (omega arith) refl (G .chains);
+  steps = G .steps;
 }
 
-more-defeat : (p q : Pools) → Gives.More (defeat p) q → Gives.More p q
+more-defeat : (p q : Pools) → More (defeat p) q → More p q
 unfolding defeat
-more-defeat p q m = record { consts = m .consts; names = m .names; tokens = m .tokens; residuals = m .residuals; chains = m .chains }
+more-defeat p q m = omega (arith, m)
 
-rotate-ok : (s : List ℕ) (T : ℕ) (q : Pools) (others d : ℕ) → others ≤ maxArgs → Gives.CodeOk s T q (Call.rotate others d)
+rotate-ok : (s : List ℕ) (T : ℕ) (q : Pools) (others d : ℕ) → others ≤ maxArgs → CodeOk s T q (Call.rotate others d)
 unfolding Call.rotate
 rotate-ok s T q others d h = by (eqb others 0) refl
   where
-    by : (t : Truth.Bool) → eqb others 0 ≡ t → Gives.CodeOk s T q (Call.rotate others d)
+    by : (t : Truth.Bool) → eqb others 0 ≡ t → CodeOk s T q (Call.rotate others d)
     by true e = rw (e, Call.rotate) tt
     by false e = rw (e, Call.rotate) (h, tt)
 
@@ -94,44 +70,44 @@ named-emits : (i : ℕ) (q : Pools) (n : ℕ) → i < length (q .names) → i < 
 unfolding emits
 named-emits i q n h = h
 
-module _ (s : List ℕ) (T : ℕ) (rec : Rec) (L : Gives.GivesAll s T rec) (j : ℕ) (F : CallFacts s j) where
+module _ (s : List ℕ) (T : ℕ) (rec : Rec) (L : GivesAll s T rec) (j : ℕ) (F : CallFacts s j) where
   -- the name, then the call, behind code that is right
-  callRef-gives : (r : Receiver) (d : ℕ) (p : Pools) (o : Out) → 1 ≤ count s j → count s j < 256 → ReceiverOk (Gives.countsFor s T (o .pools)) r → Gives.Gives s T p (o .code) (o .pools) → Gives.Gives s T p (Call.callRef s j r d o .code) (Call.callRef s j r d o .pools)
+  callRef-gives : (r : Receiver) (d : ℕ) (p : Pools) (o : Out) → 1 ≤ count s j → count s j < 256 → ReceiverOk (countsFor s T (o .pools)) r → GivesOut s T p o → GivesOut s T p (Call.callRef s j r d o)
   unfolding Call.callRef
   callRef-gives r d p o a b h g =
       let n = name (fieldA s j) 0 in
       let pushed = name-pushed s T (o .pools) (g .good) n (F .named, omega arith) in
-      Gives.gives-then (out (o .code) (pushName s n (o .pools))) (ins (Ops.CallRef (nameAt s n (o .pools)) (count s j) r) d (position s j))
-      (behind g pushed)
-      (name-there s T (o .pools) (g .good) n (F .named, omega arith), a, b, Gives.receiver-more s T (o .pools) (pushName s n (o .pools)) (pushed .more) r h)
+      gives-then (out (o .code) (pushName s n (o .pools))) (ins (Ops.CallRef (nameAt s n (o .pools)) (count s j) r) d (position s j))
+      (gives-behind g pushed)
+      (name-there s T (o .pools) (g .good) n (F .named, omega arith), a, b, receiver-more s T (o .pools) (pushName s n (o .pools)) (pushed .more) r h)
 
-  callAs-gives : (op capture d : ℕ) (p : Pools) (o : Out) → count s j < 256 → capture ≤ 1 → op ≤ length (o .pools .tokens) → Gives.Gives s T p (o .code) (o .pools) → Gives.Gives s T p (Call.callAs s j op capture d o .code) (Call.callAs s j op capture d o .pools)
+  callAs-gives : (op capture d : ℕ) (p : Pools) (o : Out) → count s j < 256 → capture ≤ 1 → op ≤ length (o .pools .tokens) → GivesOut s T p o → GivesOut s T p (Call.callAs s j op capture d o)
   unfolding Call.callAs
   callAs-gives op capture d p o b k h g =
       let n = name (fieldA s j) capture in
       let pushed = name-pushed s T (o .pools) (g .good) n (F .named, k) in
-      Gives.gives-then (out (o .code) (pushName s n (o .pools))) (ins (Ops.Call (nameAt s n (o .pools)) (count s j) op capture) (d + count s j) (position s j))
-      (behind g pushed)
+      gives-then (out (o .code) (pushName s n (o .pools))) (ins (Ops.Call (nameAt s n (o .pools)) (count s j) op capture) (d + count s j) (position s j))
+      (gives-behind g pushed)
       (name-there s T (o .pools) (g .good) n (F .named, k), b, k, omega (arith, h, pushed .more .tokens))
 
-  others-give : (b d : ℕ) (p : Pools) → Gives.PoolsOk s p → Gives.Gives s T p (Call.otherArgs s rec j b d p .code) (Call.otherArgs s rec j b d p .pools)
+  others-give : (b d : ℕ) (p : Pools) → PoolsOk s p → GivesOut s T p (Call.otherArgs s rec j b d p)
   unfolding Call.otherArgs
   others-give b d p G = operands-give s T rec L (count s j - 1) (next s (child j)) b d p (row-others s (count s j) (child j) (F .args)) G
 
-  callLocal-gives : (slot b d : ℕ) (p : Pools) → slot < localCount s → 1 ≤ count s j → count s j < 256 → Gives.PoolsOk s p → Gives.Gives s T p (Call.callLocal s rec slot j b d p .code) (Call.callLocal s rec slot j b d p .pools)
+  callLocal-gives : (slot b d : ℕ) (p : Pools) → slot < localCount s → 1 ≤ count s j → count s j < 256 → PoolsOk s p → GivesOut s T p (Call.callLocal s rec slot j b d p)
   unfolding Call.callLocal
   callLocal-gives slot b d p h a c G =
       callRef-gives (Receivers.Local slot) (d + (count s j - 1)) p (Call.otherArgs s rec j b d p) a c h (others-give b d p G)
 
-  callThis-gives : (b d : ℕ) (p : Pools) → 1 ≤ count s j → count s j < 256 → Gives.PoolsOk s p → Gives.Gives s T p (Call.callThis s rec j b d p .code) (Call.callThis s rec j b d p .pools)
+  callThis-gives : (b d : ℕ) (p : Pools) → 1 ≤ count s j → count s j < 256 → PoolsOk s p → GivesOut s T p (Call.callThis s rec j b d p)
   unfolding Call.callThis
   callThis-gives b d p a c G =
-      let h = Gives.gives-emits {T = T} 1 (Gives.gives-one (ins Ops.LoadThis d (position s (child j))) G tt) in
+      let h = gives-ins {T = T} (ins Ops.LoadThis d (position s (child j))) G tt in
       let r = Call.otherArgs s rec j (b + 1) (suc d) (emits 1 p) in
       callRef-gives Receivers.This (d + count s j) p (out (ins Ops.LoadThis d (position s (child j)) ∷ r .code) (r .pools)) a c tt
-      (Gives.gives-seq h (others-give (b + 1) (suc d) (emits 1 p) (h .good)))
+      (gives-seq h (others-give (b + 1) (suc d) (emits 1 p) (h .good)))
 
-  callNamed-gives : (b d : ℕ) (p : Pools) → fieldA s (child j) < textCount s → 1 ≤ count s j → count s j < 256 → Gives.PoolsOk s p → Gives.Gives s T p (Call.callNamed s rec j b d p .code) (Call.callNamed s rec j b d p .pools)
+  callNamed-gives : (b d : ℕ) (p : Pools) → fieldA s (child j) < textCount s → 1 ≤ count s j → count s j < 256 → PoolsOk s p → GivesOut s T p (Call.callNamed s rec j b d p)
   unfolding Call.callNamed andThen
   callNamed-gives b d p h a c G =
       let v = name (fieldA s (child j)) 0 in
@@ -143,30 +119,30 @@ module _ (s : List ℕ) (T : ℕ) (rec : Rec) (L : Gives.GivesAll s T rec) (j : 
       let there : i < length (o .pools .names) = omega (arith, name-there s T p G v (h, omega arith), g .more .names) in
       let load = ins (Ops.LoadNamed i) (d + others) (position s (child j)) in
       let few : others ≤ maxArgs = omega arith in
-      let rest : Gives.Gives s T (o .pools) (load ∷ Call.rotate others (d + count s j)) (o .pools) =
-          record { good = g .good; more = Gives.more-refl (o .pools); code = (there, rotate-ok s T (o .pools) others (d + count s j) few) } in
+      let rest : Gives s T (o .pools) (load ∷ Call.rotate others (d + count s j)) (o .pools) =
+          record { good = g .good; more = more-refl (o .pools); code = (there, rotate-ok s T (o .pools) others (d + count s j) few) } in
       callRef-gives (Receivers.Named i) (d + count s j) p (andThen o (load ∷ Call.rotate others (d + count s j))) a c (named-emits i (o .pools) (length (load ∷ Call.rotate others (d + count s j))) there)
-      (Gives.gives-emits (length (load ∷ Call.rotate others (d + count s j))) (Gives.gives-seq pushed (Gives.gives-seq g rest)))
+      (gives-emits (length (load ∷ Call.rotate others (d + count s j))) (gives-seq pushed (gives-seq g rest)))
 
-  callToken-gives : (d : ℕ) (p : Pools) (o : Out) → count s j < 256 → (fieldC s j ≡ 0 → ⊥) → Gives.Gives s T p (o .code) (o .pools) → Gives.Gives s T p (Call.callToken s j d o .code) (Call.callToken s j d o .pools)
+  callToken-gives : (d : ℕ) (p : Pools) (o : Out) → count s j < 256 → (fieldC s j ≡ 0 → ⊥) → GivesOut s T p o → GivesOut s T p (Call.callToken s j d o)
   unfolding Call.callToken
   callToken-gives d p o b z g =
       let t = fieldC s j in
       let low : 1 ≤ fieldC s j = omega (arith, z) in
       let pushed = token-pushed s T (o .pools) (g .good) t (low, F .operator) in
-      callAs-gives (suc (tokenAt t (o .pools))) 0 d p (out (o .code) (pushToken t (o .pools))) b (omega arith) (token-there s (o .pools) (g .good) t (low, F .operator)) (behind g pushed)
+      callAs-gives (suc (tokenAt t (o .pools))) 0 d p (out (o .code) (pushToken t (o .pools))) b (omega arith) (token-there s T (o .pools) (g .good) t (low, F .operator)) (gives-behind g pushed)
 
-  callValues-gives : (b d : ℕ) (p : Pools) → count s j < 256 → Gives.PoolsOk s p → Gives.Gives s T p (Call.callValues s rec j b d p .code) (Call.callValues s rec j b d p .pools)
+  callValues-gives : (b d : ℕ) (p : Pools) → count s j < 256 → PoolsOk s p → GivesOut s T p (Call.callValues s rec j b d p)
   unfolding Call.callValues Call.storesToken
   callValues-gives b d p c G = by (Call.storesToken s j) refl
     where
       o : Out
       o = operands s rec (count s j) (child j) b d p
 
-      g : Gives.Gives s T p (operands s rec (count s j) (child j) b d p .code) (operands s rec (count s j) (child j) b d p .pools)
+      g : GivesOut s T p (operands s rec (count s j) (child j) b d p)
       g = operands-give s T rec L (count s j) (child j) b d p (F .args) G
 
-      by : (t : Truth.Bool) → Call.storesToken s j ≡ t → Gives.Gives s T p (Call.callValues s rec j b d p .code) (Call.callValues s rec j b d p .pools)
+      by : (t : Truth.Bool) → Call.storesToken s j ≡ t → GivesOut s T p (Call.callValues s rec j b d p)
       by true e =
           let z = not-true (eqb (fieldC s j) 0) (and-eq-true-iff (not (eqb (fieldC s j) 0)) _ .0 e .0) in
           rw (e, Call.callValues) (callToken-gives d p (operands s rec (count s j) (child j) b d p) c (eqb-false (fieldC s j) 0 z) g)
@@ -204,7 +180,7 @@ module _ (s : List ℕ) (T : ℕ) (rec : Rec) (L : Gives.GivesAll s T rec) (j : 
       by true h = rw (h, Call.receiver) (first-ok (leb-true 1 (count s j) (and-eq-true-iff (eqb (fieldC s j) 0 && eqb (fieldB s j) 0) (leb 1 (count s j)) .0 h .1)))
       by false h = rw (h, Call.receiver) tt
 
-  lowerCall-gives : (f : First) (b d : ℕ) (p : Pools) → FirstOk f → count s j < 256 → Gives.PoolsOk s p → Gives.Gives s T p (Call.lowerCallBy f s rec j b d p .code) (Call.lowerCallBy f s rec j b d p .pools)
+  lowerCall-gives : (f : First) (b d : ℕ) (p : Pools) → FirstOk f → count s j < 256 → PoolsOk s p → GivesOut s T p (Call.lowerCallBy f s rec j b d p)
   unfolding Call.lowerCallBy
   lowerCall-gives (First.local slot) b d p h c G = callLocal-gives slot b d p (h .1) (h .0) c G
   lowerCall-gives First.named b d p h c G = callNamed-gives b d p (h .1) (h .0) c G
@@ -215,7 +191,7 @@ module _ (s : List ℕ) (T : ℕ) (rec : Rec) (L : Gives.GivesAll s T rec) (j : 
   abbrev RuleOk : CallRule → Type 0
   RuleOk CallRule.fnPtr = count s j ≡ 1
   RuleOk CallRule.fnPtrCall = count s j ≤ 256
-  RuleOk CallRule.lowerable = count s j ≤ 255
+  RuleOk CallRule.lowerable = count s j < 256
   RuleOk CallRule.eval = Prim.Unit {0}
   RuleOk CallRule.residual = Prim.Unit {0}
 
@@ -227,10 +203,6 @@ module _ (s : List ℕ) (T : ℕ) (rec : Rec) (L : Gives.GivesAll s T rec) (j : 
   unfolding Call.isFnPtrCall
   ptrCall-count h = leb-true (count s j) 256 (and-eq-true-iff (isCall (Call.callee s j) && leb 1 (count s j)) (leb (count s j) (maxArgs + 1)) .0 h .1)
 
-  lowerable-count : Call.isLowerableCall s j ≡ true → count s j ≤ 255
-  unfolding Call.isLowerableCall
-  lowerable-count h = leb-true (count s j) 255 (and-eq-true-iff (leb (count s j) maxArgs) (not (Call.syntactic (Call.callee s j))) .0 h .0)
-
   rule-ok : RuleOk (Call.callRule s j)
   unfolding Call.callRule
   rule-ok = by (Call.isFnPtr s j) (Call.isFnPtrCall s j) (Call.isLowerableCall s j) (isEval (Call.callee s j)) refl refl refl refl
@@ -238,25 +210,25 @@ module _ (s : List ℕ) (T : ℕ) (rec : Rec) (L : Gives.GivesAll s T rec) (j : 
       by : (a c l e : Truth.Bool) → Call.isFnPtr s j ≡ a → Call.isFnPtrCall s j ≡ c → Call.isLowerableCall s j ≡ l → isEval (Call.callee s j) ≡ e → RuleOk (Call.callRule s j)
       by true c l e g h k m = rw (g, Call.callRule) (ptr-count g)
       by false true l e g h k m = rw (g, h, Call.callRule) (ptrCall-count h)
-      by false false true e g h k m = rw (g, h, k, Call.callRule) (lowerable-count k)
+      by false false true e g h k m = rw (g, h, k, Call.callRule) (lowerable-count s j k)
       by false false false true g h k m = rw (g, h, k, m, Call.callRule) tt
       by false false false false g h k m = rw (g, h, k, m, Call.callRule) tt
 
-  fnCallBy-gives : (r : CallRule) (b d : ℕ) (p : Pools) → RuleOk r → Gives.PoolsOk s p → Gives.Gives s T p (Call.fnCallBy r s rec j b d p .code) (Call.fnCallBy r s rec j b d p .pools)
+  fnCallBy-gives : (r : CallRule) (b d : ℕ) (p : Pools) → RuleOk r → PoolsOk s p → GivesOut s T p (Call.fnCallBy r s rec j b d p)
   unfolding Call.fnCallBy Call.makeFnPtr Call.callFnPtr
   fnCallBy-gives CallRule.fnPtr b d p h G =
       let v = row-first (subst (λ (n : ℕ). Row s n (child j)) h (F .args)) in
-      Gives.gives-then (rec (child j) b d p) (ins Ops.MakeFnPtr (suc d) (position s (child j))) (L .gives (child j) b d p v G) tt
+      gives-then (rec (child j) b d p) (ins Ops.MakeFnPtr (suc d) (position s (child j))) (L .gives (child j) b d p v G) tt
   fnCallBy-gives CallRule.fnPtrCall b d p h G =
       let few : count s j - 1 ≤ maxArgs = omega arith in
-      Gives.gives-then (operands s rec (count s j) (child j) b d p) (ins (Ops.CallFnPtr (count s j - 1) (fieldB s j)) (d + count s j) (position s j))
+      gives-then (operands s rec (count s j) (child j) b d p) (ins (Ops.CallFnPtr (count s j - 1) (fieldB s j)) (d + count s j) (position s j))
       (operands-give s T rec L (count s j) (child j) b d p (F .args) G) (few, F .capture)
-  fnCallBy-gives CallRule.lowerable b d p h G = lowerCall-gives (Call.receiver s j) b d p receiver-ok (omega arith) G
+  fnCallBy-gives CallRule.lowerable b d p h G = lowerCall-gives (Call.receiver s j) b d p receiver-ok h G
   fnCallBy-gives CallRule.eval b d p h G =
       let g = residual-gives s T (defeat p) (good-defeat s p G) j d (F .valid) in
       record { good = g .good; more = more-defeat p (residualExpr j d (defeat p) .pools) (g .more); code = g .code }
   fnCallBy-gives CallRule.residual b d p h G = residual-gives s T p G j d (F .valid)
 
-  pub fnCall-gives : (b d : ℕ) (p : Pools) → Gives.PoolsOk s p → Gives.Gives s T p (Call.fnCall s rec j b d p .code) (Call.fnCall s rec j b d p .pools)
+  pub fnCall-gives : (b d : ℕ) (p : Pools) → PoolsOk s p → GivesOut s T p (Call.fnCall s rec j b d p)
   unfolding Call.fnCall
   fnCall-gives b d p G = fnCallBy-gives (Call.callRule s j) b d p rule-ok G

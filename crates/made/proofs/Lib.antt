@@ -3,10 +3,13 @@ pub mod Listed
 pub mod ListedLaws
 pub mod FromProgram
 pub mod Gives
+pub mod GivesPools
 pub mod GivesLeaf
 pub mod GivesBranch
 pub mod GivesCall
 pub mod GivesChain
 pub mod GivesExpression
 pub mod Facts
-pub mod PlainMade
+pub mod GivesSwitch
+pub mod SwitchListed
+pub mod LoweredMade

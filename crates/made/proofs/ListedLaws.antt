@@ -53,7 +53,8 @@ row-more {r} {rs} {x} {ws} h t = record { short = omega (arith, t .short); right
     by zero g = h
     by (suc f) g = t .right f (omega arith)
 
-pub row-obeys : (rs : List Rule) (ws w : List ℕ) (at : ℕ) → ((f : ℕ) → f < length ws → word w (at + f) ≡ getD ws f 0) → Row rs ws → Obeys rs w at
+pub row-obeys : (rs : List Rule) (ws w : List ℕ) (at : ℕ) → ((f : ℕ) → f < length ws → word w (at + f) ≡ getD ws f 0)
+    → Row rs ws → Obeys rs w at
 row-obeys rs ws w at e t f h = subst (Fits (getD rs f free)) (sym (e f (omega (arith, t .short)))) (t .right f h)
 
 -- a word that is 0; any word
@@ -82,7 +83,8 @@ bOf op = getD (opWords op) 2 0
 receiver-of : (argc k : ℕ) → argc < 256 → (argc + 256 * k) / 256 ≡ k
 receiver-of argc k h = omega arith
 
-receiver-fits : (s w : List ℕ) (argc : ℕ) (r : Receiver) → argc < 256 → ReceiverOk (countsIn s w) r → Fits (receiverRule s w ((argc + 256 * receiverKind r) / 256)) (receiverWord r)
+receiver-fits : (s w : List ℕ) (argc : ℕ) (r : Receiver) → argc < 256 → ReceiverOk (countsIn s w) r
+    → Fits (receiverRule s w ((argc + 256 * receiverKind r) / 256)) (receiverWord r)
 unfolding receiverKind receiverWord receiverRule Fits
 receiver-fits s w argc (Receivers.Local slot) a h = subst (λ (k : ℕ). Fits (receiverRule s w k) slot) (sym (receiver-of argc 0 a)) h
 receiver-fits s w argc (Receivers.Named i) a h = subst (λ (k : ℕ). Fits (receiverRule s w k) i) (sym (receiver-of argc 1 a)) h
@@ -98,7 +100,8 @@ fits-packed : (least kinds argc k : ℕ) → least ≤ argc → argc < 256 → k
 unfolding Fits
 fits-packed least kinds argc k a b c = (omega arith, omega arith)
 
-pub op-row : (s w : List ℕ) (op : Op) → OpOk (countsIn s w) op → Row (between 1 24 ∷ getD (codeTable s w (bOf op)) (kindOf op) []) (opWords op)
+pub op-row : (s w : List ℕ) (op : Op) → OpOk (countsIn s w) op
+    → Row (between 1 24 ∷ getD (codeTable s w (bOf op)) (kindOf op) []) (opWords op)
 unfolding opWords codeTable Fits
 op-row s w (Const i) h = alone 1 i (omega arith) (omega arith) h
 op-row s w Unit h = alone 2 0 (omega arith) (omega arith) refl
@@ -131,7 +134,8 @@ op-row s w (Chain i) h = alone 23 i (omega arith) (omega arith) h
 op-row s w (EvalAst i) h = alone 24 i (omega arith) (omega arith) h
 
 -- constants
-const-by : (s : List ℕ) (c : Pools.Const) (k : ℕ) → c .kind ≡ k → 3 ≤ k → k ≤ 6 → Row (getD (constTable s) k []) (c .a ∷ c .b ∷ []) → Row (between 3 6 ∷ getD (constTable s) (c .kind) []) (constWords c)
+const-by : (s : List ℕ) (c : Pools.Const) (k : ℕ) → c .kind ≡ k → 3 ≤ k → k ≤ 6 → Row (getD (constTable s) k []) (c .a ∷ c .b ∷ [])
+    → Row (between 3 6 ∷ getD (constTable s) (c .kind) []) (constWords c)
 unfolding constWords Fits
 const-by s c k e a b t =
     row-more (omega arith, omega arith) (subst (λ (n : ℕ). Row (getD (constTable s) n []) (c .a ∷ c .b ∷ [])) (sym e) t)
@@ -144,29 +148,37 @@ const-row s c (char e a b) = const-by s c 5 e (omega arith) (omega arith) (row-m
 const-row s c (string e a b) = const-by s c 6 e (omega arith) (omega arith) (row-more a (row-more b (row-nil [])))
 
 -- roots, steps
-pub chain-row : (s w : List ℕ) (c : ChainRecord.Chain) (k : ℕ) → k ≡ c .first → RootOk (countsIn s w) (c .root) → c .first + c .steps ≤ steps w → c .operands ≤ maxElements → Row (upTo 3 ∷ getD (rootTable s w) (getD (rootWords (c .root)) 0 0) [] ++ (free ∷ within k (steps w) ∷ upTo maxElements ∷ [])) (chainWords c)
+-- the rules of a chain whose root is of this kind and whose steps start at k
+abbrev pub rulesOfChain : List ℕ → List ℕ → ℕ → ℕ → List Rule
+rulesOfChain s w kind k = upTo 3 ∷ getD (rootTable s w) kind [] ++ (free ∷ within k (steps w) ∷ upTo maxElements ∷ [])
+
+pub chain-row : (s w : List ℕ) (c : ChainRecord.Chain) (k : ℕ) → k ≡ c .first → RootOk s (names w) (c .root)
+    → c .first + c .steps ≤ steps w → c .operands ≤ maxElements
+    → Row (rulesOfChain s w (getD (rootWords (c .root)) 0 0) k) (chainWords c)
 unfolding chainWords rootTable rootWords Fits
 chain-row s w c k e h a b = by (c .root) h
   where
     tail : Row (free ∷ within k (steps w) ∷ upTo maxElements ∷ []) (c .first ∷ c .steps ∷ c .operands ∷ [])
     tail = row-more tt (row-more (omega arith) (row-more b (row-nil [])))
 
-    by : (root : Root) → RootOk (countsIn s w) root → Row (upTo 3 ∷ getD (rootTable s w) (getD (rootWords root) 0 0) [] ++ (free ∷ within k (steps w) ∷ upTo maxElements ∷ [])) (rootWords root ++ (c .first ∷ c .steps ∷ c .operands ∷ []))
+    by : (root : Root) → RootOk s (names w) root
+        → Row (rulesOfChain s w (getD (rootWords root) 0 0) k) (rootWords root ++ (c .first ∷ c .steps ∷ c .operands ∷ []))
     by (Roots.Local slot name) g = row-more (omega arith) (row-more (g .0) (row-more (g .1) tail))
     by (Roots.Named name pos) g = row-more (omega arith) (row-more g (row-more tt tail))
     by (Roots.This pos) g = row-more (omega arith) (row-more refl (row-more tt tail))
     by Roots.Temporary g = row-more (omega arith) (row-more refl (row-more refl tail))
 
-pub step-row : (w s : List ℕ) (t : Step) → StepOk (countsIn s w) t → Row (upTo 2 ∷ getD (stepTable w) (getD (stepWords t) 0 0) []) (stepWords t)
+pub step-row : (w : List ℕ) (t : Step) → StepOk (names w) t → Row (upTo 2 ∷ getD (stepTable w) (getD (stepWords t) 0 0) []) (stepWords t)
 unfolding stepTable stepWords Fits
-step-row w s (Index operand flags pos bracket) h =
+step-row w (Index operand flags pos bracket) h =
     row-more (omega arith) (row-more tt (row-more h (row-more tt (row-more tt (row-more refl (row-nil []))))))
-step-row w s (Property name getter setter flags pos) h =
+step-row w (Property name getter setter flags pos) h =
     row-more (omega arith) (row-more (h .0) (row-more (h .1) (row-more (h .2) (row-more (h .3) (row-more tt (row-nil []))))))
-step-row w s (Method name argc operand flags pos) h =
+step-row w (Method name argc operand flags pos) h =
     row-more (omega arith) (row-more (h .0) (row-more (h .1) (row-more tt (row-more (h .2) (row-more tt (row-nil []))))))
 
-pub in-row : (w : List ℕ) (j n : ℕ) (t : Step) → stepWord w j 2 ≡ getD (stepWords t) 2 0 → StepIn n t → Row (getD (operandTable w j n) (getD (stepWords t) 0 0) []) (stepWords t)
+pub in-row : (w : List ℕ) (j n : ℕ) (t : Step) → stepWord w j 2 ≡ getD (stepWords t) 2 0 → StepIn n t
+    → Row (getD (operandTable w j n) (getD (stepWords t) 0 0) []) (stepWords t)
 unfolding operandTable stepWords Fits
 in-row w j n (Index operand flags pos bracket) e h = row-more tt (row-more h (row-nil (flags ∷ pos ∷ bracket ∷ 0 ∷ [])))
 in-row w j n (Property name getter setter flags pos) e h = row-nil (1 ∷ name ∷ getter ∷ setter ∷ flags ∷ pos ∷ [])
