@@ -1,7 +1,7 @@
 -- What the check of 1 to 8 says of a node, by the rule that lowers it.
 use Prim.Native.Nat.{ℕ, zero, suc, _-_, _≤_, _<_}
 use mathlib.Core.Path.{_≡_, refl, ap, _∙_, subst}
-use mathlib.Core.Bool.{Bool, true, false, _&&_, _||_, and-eq-true-iff}
+use mathlib.Core.Bool.{Bool, true, false, _&&_, and-eq-true-iff}
 use mathlib.Core.List.{List, [], _∷_}
 use native.Mathlib.Omega.{arith}
 use borrow.Author.Tests.{eqb-true, eq-eqb, leb-true, ltb-true}
@@ -12,7 +12,6 @@ use Rattle.words.specs.CountLaws.{all-at}
 use Rattle.sheet.specs.Limits.{maxDepth}
 use Rattle.sheet.specs.Layout.{nodeCount, textCount}
 use Rattle.sheet.specs.Node.{kind, count, fieldA, fieldB, fieldC, child}
-use Rattle.sheet.specs.Walk.{skip}
 use Rattle.shape.specs.Kinds.{bound, scalar}
 use Rattle.shape.specs.Shape.{withinBounds, ownRule, fieldsOk, selfOk}
 use Rattle.numbers.specs.Numbers.{namesText, exist, numberAmong, numberOk, nodeNumbersOk, numbersOk}

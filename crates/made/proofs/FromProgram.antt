@@ -34,7 +34,7 @@ use Rattle.wellmade.specs.Rules.{constants, names, tokens, residuals, chains, s
 use Rattle.wellmade.specs.WellMade.{WellMade, WordsRight}
 use Rattle.made.proofs.Sections.{end-is, name-word, token-word, residual-word, step-word}
 use Rattle.made.proofs.Listed.{countsFor, OpOk, ConstOk, NameOk, TokenOk, StepOk, StepIn, noStep, ChainOk, TableOk, CaseOk, RangeOk, all-in-at, Listed}
-use Rattle.made.proofs.ListedLaws.{Row, row-nil, row-more, row-obeys, rulesOfChain, op-row, const-row, chain-row, step-row, in-row}
+use Rattle.made.proofs.ListedLaws.{row-nil, row-more, row-obeys, rulesOfChain, op-row, const-row, chain-row, step-row, in-row}
 
 -- what a lookup past the end gives
 abbrev noConst : Pools.Const

@@ -1,6 +1,6 @@
 -- What is shown of every construct, so that the lowered program is listed right: from good pools it makes good pools, drops nothing, and its
 -- instructions name entries that are there. It composes as the code does.
-use Prim.Native.Nat.{ℕ, zero, suc, _+_, _≤_, _<_}
+use Prim.Native.Nat.{ℕ, _+_, _≤_, _<_}
 use mathlib.Core.Path.{_≡_, refl, sym, ap, _∙_, subst}
 use mathlib.Core.Bool as Truth
 use mathlib.Core.Bool.{true, false}
@@ -9,7 +9,6 @@ use native.Mathlib.Omega.{arith}
 use borrow.Author.Tests.{eqb-true, eqb-false}
 use lib.Dec.{eqb}
 use lib.ListN.{length, getD, length-append}
-use Rattle.sheet.specs.Layout.{nodeCount}
 use Rattle.bytecode.specs.declared.Receiver.{Receiver}
 use Rattle.bytecode.specs.declared.Receiver.the-variants as Receivers
 use Rattle.bytecode.specs.declared.Root.{Root}

@@ -1,32 +1,31 @@
 -- FnCall gives good pools and instructions that name what is there.
-use Prim.Native.Nat.{ℕ, zero, suc, _+_, _-_, _≤_, _<_}
-use mathlib.Core.Path.{_≡_, refl, sym, ap, _∙_, subst}
+use Prim.Native.Nat.{ℕ, suc, _+_, _-_, _≤_, _<_}
+use mathlib.Core.Path.{_≡_, refl, subst}
 use mathlib.Core.Bool as Truth
 use mathlib.Core.Bool.{true, false, _&&_, not, and-eq-true-iff}
 use mathlib.Core.Option.{Option, none, some}
-use mathlib.Core.List.{List, [], _∷_, _++_}
+use mathlib.Core.List.{List, _∷_}
 use native.Mathlib.Omega.{arith}
 use borrow.Author.Tests.{eqb-true, eqb-false, leb-true, not-true}
 use lib.Dec.{eqb, leb}
-use lib.ListN.{length, getD}
-use Rattle.text.specs.Keyword.{isEval, isFn, isCall, isCurry}
+use lib.ListN.{length}
+use Rattle.text.specs.Keyword.{isEval, isFn, isCall}
 use Rattle.sheet.specs.Layout.{textCount, localCount}
 use Rattle.sheet.specs.Node.{kind, fieldA, fieldB, fieldC, position, count, child, next}
 use Rattle.sheet.specs.Text.{text}
 use Rattle.bytecode.specs.declared.Receiver.{Receiver}
 use Rattle.bytecode.specs.declared.Receiver.the-variants as Receivers
-use Rattle.bytecode.specs.declared.Op.{Op}
 use Rattle.bytecode.specs.declared.Op.the-variants as Ops
 use Rattle.lowering.specs.Kinds.{variableKind, thisKind}
 use Rattle.lowering.specs.Limits.{maxArgs}
-use Rattle.lowering.specs.Code.{Ins, Code, ins, noPos}
+use Rattle.lowering.specs.Code.{ins}
 use Rattle.lowering.specs.Pools.{Pools, emits, defeat, name, nameAt, pushName, tokenAt, pushToken}
 use Rattle.lowering.specs.Out.{Out, Rec, out, andThen, residualExpr}
 use Rattle.lowering.specs.Slots.{resolve}
 use Rattle.lowering.specs.Operands.{operands}
 use Rattle.lowering.specs.Call
 use Rattle.lowering.specs.Call.{First, CallRule}
-use Rattle.lowering.specs.Nodes.{Valid, Row, row-first, row-rest, row-others}
+use Rattle.lowering.specs.Nodes.{Valid, Row, row-first, row-others}
 use Rattle.lowering.proofs.SoundCall.{lowerable-count}
 use Rattle.made.proofs.Listed.{countsFor, ReceiverOk, PoolsOk, CodeOk}
 use Rattle.made.proofs.Gives.{chains-more, More, more-refl, receiver-more, Gives, GivesOut, GivesAll, gives-seq, gives-behind, gives-emits, gives-ins, gives-then}

@@ -1,35 +1,31 @@
 -- Dot and Index give good pools and instructions that name what is there; a chain's steps have their operands in it.
-use Prim.Native.Nat.{ℕ, zero, suc, _+_, _*_, _-_, _%_, _≤_, _<_}
-use mathlib.Core.Path.{_≡_, refl, sym, ap, _∙_, subst}
+use Prim.Native.Nat.{ℕ, zero, suc, _+_, _*_, _≤_, _<_}
+use mathlib.Core.Path.{_≡_, refl}
 use mathlib.Core.Bool as Truth
-use mathlib.Core.Bool.{true, false, _&&_, _||_, and-eq-true-iff}
+use mathlib.Core.Bool.{true, false, _||_, and-eq-true-iff}
 use mathlib.Core.Option.{Option, none, some}
-use mathlib.Core.List.{List, [], _∷_, _++_}
+use mathlib.Core.List.{List, [], _∷_}
 use native.Mathlib.Omega.{arith}
-use native.Mathlib.Nat.{add-zero}
-use borrow.Author.Tests.{eqb-true, eqb-false, leb-true}
+use borrow.Author.Tests.{eqb-true, leb-true}
 use lib.Dec.{eqb, leb}
-use lib.ListN.{length, getD, length-append, List·getD-append}
-use lib.Seq.{getD-append-add}
+use lib.ListN.{length}
 use Rattle.text.specs.Keyword.{isCall, isCurry}
 use Rattle.sheet.specs.Limits.{maxDepth}
-use Rattle.sheet.specs.Layout.{textCount, localCount}
-use Rattle.sheet.specs.Node.{kind, fieldA, fieldB, fieldC, position, count, child, next}
-use Rattle.sheet.specs.Start.{startOf}
+use Rattle.sheet.specs.Layout.{textCount}
+use Rattle.sheet.specs.Node.{kind, fieldA, fieldB, fieldC, position, count, child}
 use Rattle.sheet.specs.Text.{text}
 use Rattle.bytecode.specs.declared.Root.{Root}
 use Rattle.bytecode.specs.declared.Root.the-variants as Roots
 use Rattle.bytecode.specs.declared.Step.{Step}
 use Rattle.bytecode.specs.declared.Step.the-variants.{Index, Property, Method}
-use Rattle.bytecode.specs.declared.Chain as ChainRecord
 use Rattle.bytecode.specs.declared.Op.the-variants as Ops
-use Rattle.lowering.specs.Limits.{maxArgs, maxElements}
-use Rattle.lowering.specs.Code.{Ins, Code, ins}
-use Rattle.lowering.specs.Pools.{Pools, emits, name, nameAt, pushName, firstWhere, sameChain, chainAt, newChain, pushChain}
-use Rattle.lowering.specs.Out.{Out, Rec, out, residualExpr}
+use Rattle.lowering.specs.Limits.{maxArgs}
+use Rattle.lowering.specs.Code.{Code, ins}
+use Rattle.lowering.specs.Pools.{Pools, name, pushName, chainAt}
+use Rattle.lowering.specs.Out.{Out, Rec}
 use Rattle.lowering.specs.Operands.{operands}
 use Rattle.lowering.specs.Call.{callee, isLowerableCall}
-use Rattle.lowering.specs.Flatten.{StepRule, negated, restOf, goesOn, operandOf, links, stepRule, flattens}
+use Rattle.lowering.specs.Flatten.{StepRule, restOf, goesOn, operandOf, links, stepRule, flattens}
 use Rattle.lowering.specs.Kinds.{variableKind, thisKind}
 use Rattle.lowering.specs.Slots.{resolve}
 use Rattle.lowering.specs.Chain.{variableRoot, rootOf, rootPools, onStack, rootCode, closeChain, chainOf, chain}

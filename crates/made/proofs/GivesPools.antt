@@ -3,10 +3,10 @@ use Prim.Native.Nat.{ℕ, _+_, _≤_, _<_}
 use mathlib.Core.Path.{_≡_, refl, sym, subst}
 use mathlib.Core.Bool as Truth
 use mathlib.Core.Bool.{true, false}
-use mathlib.Core.List.{List, [], _∷_, _++_}
+use mathlib.Core.List.{List, [], _∷_}
 use native.Mathlib.Omega.{arith}
 use lib.Dec.{eqb}
-use lib.ListN.{length, getD, length-append, List·getD-append}
+use lib.ListN.{length, length-append, List·getD-append}
 use lib.Seq.{getD-append-add}
 use Rattle.sheet.specs.Layout.{nodeCount}
 use Rattle.bytecode.specs.declared.Root.{Root}
@@ -17,7 +17,7 @@ use Rattle.lowering.specs.Pools.{Pools, Const, Name, sameConst, constAt, pushCo
 use Rattle.lowering.specs.Nodes.{Valid}
 use Rattle.lowering.proofs.ChainPool.{push-new, push-old}
 use Rattle.made.proofs.Listed.{ConstOk, NameOk, TokenOk, RootOk, StepOk, StepIn, noStep, ChainOk, AllIn, all-in-at, PoolsOk}
-use Rattle.made.proofs.Gives.{Gives, all-append, all-more, all-map, root-more, steps-more, chains-more, gives-none, added-right}
+use Rattle.made.proofs.Gives.{Gives, all-append, all-more, all-map, steps-more, chains-more, gives-none, added-right}
 
 module _ (s : List ℕ) (T : ℕ) (p : Pools) (G : PoolsOk s p) where
   pub const-pushed : (c : Const) → ConstOk s c → Gives s T p [] (pushConst s c p)

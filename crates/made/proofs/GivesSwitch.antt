@@ -11,21 +11,21 @@ use Rattle.sheet.specs.Node.{position, child}
 use Rattle.cases.specs.Split as Split
 use Rattle.cases.specs.Split.{split}
 use Rattle.bytecode.specs.declared.Op.the-variants as Ops
-use Rattle.lowering.specs.Code.{Ins, Code, ins, noPos}
+use Rattle.lowering.specs.Code.{Ins, ins, noPos}
 use Rattle.lowering.specs.Pools.{Pools, noPools, emits, constOf, pushConst}
 use Rattle.lowering.specs.Out.{Rec}
 use Rattle.lowering.specs.Nodes.{Valid}
 use Rattle.lowering.specs.SwitchSheet.{blockCount, defaultBlock, subject, guardOf, bodyOf, casesOf, caseBlocks, rangesOf}
 use Rattle.lowering.specs.Arms.{Try, End, taken, declined, idle, Entry, toBody, toChain, toFallback, Guard, never, always, tried, guardKind, tryAt, triesOf, entryFrom, endEmits, Arm, armsExtent, armChains, distinct, dropEnd, dropEntry, dropIdleJump}
 use Rattle.lowering.specs.Bodies.{Body, wanted, layBodies, bodyAt}
-use Rattle.lowering.specs.SwitchLayout.{Layout, layCases, caseArmsOf, layRanges, layout}
+use Rattle.lowering.specs.SwitchLayout.{layCases, caseArmsOf, layRanges, layout}
 use Rattle.lowering.specs.SwitchCode.{overSubject, overValue, defaultAt, endAt, fallbackAt, triesCode, endCode, entryCode, armsCode, rangesCode, bodiesCode, bodiesFall, defaultCode, lastEmits, switchCode}
 use Rattle.lowering.specs.SwitchTables.{casePools, rangeTable}
 use Rattle.lowering.proofs.Lowered.{tries-never, tries-always, tries-tried, bodies-lay, bodies-skip, drop-here, drop-later}
 use Rattle.lowering.proofs.SwitchEntries.{distinct-only}
 use Rattle.lowering.proofs.SwitchBlocks.{Blocks, split-blocks}
 use Rattle.made.proofs.Listed.{countsFor, OpOk, ConstOk, PoolsOk, CodeOk}
-use Rattle.made.proofs.Gives.{all-append, all-left, all-right, more-refl, Gives, GivesAll, gives-none, gives-seq, gives-behind, gives-one, gives-emits, gives-ins}
+use Rattle.made.proofs.Gives.{all-append, all-left, all-right, more-refl, Gives, GivesAll, gives-none, gives-seq, gives-behind, gives-emits, gives-ins}
 use Rattle.made.proofs.GivesPools.{const-pushed}
 use Rattle.made.proofs.GivesExpression.{no-pools}
 

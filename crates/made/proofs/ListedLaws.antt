@@ -1,14 +1,10 @@
 -- Records that are listed right have words that obey the rules.
-use Prim.Native.Nat.{ℕ, zero, suc, _+_, _*_, _/_, _%_, _≤_, _<_}
-use mathlib.Core.Path.{_≡_, refl, sym, ap, _∙_, subst}
-use mathlib.Core.Bool.{true, false}
+use Prim.Native.Nat.{ℕ, zero, suc, _+_, _*_, _/_, _≤_, _<_}
+use mathlib.Core.Path.{_≡_, refl, sym, subst}
 use mathlib.Core.List.{List, [], _∷_, _++_}
 use native.Mathlib.Omega.{arith}
-use borrow.Author.Tests.{eq-eqb, ne-eqb}
-use lib.Dec.{eqb}
 use lib.ListN.{length, getD}
-use Rattle.sheet.specs.Layout.{nodeCount, textCount, localCount}
-use Rattle.shape.specs.Kinds as Kinds
+use Rattle.sheet.specs.Layout.{localCount}
 use Rattle.bytecode.specs.declared.Receiver.{Receiver}
 use Rattle.bytecode.specs.declared.Receiver.the-variants as Receivers
 use Rattle.bytecode.specs.declared.Root.{Root}
@@ -20,11 +16,11 @@ use Rattle.bytecode.specs.declared.Op.{Op}
 use Rattle.bytecode.specs.declared.Op.the-variants.{Const, Unit, Bool, LoadLocal, LoadNamed, LoadThis, Pop, Jump, JumpIfTrue, JumpIfFalse, SkipIfNotUnit, Call, CallRef, Rotate, Switch, MakeFnPtr, CallFnPtr, InterpolateStart, InterpolateAppend, InterpolateEnd, MakeArray, CheckSize, Chain, EvalAst}
 use Rattle.bytecode.specs.Op.{opWords, receiverKind, receiverWord}
 use Rattle.bytecode.specs.Chain.{rootWords, stepWords, chainWords}
-use Rattle.lowering.specs.Limits.{maxArgs, maxElements}
+use Rattle.lowering.specs.Limits.{maxElements}
 use Rattle.lowering.specs.Pools as Pools
-use Rattle.lowering.specs.Image.{constWords, nameWords}
+use Rattle.lowering.specs.Image.{constWords}
 use Rattle.lowering.specs.Words.{word}
-use Rattle.wellmade.specs.Rules.{Rule, free, unused, below, upTo, between, scalar, packed, within, Fits, Obeys, constants, names, tokens, residuals, chains, steps, tables, codeTable, receiverRule, constTable, nameRules, rootTable, stepTable, operandTable, stepWord}
+use Rattle.wellmade.specs.Rules.{Rule, free, unused, upTo, between, packed, within, Fits, Obeys, constants, names, tokens, residuals, chains, steps, tables, codeTable, receiverRule, constTable, rootTable, stepTable, operandTable, stepWord}
 use Rattle.made.proofs.Listed.{Counts, ReceiverOk, OpOk, ConstOk, int, float, char, string, RootOk, StepOk, StepIn}
 
 abbrev pub countsIn : List ℕ → List ℕ → Counts

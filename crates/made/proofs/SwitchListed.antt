@@ -1,6 +1,6 @@
 -- The program of a switch is listed right: its code and pools by what its parts give, its tables by where the targets are shown to lie.
-use Prim.Native.Nat.{ℕ, zero, suc, _≤_, _<_}
-use mathlib.Core.Path.{_≡_, refl, sym, ap, subst}
+use Prim.Native.Nat.{ℕ, _≤_}
+use mathlib.Core.Path.{_≡_, refl, subst}
 use mathlib.Core.Bool.{Bool, true, false}
 use mathlib.Core.List.{List, [], _∷_, List·Memᴰ, List·Memᴰ·head, List·Memᴰ·tail}
 use native.Mathlib.Omega.{arith}
@@ -13,9 +13,9 @@ use Rattle.shape.specs.Kinds.{bound, caseValue, caseChild, childKind}
 use Rattle.numbers.specs.Numbers.{numbersOk}
 use Rattle.cases.specs.Split as Split
 use Rattle.lowering.specs.Kinds.{switchKind}
-use Rattle.lowering.specs.Pools.{Pools, emits, constOf, constAt, pushConst}
+use Rattle.lowering.specs.Pools.{Pools, emits, constOf, pushConst}
 use Rattle.lowering.specs.Out.{Rec}
-use Rattle.lowering.specs.Nodes.{Valid, Right, node-bounds, child-valid, subject-valid, guard-valid, body-valid}
+use Rattle.lowering.specs.Nodes.{Right, node-bounds, child-valid, subject-valid, guard-valid, body-valid}
 use Rattle.lowering.specs.SwitchSheet.{defaultBlock, casesOf, caseBlocks}
 use Rattle.lowering.specs.SwitchLayout.{Layout, layout}
 use Rattle.lowering.specs.SwitchCode.{defaultAt, fallbackAt, switchCode, lastEmits}
@@ -26,7 +26,7 @@ use Rattle.lowering.proofs.Whole.{contextOf, depthAt}
 use Rattle.lowering.proofs.Meets.{Meets}
 use Rattle.lowering.proofs.SwitchBlocks.{Blocks}
 use Rattle.lowering.proofs.SwitchChecked.{child-kind, case-node}
-use Rattle.lowering.proofs.SwitchTargets.{caseTarget, rangeTarget}
+use Rattle.lowering.proofs.SwitchTargets.{caseTarget}
 use Rattle.lowering.proofs.SwitchTyped.{Within, Ready, switch-ready, depths-agree, default-aim, fallback-aim, case-aim, range-aim}
 use Rattle.made.proofs.Listed.{ConstOk, TableOk, CaseOk, RangeOk, AllIn, PoolsOk, Listed}
 use Rattle.made.proofs.Gives.{GivesAll, gives-behind}

@@ -7,4 +7,5 @@ pub mod Right
 pub mod Complete
 pub mod WordLaws
 pub mod Theorem
+pub mod Accepted
 pub mod Samples
