@@ -8,4 +8,3 @@ pub mod Complete
 pub mod WordLaws
 pub mod Theorem
 pub mod Accepted
-pub mod Samples
