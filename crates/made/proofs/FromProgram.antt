@@ -138,8 +138,8 @@ module _ (s : List ℕ) (r : Program) (L : Listed s r) where
   chain-right i h =
       let c = chainOf i in
       let ok = chain-ok i h in
-      let k : chainWord w i 0 ≡ getD (rootWords (c .root)) 0 0 =
-          chain-word r noChain i 0 h (omega arith) ∙ root-first (c .root) (c .first ∷ c .steps ∷ c .operands ∷ []) in
+      let kind = root-first (c .root) (c .first ∷ c .steps ∷ c .operands ∷ []) in
+      let k : chainWord w i 0 ≡ getD (rootWords (c .root)) 0 0 = chain-word r noChain i 0 h (omega arith) ∙ kind in
       subst (λ (n : ℕ). Obeys (rulesOfChain s w n (chainWord w i 3)) w (chainsAt w + 6 * i)) (sym k)
       (row-obeys _ (chainWords c) w (chainsAt w + 6 * i)
       (λ f g. chain-word r noChain i f h (omega (arith, chain-width c)))

@@ -1,5 +1,5 @@
--- What is shown of every construct, so that the lowered program is listed right: from good pools it makes good pools, drops nothing, and its
--- instructions name entries that are there. It composes as the code does.
+-- What is shown of every construct, so that the lowered program is listed right: from good pools it makes good pools, drops nothing, and
+-- its instructions name entries that are there. It composes as the code does.
 use Prim.Native.Nat.{ℕ, _+_, _≤_, _<_}
 use mathlib.Core.Path.{_≡_, refl, sym, ap, _∙_, subst}
 use mathlib.Core.Bool as Truth
@@ -15,7 +15,6 @@ use Rattle.bytecode.specs.declared.Root.{Root}
 use Rattle.bytecode.specs.declared.Root.the-variants as Roots
 use Rattle.bytecode.specs.declared.Step.{Step}
 use Rattle.bytecode.specs.declared.Step.the-variants.{Index, Property, Method}
-use Rattle.bytecode.specs.declared.Chain as ChainRecord
 use Rattle.bytecode.specs.declared.Op.{Op}
 use Rattle.bytecode.specs.declared.Op.the-variants.{Const, Unit, Bool, LoadLocal, LoadNamed, LoadThis, Pop, Jump, JumpIfTrue, JumpIfFalse, SkipIfNotUnit, Call, CallRef, Rotate, Switch, MakeFnPtr, CallFnPtr, InterpolateStart, InterpolateAppend, InterpolateEnd, MakeArray, CheckSize, Chain, EvalAst}
 use Rattle.lowering.specs.Code.{Ins, Code, ins}
@@ -122,13 +121,12 @@ module _ (m n : ℕ) (h : m ≤ n) where
 pub chains-more : (s : List ℕ) (p q : Pools) → length (p .names) ≤ length (q .names) → p .steps ≡ q .steps
     → AllIn (ChainOk s p) (p .chains) → AllIn (ChainOk s q) (p .chains)
 chains-more s p q m e h =
-    let Inside : ChainRecord.Chain → List Step → Type 0 = λ c xs. (i : ℕ) → i < c .steps → StepIn (c .operands) (getD xs (c .first + i) noStep) in
     all-map (ChainOk s p) (ChainOk s q) (p .chains)
     (λ c k. record {
       root = root-more (length (p .names)) (length (q .names)) m s (c .root) (k .root);
       run = subst (λ (xs : List Step). c .first + c .steps ≤ length xs) e (k .run);
       few = k .few;
-      inside = subst (Inside c) e (k .inside);
+      inside = λ i b. subst (λ (xs : List Step). StepIn (c .operands) (getD xs (c .first + i) noStep)) e (k .inside i b);
     }) h
 
 -- ---- code c from pools p to pools q
@@ -146,7 +144,7 @@ pub record GivesAll (s : List ℕ) (T : ℕ) (rec : Rec) : Type 0 where
   pub gives : (j b d : ℕ) (p : Pools) → Valid s j → PoolsOk s p → GivesOut s T p (rec j b d p)
 
 -- to count instructions changes no pool
-pub good-emits : {s : List ℕ} {p : Pools} (n : ℕ) → PoolsOk s p → PoolsOk s (emits n p)
+good-emits : {s : List ℕ} {p : Pools} (n : ℕ) → PoolsOk s p → PoolsOk s (emits n p)
 unfolding emits
 good-emits {s} {p} n g = record {
   consts = g .consts;
@@ -173,7 +171,11 @@ module _ {s : List ℕ} {T : ℕ} where
   gives-behind {p} {q} {r} {c} g h =
       record { good = h .good; more = more-trans (g .more) (h .more); code = code-more s T q r (h .more) c (g .code) }
 
-  pub gives-one : {p : Pools} (i : Ins) → PoolsOk s p → OpOk (countsFor s T p) (i .op) → Gives s T p (i ∷ []) p
+  -- other code, where pools stay as they are
+  pub gives-code : {p q : Pools} {c c′ : Code} → Gives s T p c q → (CodeOk s T q c → CodeOk s T q c′) → Gives s T p c′ q
+  gives-code g f = record { good = g .good; more = g .more; code = f (g .code) }
+
+  gives-one : {p : Pools} (i : Ins) → PoolsOk s p → OpOk (countsFor s T p) (i .op) → Gives s T p (i ∷ []) p
   gives-one {p} i g h = record { good = g; more = more-refl p; code = (h, tt) }
 
   pub gives-emits : {p q : Pools} {c : Code} (n : ℕ) → Gives s T p c q → Gives s T p c (emits n q)

@@ -1,4 +1,5 @@
--- Siblings, arrays, interpolated strings, And, Or and Coalesce give good pools and instructions that name what is there, if their operands do.
+-- Siblings, arrays, interpolated strings, And, Or and Coalesce give good pools and instructions that name what is there, if their operands
+-- do.
 use Prim.Native.Nat.{ℕ, zero, suc, _+_, _-_, _≤_}
 use mathlib.Core.Path.{_≡_, refl}
 use mathlib.Core.Bool as Truth
@@ -24,7 +25,7 @@ use Rattle.lowering.specs.Coalesce.{skipped, coalesce}
 use Rattle.lowering.specs.Nodes.{Valid, Row, row-first, row-rest}
 use Rattle.lowering.proofs.LinkedArray.{array-lowers, array-stays}
 use Rattle.made.proofs.Listed.{countsFor, OpOk, AllIn, PoolsOk, CodeOk}
-use Rattle.made.proofs.Gives.{all-append, More, more-refl, more-trans, code-more, Gives, GivesOut, GivesAll, gives-none, gives-seq, gives-emits, gives-ins, gives-then}
+use Rattle.made.proofs.Gives.{all-append, More, more-refl, more-trans, code-more, GivesOut, GivesAll, gives-none, gives-seq, gives-emits, gives-ins, gives-then}
 use Rattle.made.proofs.GivesLeaf.{residual-gives}
 
 -- code of several parts, before their jumps are there
@@ -73,7 +74,8 @@ module _ (s : List ℕ) (T : ℕ) (rec : Rec) (L : GivesAll s T rec) where
       let g = L .gives j b d p (row-first r) G in
       let few : i ≤ maxElements = omega arith in
       let h = gives-ins {T = T} (ins (Ops.CheckSize i) (suc d) (position s j)) (g .good) few in
-      let rest = elements-give n (suc i) (next s j) (b + length (o .code) + 1) (suc d) (emits 1 (o .pools)) (omega arith) (row-rest r) (h .good) in
+      let b′ = b + length (o .code) + 1 in
+      let rest = elements-give n (suc i) (next s j) b′ (suc d) (emits 1 (o .pools)) (omega arith) (row-rest r) (h .good) in
       gives-seq g (gives-seq h rest)
 
   pub array-gives : (j b d : ℕ) (p : Pools) → Valid s j → Row s (count s j) (child j) → PoolsOk s p → GivesOut s T p (array s rec j b d p)
@@ -143,6 +145,6 @@ module _ (s : List ℕ) (T : ℕ) (rec : Rec) (L : GivesAll s T rec) where
       let k = skip s (count s j - 1) (child j) in
       let o = rec k e d (q .pools) in
       let end = e + length (o .code) in
-      let first : Gives s T p (skipped end d (q .parts)) (q .pools) =
-          record { good = t .good; more = t .more; code = skipped-ok s T (q .pools) end d (q .parts) (t .codes) } in
-      gives-seq first (L .gives k e d (q .pools) v (t .good))
+      gives-seq {c = skipped end d (q .parts)}
+      (record { good = t .good; more = t .more; code = skipped-ok s T (q .pools) end d (q .parts) (t .codes) })
+      (L .gives k e d (q .pools) v (t .good))

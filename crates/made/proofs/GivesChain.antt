@@ -33,7 +33,7 @@ use Rattle.lowering.specs.Steps.{Stepped, stepped, failed, indexStep, propertyS
 use Rattle.lowering.specs.Nodes.{Valid, Row}
 use Rattle.lowering.proofs.ChainPool.{chain-holds}
 use Rattle.lowering.proofs.LinkedChain.{chain-flat, chain-stays}
-use Rattle.made.proofs.Listed.{RootOk, StepOk, StepIn, AllIn, PoolsOk}
+use Rattle.made.proofs.Listed.{NameOk, RootOk, StepOk, StepIn, AllIn, PoolsOk}
 use Rattle.made.proofs.Gives.{more-trans, root-more, step-more, steps-more, Gives, GivesOut, GivesAll, gives-none, gives-seq, gives-behind, gives-ins}
 use Rattle.made.proofs.GivesPools.{name-pushed, name-there, chain-pushed}
 use Rattle.made.proofs.GivesLeaf.{slot-there, residual-gives}
@@ -77,7 +77,8 @@ abbrev WalkedOk : List ℕ → ℕ → Pools → ℕ → ℕ → Walked → Type
 WalkedOk s T p n left (walked code xs m q) = WalkGives s T p n left code xs m q
 WalkedOk s T p n left (stopped q) = Gives s T p [] q
 
-onto-ok : (s : List ℕ) (T : ℕ) (p : Pools) (n left : ℕ) (code : Code) (x : Step) (k : ℕ) (q : Pools) → StepGives s T p n code x k q → (v : Walked) → WalkedOk s T q (n + k) left v → WalkedOk s T p n (suc left) (onto code x v)
+onto-ok : (s : List ℕ) (T : ℕ) (p : Pools) (n left : ℕ) (code : Code) (x : Step) (k : ℕ) (q : Pools) → StepGives s T p n code x k q
+    → (v : Walked) → WalkedOk s T q (n + k) left v → WalkedOk s T p n (suc left) (onto code x v)
 unfolding onto
 onto-ok s T p n left code x k q g (walked rest xs m r) h = record {
   gives = gives-seq (g .gives) (h .gives);
@@ -86,13 +87,13 @@ onto-ok s T p n left code x k q g (walked rest xs m r) h = record {
   least = omega (arith, h .least);
   few = omega (arith, h .few, g .few);
 }
-onto-ok s T p n left code x k q g (stopped r) h =
-    record { good = h .good; more = more-trans (g .gives .more) (h .more); code = tt }
+onto-ok s T p n left code x k q g (stopped r) h = record { good = h .good; more = more-trans (g .gives .more) (h .more); code = tt }
 
 module _ (s : List ℕ) (T : ℕ) (rec : Rec) (L : GivesAll s T rec) where
   index-ok : (c n b d : ℕ) (p : Pools) → Valid s (operandOf s c) → PoolsOk s p → SteppedOk s T p n (indexStep s rec c n b d p)
   unfolding indexStep
-  index-ok c n b d p v G = record { gives = L .gives (operandOf s c) b d p v G; right = omega arith; inside = omega arith; few = omega arith }
+  index-ok c n b d p v G =
+      record { gives = L .gives (operandOf s c) b d p v G; right = omega arith; inside = omega arith; few = omega arith }
 
   property-ok : (c n : ℕ) (p : Pools) → StepFacts s (operandOf s c) StepRule.property → PoolsOk s p → SteppedOk s T p n (propertyStep s c p)
   unfolding propertyStep
@@ -116,7 +117,8 @@ module _ (s : List ℕ) (T : ℕ) (rec : Rec) (L : GivesAll s T rec) where
         few = omega arith;
       }
 
-  after-ok : (c n : ℕ) (p : Pools) (o : Out) → fieldA s (operandOf s c) < textCount s → count s (operandOf s c) ≤ maxArgs → GivesOut s T p o → SteppedOk s T p n (methodAfter s c (operandOf s c) n o)
+  after-ok : (c n : ℕ) (p : Pools) (o : Out) → fieldA s (operandOf s c) < textCount s → count s (operandOf s c) ≤ maxArgs → GivesOut s T p o
+      → SteppedOk s T p n (methodAfter s c (operandOf s c) n o)
   unfolding methodAfter
   after-ok c n p o f h g =
       let m = name (fieldA s (operandOf s c)) 0 in
@@ -129,19 +131,24 @@ module _ (s : List ℕ) (T : ℕ) (rec : Rec) (L : GivesAll s T rec) where
 
   method-few : (x : ℕ) → isLowerableMethod s x ≡ true → count s x ≤ maxArgs
   unfolding isLowerableMethod
-  method-few x h = leb-true (count s x) maxArgs (and-eq-true-iff (isCall (callee s x) || isCurry (callee s x) || isLowerableCall s x) (leb (count s x) maxArgs) .0 h .1)
+  method-few x h =
+      let named = isCall (callee s x) || isCurry (callee s x) || isLowerableCall s x in
+      leb-true (count s x) maxArgs (and-eq-true-iff named (leb (count s x) maxArgs) .0 h .1)
 
-  method-ok : (c n b d : ℕ) (p : Pools) → StepFacts s (operandOf s c) StepRule.method → PoolsOk s p → SteppedOk s T p n (methodStep s rec c n b d p)
+  method-ok : (c n b d : ℕ) (p : Pools) → StepFacts s (operandOf s c) StepRule.method → PoolsOk s p
+      → SteppedOk s T p n (methodStep s rec c n b d p)
   unfolding methodStep
   method-ok c n b d p f G = by (isLowerableMethod s (operandOf s c)) refl
     where
       by : (t : Truth.Bool) → isLowerableMethod s (operandOf s c) ≡ t → SteppedOk s T p n (methodStep s rec c n b d p)
       by true e =
           let x = operandOf s c in
-          rw (e, methodStep) (after-ok c n p (operands s rec (count s x) (child x) b d p) (f .0) (method-few x e) (operands-give s T rec L (count s x) (child x) b d p (f .1) G))
+          let g = operands-give s T rec L (count s x) (child x) b d p (f .1) G in
+          rw (e, methodStep) (after-ok c n p (operands s rec (count s x) (child x) b d p) (f .0) (method-few x e) g)
       by false e = rw (e, methodStep) (gives-none G)
 
-  step-ok : (c n b d : ℕ) (p : Pools) (r : StepRule) → StepFacts s (operandOf s c) r → PoolsOk s p → SteppedOk s T p n (stepBy r s rec c n b d p)
+  step-ok : (c n b d : ℕ) (p : Pools) (r : StepRule) → StepFacts s (operandOf s c) r → PoolsOk s p
+      → SteppedOk s T p n (stepBy r s rec c n b d p)
   unfolding stepBy
   step-ok c n b d p StepRule.index F G = index-ok c n b d p F G
   step-ok c n b d p StepRule.property F G = property-ok c n p F G
@@ -151,11 +158,15 @@ module _ (s : List ℕ) (T : ℕ) (rec : Rec) (L : GivesAll s T rec) where
   -- the step of a link, then the others
   go-on : (c : ℕ) (cs : List ℕ) (n b d : ℕ) (p : Pools) (t : Stepped) → SteppedOk s T p n t
       → ((k b d : ℕ) (q : Pools) → PoolsOk s q → WalkedOk s T q (n + k) (length cs) (steps s rec cs (n + k) b d q))
-      → WalkedOk s T p n (suc (length cs)) (elim t [ | stepped code x k q ↦ onto code x (steps s rec cs (n + k) (b + length code) (d + k) q) | failed q ↦ stopped q ])
-  go-on c cs n b d p (stepped code x k q) g more = onto-ok s T p n (length cs) code x k q g (steps s rec cs (n + k) (b + length code) (d + k) q) (more k (b + length code) (d + k) q (g .gives .good))
+      → WalkedOk s T p n (suc (length cs))
+      (elim t [ stepped code x k q ↦ onto code x (steps s rec cs (n + k) (b + length code) (d + k) q) | failed q ↦ stopped q ])
+  go-on c cs n b d p (stepped code x k q) g more =
+      let rest = steps s rec cs (n + k) (b + length code) (d + k) q in
+      onto-ok s T p n (length cs) code x k q g rest (more k (b + length code) (d + k) q (g .gives .good))
   go-on c cs n b d p (failed q) g more = g
 
-  steps-ok : (cs : List ℕ) (n b d : ℕ) (p : Pools) → AllIn (LinkFacts s) cs → PoolsOk s p → WalkedOk s T p n (length cs) (steps s rec cs n b d p)
+  steps-ok : (cs : List ℕ) (n b d : ℕ) (p : Pools) → AllIn (LinkFacts s) cs → PoolsOk s p
+      → WalkedOk s T p n (length cs) (steps s rec cs n b d p)
   unfolding steps
   steps-ok [] n b d p F G = record { gives = gives-none G; right = tt; inside = tt; least = omega arith; few = omega arith }
   steps-ok (c ∷ cs) n b d p F G =
@@ -178,20 +189,27 @@ links-few (suc n) s c = by (links-few n s (restOf s c)) (goesOn s c) refl
     by h false e = rw (e, links) (omega arith)
 
 module _ (s : List ℕ) (T : ℕ) (rec : Rec) (L : GivesAll s T rec) (j : ℕ) (F : ChainFacts s j) where
-  -- the root, and the pools with its name
-  root-ready : (p : Pools) → PoolsOk s p → Gives s T p [] (rootPools s (child j) p) × RootOk s (length (rootPools s (child j) p .names)) (rootOf s (child j) p)
+  -- the pools with the root's name, and the root
+  abbrev RootReady : Pools → Type 0
+  RootReady p = Gives s T p [] (rootPools s (child j) p) × RootOk s (length (rootPools s (child j) p .names)) (rootOf s (child j) p)
+
+  root-ready : (p : Pools) → PoolsOk s p → RootReady p
   unfolding rootPools rootOf variableRoot
-  root-ready p G = by (eqb (kind s (child j)) variableKind) (eqb (kind s (child j)) thisKind) (resolve s (text s (fieldA s (child j)))) refl refl refl
+  root-ready p G =
+      let x = child j in
+      by (eqb (kind s x) variableKind) (eqb (kind s x) thisKind) (resolve s (text s (fieldA s x))) refl refl refl
     where
-      by : (v t : Truth.Bool) (r : Option ℕ) → eqb (kind s (child j)) variableKind ≡ v → eqb (kind s (child j)) thisKind ≡ t → resolve s (text s (fieldA s (child j))) ≡ r → Gives s T p [] (rootPools s (child j) p) × RootOk s (length (rootPools s (child j) p .names)) (rootOf s (child j) p)
+      by : (v t : Truth.Bool) (r : Option ℕ) → eqb (kind s (child j)) variableKind ≡ v → eqb (kind s (child j)) thisKind ≡ t
+          → resolve s (text s (fieldA s (child j))) ≡ r → RootReady p
       by true t (some slot) e f g =
           let n = name (fieldA s (child j)) 0 in
-          let h = F .named (eqb-true (kind s (child j)) variableKind e) in
-          rw (e, rootPools, rootOf, g, variableRoot) (name-pushed s T p G n (h, omega arith), (slot-there s (text s (fieldA s (child j))) slot g, name-there s T p G n (h, omega arith)))
+          let ok : NameOk s n = (F .named (eqb-true (kind s (child j)) variableKind e), omega arith) in
+          let slots = slot-there s (text s (fieldA s (child j))) slot g in
+          rw (e, rootPools, rootOf, g, variableRoot) (name-pushed s T p G n ok, (slots, name-there s T p G n ok))
       by true t none e f g =
           let n = name (fieldA s (child j)) 0 in
-          let h = F .named (eqb-true (kind s (child j)) variableKind e) in
-          rw (e, rootPools, rootOf, g, variableRoot) (name-pushed s T p G n (h, omega arith), name-there s T p G n (h, omega arith))
+          let ok : NameOk s n = (F .named (eqb-true (kind s (child j)) variableKind e), omega arith) in
+          rw (e, rootPools, rootOf, g, variableRoot) (name-pushed s T p G n ok, name-there s T p G n ok)
       by false true r e f g = rw (e, f, rootPools, rootOf) (gives-none G, tt)
       by false false r e f g = rw (e, f, rootPools, rootOf) (gives-none G, tt)
 
@@ -202,7 +220,9 @@ module _ (s : List ℕ) (T : ℕ) (rec : Rec) (L : GivesAll s T rec) (j : ℕ) (
   root-code (Roots.This pos) b d p G = gives-none G
   root-code Roots.Temporary b d p G = L .gives (child j) b d p (F .base) G
 
-  close-gives : (root : Root) (b d left : ℕ) (p q : Pools) (code : Code) (xs : List Step) (n : ℕ) → left ≤ 64 → RootOk s (length (p .names)) root → WalkGives s T p 0 left code xs n q → GivesOut s T p (closeChain s rec root j b d code xs n q)
+  -- at most 255 operands a link fit 16 bits
+  close-gives : (root : Root) (b d left : ℕ) (p q : Pools) (code : Code) (xs : List Step) (n : ℕ) → left ≤ maxDepth
+      → RootOk s (length (p .names)) root → WalkGives s T p 0 left code xs n q → GivesOut s T p (closeChain s rec root j b d code xs n q)
   unfolding closeChain
   close-gives root b d left p q code xs n few R W =
       let o = rootCode rec root (child j) (b + length code) (d + n) q in
@@ -214,12 +234,12 @@ module _ (s : List ℕ) (T : ℕ) (rec : Rec) (L : GivesAll s T rec) (j : ℕ) (
       let last = ins (Ops.Chain (chainAt root xs n (o .pools))) (d + n + onStack root) (position s j) in
       gives-seq (gives-seq (W .gives) g) (gives-seq c (gives-ins last (c .good) (chain-holds root xs n (o .pools) .within)))
 
-  chainOf-gives : (root : Root) (b d left : ℕ) (p : Pools) (v : Walked) → left ≤ 64 → RootOk s (length (p .names)) root → WalkedOk s T p 0 left v → GivesOut s T p (chainOf s rec root j b d v)
+  chainOf-gives : (root : Root) (b d left : ℕ) (p : Pools) (v : Walked) → left ≤ maxDepth → RootOk s (length (p .names)) root
+      → WalkedOk s T p 0 left v → GivesOut s T p (chainOf s rec root j b d v)
   unfolding chainOf
   chainOf-gives root b d left p (walked code xs n q) few R W = close-gives root b d left p q code xs n few R W
   chainOf-gives root b d left p (stopped q) few R W =
-      let g = residual-gives s T q (W .good) j d (F .valid) in
-      record { good = g .good; more = more-trans (W .more) (g .more); code = g .code }
+      gives-seq W (residual-gives s T q (W .good) j d (F .valid))
 
   pub chain-gives : (b d : ℕ) (p : Pools) → PoolsOk s p → GivesOut s T p (chain s rec j b d p)
   chain-gives b d p G = by (flattens s (links maxDepth s j)) refl
@@ -229,6 +249,8 @@ module _ (s : List ℕ) (T : ℕ) (rec : Rec) (L : GivesAll s T rec) (j : ℕ) (
           let ready = root-ready p G in
           let q = rootPools s (child j) p in
           let ls = links maxDepth s j in
-          let g = chainOf-gives (rootOf s (child j) p) b d (length ls) q (steps s rec ls 0 b d q) (links-few maxDepth s j) (ready .1) (steps-ok s T rec L ls 0 b d q (F .links) (ready .0 .good)) in
-          rw (chain-flat s rec j b d p e) (record { good = g .good; more = more-trans (ready .0 .more) (g .more); code = g .code })
+          let walk = steps-ok s T rec L ls 0 b d q (F .links) (ready .0 .good) in
+          rw (chain-flat s rec j b d p e)
+          (gives-seq (ready .0)
+          (chainOf-gives (rootOf s (child j) p) b d (length ls) q (steps s rec ls 0 b d q) (links-few maxDepth s j) (ready .1) walk))
       by false e = rw (chain-stays s rec j b d p e) (residual-gives s T p G j d (F .valid))

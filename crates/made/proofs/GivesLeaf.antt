@@ -1,5 +1,5 @@
--- Nodes that become one instruction, and residuals: each gives good pools and an instruction that names what is there. What a node has to be
--- is taken as a hypothesis; it follows from the check of the sheet.
+-- Nodes that become one instruction, and residuals: each gives good pools and an instruction that names what is there. What a node has to
+-- be is taken as a hypothesis; it follows from the check of the sheet.
 use Prim.Native.Nat.{ℕ, zero, suc, _≤_, _<_}
 use mathlib.Core.Path.{_≡_, refl}
 use mathlib.Core.Bool as Truth
@@ -20,7 +20,7 @@ use Rattle.lowering.specs.Slots.{resolveBelow, resolve}
 use Rattle.lowering.specs.Leaf.{boolean, unit, constant, loadNamed, variable, this}
 use Rattle.lowering.specs.Nodes.{Valid}
 use Rattle.lowering.proofs.LinkedLeaf.{variable-local, variable-named}
-use Rattle.made.proofs.Listed.{ConstOk, PoolsOk}
+use Rattle.made.proofs.Listed.{ConstOk, NameOk, PoolsOk}
 use Rattle.made.proofs.Gives.{GivesOut, gives-none, gives-at}
 use Rattle.made.proofs.GivesPools.{const-pushed, const-there, name-pushed, name-there, residual-pushed}
 
@@ -48,7 +48,8 @@ module _ (s : List ℕ) (T : ℕ) (p : Pools) (G : PoolsOk s p) where
   pub residual-gives : (j d : ℕ) → Valid s j → GivesOut s T p (residualExpr j d p)
   unfolding residualExpr pushResidual
   residual-gives j d h =
-      gives-at (Ops.EvalAst (length (p .residuals))) noPos d (residual-pushed s T p G j h) (omega (arith, length-append (p .residuals) (j ∷ [])))
+      let more = length-append (p .residuals) (j ∷ []) in
+      gives-at (Ops.EvalAst (length (p .residuals))) noPos d (residual-pushed s T p G j h) (omega arith)
 
   pub boolean-gives : (j d : ℕ) → fieldA s j ≤ 1 → GivesOut s T p (boolean s j d p)
   unfolding boolean
@@ -72,12 +73,14 @@ module _ (s : List ℕ) (T : ℕ) (p : Pools) (G : PoolsOk s p) where
   unfolding loadNamed
   named-gives j d h =
       let n = name (fieldA s j) 0 in
-      gives-at (Ops.LoadNamed (nameAt s n p)) (position s j) d (name-pushed s T p G n (h, omega arith)) (name-there s T p G n (h, omega arith))
+      let ok : NameOk s n = (h, omega arith) in
+      gives-at (Ops.LoadNamed (nameAt s n p)) (position s j) d (name-pushed s T p G n ok) (name-there s T p G n ok)
 
   pub variable-gives : (j d : ℕ) → fieldA s j < textCount s → GivesOut s T p (variable s j d p)
   variable-gives j d h = by (resolve s (text s (fieldA s j))) refl
     where
       by : (r : Option ℕ) → resolve s (text s (fieldA s j)) ≡ r → GivesOut s T p (variable s j d p)
       by (some slot) e =
-          rw (variable-local s j d p slot e) (gives-at (Ops.LoadLocal slot) noPos d (gives-none G) (slot-there s (text s (fieldA s j)) slot e))
+          let there = slot-there s (text s (fieldA s j)) slot e in
+          rw (variable-local s j d p slot e) (gives-at (Ops.LoadLocal slot) noPos d (gives-none G) there)
       by none e = rw (variable-named s j d p e) (named-gives j d h)

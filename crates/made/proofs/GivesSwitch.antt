@@ -22,10 +22,11 @@ use Rattle.lowering.specs.SwitchLayout.{layCases, caseArmsOf, layRanges, layout
 use Rattle.lowering.specs.SwitchCode.{overSubject, overValue, defaultAt, endAt, fallbackAt, triesCode, endCode, entryCode, armsCode, rangesCode, bodiesCode, bodiesFall, defaultCode, lastEmits, switchCode}
 use Rattle.lowering.specs.SwitchTables.{casePools, rangeTable}
 use Rattle.lowering.proofs.Lowered.{tries-never, tries-always, tries-tried, bodies-lay, bodies-skip, drop-here, drop-later}
+use Rattle.lowering.proofs.SwitchPlaces.{endingCode}
 use Rattle.lowering.proofs.SwitchEntries.{distinct-only}
 use Rattle.lowering.proofs.SwitchBlocks.{Blocks, split-blocks}
 use Rattle.made.proofs.Listed.{countsFor, OpOk, ConstOk, PoolsOk, CodeOk}
-use Rattle.made.proofs.Gives.{all-append, all-left, all-right, more-refl, Gives, GivesAll, gives-none, gives-seq, gives-behind, gives-emits, gives-ins}
+use Rattle.made.proofs.Gives.{all-append, all-left, all-right, Gives, GivesAll, gives-none, gives-seq, gives-behind, gives-code, gives-emits, gives-ins}
 use Rattle.made.proofs.GivesPools.{const-pushed}
 use Rattle.made.proofs.GivesExpression.{no-pools}
 
@@ -35,64 +36,64 @@ module _ (s : List ℕ) (T : ℕ) (q : Pools) where
   abbrev Right : Ins → Type 0
   Right i = OpOk (countsFor s T q) (i .op)
 
-  end-ok : (bodies : List Body) (fallback : ℕ) (e : End) → CodeOk s T q (endCode bodies fallback e)
-  unfolding endCode
-  end-ok bodies fallback (taken k) = (tt, tt)
-  end-ok bodies fallback declined = (tt, tt)
-  end-ok bodies fallback idle = tt
+  module _ (bodies : List Body) (fallback : ℕ) where
+    end-ok : (e : End) → CodeOk s T q (endCode bodies fallback e)
+    unfolding endCode
+    end-ok (taken k) = (tt, tt)
+    end-ok declined = (tt, tt)
+    end-ok idle = tt
 
-  drop-entry-ok : (bodies : List Body) (fallback : ℕ) (e : Entry) → CodeOk s T q (entryCode bodies fallback e)
-      → CodeOk s T q (entryCode bodies fallback (dropEntry e))
-  unfolding entryCode dropEntry
-  drop-entry-ok bodies fallback (toBody k) h = h
-  drop-entry-ok bodies fallback (toChain b ts e) h =
-      let tries = triesCode bodies ts in
-      all-append Right tries (endCode bodies fallback (dropEnd e)) (all-left Right tries (endCode bodies fallback e) h) (end-ok bodies fallback (dropEnd e))
-  drop-entry-ok bodies fallback toFallback h = h
+    drop-entry-ok : (e : Entry) → CodeOk s T q (entryCode bodies fallback e) → CodeOk s T q (entryCode bodies fallback (dropEntry e))
+    unfolding entryCode dropEntry
+    drop-entry-ok (toBody k) h = h
+    drop-entry-ok (toChain b ts e) h =
+        let tries = triesCode bodies ts in
+        let right = all-left Right tries (endCode bodies fallback e) h in
+        all-append Right tries (endCode bodies fallback (dropEnd e)) right (end-ok (dropEnd e))
+    drop-entry-ok toFallback h = h
 
-  drop-ok : (bodies : List Body) (fallback : ℕ) (arms : List Arm) → CodeOk s T q (armsCode bodies fallback arms)
-      → CodeOk s T q (armsCode bodies fallback (dropIdleJump arms))
-  unfolding armsCode dropIdleJump
-  drop-ok bodies fallback [] h = h
-  drop-ok bodies fallback (a ∷ arms) h =
-      let entry = entryCode bodies fallback (a .entry) in
-      let others = armsCode bodies fallback arms in
-      let rest = all-right Right entry others h in
-      by (eqb (armsExtent arms) 0) refl (all-left Right entry others h) rest (drop-ok bodies fallback arms rest)
-    where
-      by : (t : Truth.Bool) → eqb (armsExtent arms) 0 ≡ t → CodeOk s T q (entryCode bodies fallback (a .entry))
-          → CodeOk s T q (armsCode bodies fallback arms) → CodeOk s T q (armsCode bodies fallback (dropIdleJump arms))
-          → CodeOk s T q (armsCode bodies fallback (dropIdleJump (a ∷ arms)))
-      by true e first rest f =
-          let dropped = entryCode bodies fallback (dropEntry (a .entry)) in
-          rw (drop-here a arms e)
-          (all-append Right dropped (armsCode bodies fallback arms) (drop-entry-ok bodies fallback (a .entry) first) rest)
-      by false e first rest f =
-          rw (drop-later a arms e)
-          (all-append Right (entryCode bodies fallback (a .entry)) (armsCode bodies fallback (dropIdleJump arms)) first f)
+    abbrev ArmsOk : List Arm → Type 0
+    ArmsOk arms = CodeOk s T q (armsCode bodies fallback arms)
 
-  case-arms-ok : (bodies : List Body) (fallback : ℕ) (es : List Split.Entry) (arms : List Arm) → CodeOk s T q (armsCode bodies fallback arms)
-      → CodeOk s T q (armsCode bodies fallback (caseArmsOf es arms))
-  unfolding caseArmsOf
-  case-arms-ok bodies fallback [] arms h = h
-  case-arms-ok bodies fallback (e ∷ es) arms h = drop-ok bodies fallback arms h
+    drop-ok : (arms : List Arm) → ArmsOk arms → ArmsOk (dropIdleJump arms)
+    unfolding armsCode dropIdleJump
+    drop-ok [] h = h
+    drop-ok (a ∷ arms) h =
+        let entry = entryCode bodies fallback (a .entry) in
+        let others = armsCode bodies fallback arms in
+        let rest = all-right Right entry others h in
+        by (eqb (armsExtent arms) 0) refl (all-left Right entry others h) rest (drop-ok arms rest)
+      where
+        by : (t : Truth.Bool) → eqb (armsExtent arms) 0 ≡ t → CodeOk s T q (entryCode bodies fallback (a .entry)) → ArmsOk arms
+            → ArmsOk (dropIdleJump arms) → ArmsOk (dropIdleJump (a ∷ arms))
+        by true e first rest f =
+            let dropped = entryCode bodies fallback (dropEntry (a .entry)) in
+            rw (drop-here a arms e) (all-append Right dropped (armsCode bodies fallback arms) (drop-entry-ok (a .entry) first) rest)
+        by false e first rest f =
+            let entry = entryCode bodies fallback (a .entry) in
+            rw (drop-later a arms e) (all-append Right entry (armsCode bodies fallback (dropIdleJump arms)) first f)
+
+    case-arms-ok : (es : List Split.Entry) (arms : List Arm) → ArmsOk arms → ArmsOk (caseArmsOf es arms)
+    unfolding caseArmsOf
+    case-arms-ok [] arms h = h
+    case-arms-ok (e ∷ es) arms h = drop-ok arms h
 
   fall-ok : (end : ℕ) (xs : List Body) → CodeOk s T q (bodiesCode end xs) → CodeOk s T q (bodiesFall end xs)
   unfolding bodiesCode bodiesFall
   fall-ok end [] h = h
   fall-ok end (x ∷ []) h = all-left Right (x .code) (ins (Ops.Jump end) overValue noPos ∷ []) h
   fall-ok end (x ∷ y ∷ xs) h =
-      let rest = ins (Ops.Jump end) overValue noPos ∷ bodiesCode end (y ∷ xs) in
+      let jump = ins (Ops.Jump end) overValue noPos in
+      let rest = jump ∷ bodiesCode end (y ∷ xs) in
       let behind = all-right Right (x .code) rest h in
-      all-append Right (x .code) (ins (Ops.Jump end) overValue noPos ∷ bodiesFall end (y ∷ xs)) (all-left Right (x .code) rest h)
-      (tt, fall-ok end (y ∷ xs) (behind .1))
+      all-append Right (x .code) (jump ∷ bodiesFall end (y ∷ xs)) (all-left Right (x .code) rest h) (tt, fall-ok end (y ∷ xs) (behind .1))
 
   default-ok : (def end : ℕ) (xs : List Body) → CodeOk s T q (bodiesCode end xs) → CodeOk s T q (defaultCode def end xs)
   unfolding defaultCode
   default-ok zero end xs h = all-append Right (bodiesCode end xs) (ins Ops.Unit overSubject noPos ∷ []) h (tt, tt)
   default-ok (suc k) end xs h = fall-ok end xs h
 
--- ---- chains and bodies, for any targets
+-- ---- the blocks whose guards are lowered
 
 -- every block of the lists exists
 abbrev Known : List ℕ → List (List ℕ) → Type 0
@@ -111,65 +112,68 @@ range-lists s B l m k n =
     let row = Memᴰ·of-map blocksIn (split (rangesOf s)) (distinct-only (map blocksIn (split (rangesOf s))) l m) in
     split-blocks (λ (i : ℕ). i < blockCount s) (rangesOf s) (B .ranges-exist) (row .0) (row .1) k (subst (List·Memᴰ k) (sym (row .2)) n)
 
-module _ (s : List ℕ) (T : ℕ) (rec : Rec) (L : GivesAll s T rec) (guards : (k : ℕ) → k < blockCount s → Valid s (guardOf s k)) where
-  tries-give : (bodies : List Body) (ks : List ℕ) (b : ℕ) (p : Pools) → ((k : ℕ) → List·Memᴰ k ks → k < blockCount s) → PoolsOk s p
-      → Gives s T p (triesCode bodies (triesOf s rec ks b p .tries)) (triesOf s rec ks b p .pools)
+-- ---- chains and bodies, for any targets
+
+module _ (s : List ℕ) (T : ℕ) (rec : Rec) (L : GivesAll s T rec) (guards : (k : ℕ) → k < blockCount s → Valid s (guardOf s k))
+    (bodies : List Body) (fallback : ℕ) where
+  abbrev TriesGive : List ℕ → ℕ → Pools → Type 0
+  TriesGive ks b p = Gives s T p (triesCode bodies (triesOf s rec ks b p .tries)) (triesOf s rec ks b p .pools)
+
+  tries-give : (ks : List ℕ) (b : ℕ) (p : Pools) → ((k : ℕ) → List·Memᴰ k ks → k < blockCount s) → PoolsOk s p → TriesGive ks b p
   unfolding triesOf triesCode tryAt
-  tries-give bodies [] b p v G = gives-none G
-  tries-give bodies (k ∷ ks) b p v G =
-      by (guardKind s (guardOf s k)) refl (λ b′ p′. tries-give bodies ks b′ p′ (λ i m. v i (List·Memᴰ·tail m)))
+  tries-give [] b p v G = gives-none G
+  tries-give (k ∷ ks) b p v G =
+      by (guardKind s (guardOf s k)) refl (λ b′ p′. tries-give ks b′ p′ (λ i m. v i (List·Memᴰ·tail m)))
     where
-      by : (g : Guard) → guardKind s (guardOf s k) ≡ g
-          → ((b′ : ℕ) (p′ : Pools) → PoolsOk s p′ → Gives s T p′ (triesCode bodies (triesOf s rec ks b′ p′ .tries)) (triesOf s rec ks b′ p′ .pools))
-          → Gives s T p (triesCode bodies (triesOf s rec (k ∷ ks) b p .tries)) (triesOf s rec (k ∷ ks) b p .pools)
+      by : (g : Guard) → guardKind s (guardOf s k) ≡ g → ((b′ : ℕ) (p′ : Pools) → PoolsOk s p′ → TriesGive ks b′ p′)
+          → TriesGive (k ∷ ks) b p
       by never h f = rw (tries-never s rec k ks b p h) (f b p G)
       by always h f = rw (tries-always s rec k ks b p h) (gives-none G)
       by tried h f =
           let g = L .gives (guardOf s k) b 1 p (guards k (v k (List·Memᴰ·head refl))) G in
-          let pos = position s (guardOf s k) in
-          let jump = gives-ins {T = T} (ins (Ops.JumpIfTrue (bodyAt k bodies)) overValue pos) (g .good) tt in
+          let jump = gives-ins {T = T} (ins (Ops.JumpIfTrue (bodyAt k bodies)) overValue (position s (guardOf s k))) (g .good) tt in
           rw (tries-tried s rec k ks b p h) (gives-seq g (gives-seq jump (f _ _ (jump .good))))
 
-  entry-gives : (bodies : List Body) (fallback b : ℕ) (p q : Pools) (ts : List Try) (e : End) → Gives s T p (triesCode bodies ts) q
+  entry-gives : (b : ℕ) (p q : Pools) (ts : List Try) (e : End) → Gives s T p (triesCode bodies ts) q
       → Gives s T p (entryCode bodies fallback (entryFrom b ts e)) (emits (endEmits (entryFrom b ts e)) q)
   unfolding entryFrom entryCode endEmits triesCode
-  entry-gives bodies fallback b p q [] (taken k) g = gives-emits 0 g
-  entry-gives bodies fallback b p q [] declined g = gives-emits 0 g
-  entry-gives bodies fallback b p q [] idle g = gives-emits 0 g
-  entry-gives bodies fallback b p q (t ∷ ts) e g =
-      gives-emits 1 (gives-seq g (record { good = g .good; more = more-refl q; code = end-ok s T q bodies fallback e }))
+  entry-gives b p q [] (taken k) g = gives-emits 0 g
+  entry-gives b p q [] declined g = gives-emits 0 g
+  entry-gives b p q [] idle g = gives-emits 0 g
+  entry-gives b p q (t ∷ ts) e g =
+      gives-emits 1 (gives-seq g (gives-code (gives-none (g .good)) (λ z. end-ok s T q bodies fallback e)))
 
-  arms-give : (bodies : List Body) (fallback : ℕ) (ls : List (List ℕ)) (b : ℕ) (p : Pools) → Known s ls → PoolsOk s p
+  arms-give : (ls : List (List ℕ)) (b : ℕ) (p : Pools) → Known s ls → PoolsOk s p
       → Gives s T p (armsCode bodies fallback (armChains s rec ls b p .arms)) (armChains s rec ls b p .pools)
   unfolding armChains armsCode
-  arms-give bodies fallback [] b p v G = gives-none G
-  arms-give bodies fallback (l ∷ ls) b p v G =
+  arms-give [] b p v G = gives-none G
+  arms-give (l ∷ ls) b p v G =
       let t = triesOf s rec l b p in
-      let g = tries-give bodies l b p (v l (List·Memᴰ·head refl)) G in
-      let h = entry-gives bodies fallback b p (t .pools) (t .tries) (t .end) g in
-      gives-seq h (arms-give bodies fallback ls _ _ (λ x m. v x (List·Memᴰ·tail m)) (h .good))
+      let h = entry-gives b p (t .pools) (t .tries) (t .end) (tries-give l b p (v l (List·Memᴰ·head refl)) G) in
+      gives-seq h (arms-give ls _ _ (λ x m. v x (List·Memᴰ·tail m)) (h .good))
 
   -- the second Switch and the chains of the ranges
-  ranges-give : (bodies : List Body) (fallback : ℕ) (es : List Split.Entry) (b : ℕ) (p : Pools) → Known s (distinct (map blocksIn es))
+  ranges-give : (es : List Split.Entry) (b : ℕ) (p : Pools) → Known s (distinct (map blocksIn es))
       → 1 + length (rangeTable fallback es) ≤ T → PoolsOk s p
       → Gives s T p (rangesCode bodies fallback es (layRanges s rec es b p .arms)) (layRanges s rec es b p .pools)
   unfolding layRanges rangesCode rangeTable
-  ranges-give bodies fallback [] b p v two G = gives-none G
-  ranges-give bodies fallback (e ∷ es) b p v two G =
+  ranges-give [] b p v two G = gives-none G
+  ranges-give (e ∷ es) b p v two G =
       let switch = gives-ins {T = T} (ins (Ops.Switch 1) overSubject noPos) G (omega arith) in
-      gives-seq switch (arms-give bodies fallback (distinct (map blocksIn (e ∷ es))) (b + 1) (emits 1 p) v (switch .good))
+      gives-seq switch (arms-give (distinct (map blocksIn (e ∷ es))) (b + 1) (emits 1 p) v (switch .good))
 
-  bodies-give : (end : ℕ) (arms : List Arm) (def n k b : ℕ) (p : Pools) → ((i : ℕ) → i < n + k → Valid s (bodyOf s i)) → PoolsOk s p
-      → Gives s T p (bodiesCode end (layBodies s rec arms def n k b p .bodies)) (layBodies s rec arms def n k b p .pools)
+module _ (s : List ℕ) (T : ℕ) (rec : Rec) (L : GivesAll s T rec) (arms : List Arm) (def end : ℕ) where
+  abbrev BodiesGive : ℕ → ℕ → ℕ → Pools → Type 0
+  BodiesGive n k b p = Gives s T p (bodiesCode end (layBodies s rec arms def n k b p .bodies)) (layBodies s rec arms def n k b p .pools)
+
+  bodies-give : (n k b : ℕ) (p : Pools) → ((i : ℕ) → i < n + k → Valid s (bodyOf s i)) → PoolsOk s p → BodiesGive n k b p
   unfolding layBodies bodiesCode
-  bodies-give end arms def zero k b p v G = gives-none G
-  bodies-give end arms def (suc n) k b p v G =
-      by (eqb def (suc k) || wanted k arms) refl (λ b′ p′. bodies-give end arms def n (suc k) b′ p′ (λ i h. v i (omega arith)))
+  bodies-give zero k b p v G = gives-none G
+  bodies-give (suc n) k b p v G =
+      by (eqb def (suc k) || wanted k arms) refl (λ b′ p′. bodies-give n (suc k) b′ p′ (λ i h. v i (omega arith)))
     where
-      by : (t : Truth.Bool) → (eqb def (suc k) || wanted k arms) ≡ t
-          → ((b′ : ℕ) (p′ : Pools) → PoolsOk s p′
-          → Gives s T p′ (bodiesCode end (layBodies s rec arms def n (suc k) b′ p′ .bodies)) (layBodies s rec arms def n (suc k) b′ p′ .pools))
-          → Gives s T p (bodiesCode end (layBodies s rec arms def (suc n) k b p .bodies)) (layBodies s rec arms def (suc n) k b p .pools)
+      by : (t : Truth.Bool) → (eqb def (suc k) || wanted k arms) ≡ t → ((b′ : ℕ) (p′ : Pools) → PoolsOk s p′ → BodiesGive n (suc k) b′ p′)
+          → BodiesGive (suc n) k b p
       by true h f =
           let g = L .gives (bodyOf s k) b 1 p (v k (omega arith)) G in
           let jump = gives-ins {T = T} (ins (Ops.Jump end) overValue noPos) (g .good) tt in
@@ -194,22 +198,21 @@ module _ (s : List ℕ) (T : ℕ) (rec : Rec) (L : GivesAll s T rec) (B : Blocks
       let end = endAt def l in
       let g₁ = L .gives subject 0 0 noPools sub (no-pools s) in
       let g₂ = gives-ins {T = T} (ins (Ops.Switch 0) overSubject noPos) (g₁ .good) (omega arith) in
-      let g₃ = arms-give s T rec L guards (l .bodies) fb _ (length (o .code) + 1) (emits 1 (o .pools)) (case-lists s B) (g₂ .good) in
-      let g₃′ : Gives s T (emits 1 (o .pools)) (armsCode (l .bodies) fb (l .caseArms)) (c .pools) =
-          record { good = g₃ .good; more = g₃ .more; code = case-arms-ok s T (c .pools) (l .bodies) fb es (c .arms) (g₃ .code) } in
+      let chains = arms-give s T rec L guards (l .bodies) fb _ (length (o .code) + 1) (emits 1 (o .pools)) (case-lists s B) (g₂ .good) in
+      let cases = armsCode (l .bodies) fb (l .caseArms) in
+      let g₃ = gives-code {c′ = cases} chains (case-arms-ok s T (c .pools) (l .bodies) fb es (c .arms)) in
       let g₄ = ranges-give s T rec L guards (l .bodies) default es (l .dispatch) (c .pools) (range-lists s B) two (g₃ .good) in
-      let g₅ = bodies-give s T rec L guards end (l .caseArms ++ r .arms) (defaultBlock s) (blockCount s) 0 (l .bodiesPlace) (r .pools)
-          (λ i h. bodies i (omega arith)) (g₄ .good) in
-      let g₅′ : Gives s T (r .pools) (defaultCode def end (l .bodies)) (l .pools) =
-          record { good = g₅ .good; more = g₅ .more; code = default-ok s T (l .pools) def end (l .bodies) (g₅ .code) } in
-      let g₆ : Gives s T (l .pools) (ins (Ops.Rotate 1) overValue noPos ∷ ins Ops.Pop overValue noPos ∷ []) (l .pools) =
-          record { good = g₅ .good; more = more-refl (l .pools); code = (omega arith, (tt, tt)) } in
-      gives-emits (lastEmits def) (gives-seq (gives-seq (gives-seq (gives-seq (gives-seq g₁ g₂) g₃′) g₄) g₅′) g₆)
+      let arms = l .caseArms ++ r .arms in
+      let valid : (i : ℕ) → i < blockCount s + 0 → Valid s (bodyOf s i) = λ i h. bodies i (omega arith) in
+      let laid = bodies-give s T rec L arms (defaultBlock s) end (blockCount s) 0 (l .bodiesPlace) (r .pools) valid (g₄ .good) in
+      let g₅ = gives-code {c′ = defaultCode def end (l .bodies)} laid (default-ok s T (l .pools) def end (l .bodies)) in
+      let g₆ = gives-code {T = T} {c′ = endingCode} (gives-none (laid .good)) (λ z. (omega arith, (tt, tt))) in
+      gives-emits (lastEmits def) (gives-seq (gives-seq (gives-seq (gives-seq (gives-seq g₁ g₂) g₃) g₄) g₅) g₆)
 
 -- ---- the constants of the Cases
 
-pub case-pools-give : (s : List ℕ) (T : ℕ) (cs : List ℕ) (p : Pools) → ((c : ℕ) → List·Memᴰ c cs → ConstOk s (constOf s (child c))) → PoolsOk s p
-    → Gives s T p [] (casePools s cs p)
+pub case-pools-give : (s : List ℕ) (T : ℕ) (cs : List ℕ) (p : Pools) → ((c : ℕ) → List·Memᴰ c cs → ConstOk s (constOf s (child c)))
+    → PoolsOk s p → Gives s T p [] (casePools s cs p)
 unfolding casePools
 case-pools-give s T [] p v G = gives-none G
 case-pools-give s T (c ∷ cs) p v G =

@@ -111,11 +111,12 @@ op-row s w (JumpIfTrue t) h = alone 9 t (omega arith) (omega arith) tt
 op-row s w (JumpIfFalse t) h = alone 10 t (omega arith) (omega arith) tt
 op-row s w (SkipIfNotUnit t) h = alone 11 t (omega arith) (omega arith) tt
 op-row s w (Call i argc op capture) h =
-    row-more (kind 12 (omega arith) (omega arith))
-    (row-more (h .0) (row-more (fits-packed 0 2 argc capture (omega arith) (h .1) (omega (arith, h .2))) (row-more (h .3) (row-nil []))))
+    let b = fits-packed 0 2 argc capture (omega arith) (h .1) (omega (arith, h .2)) in
+    row-more (kind 12 (omega arith) (omega arith)) (row-more (h .0) (row-more b (row-more (h .3) (row-nil []))))
 op-row s w (CallRef i argc r) h =
+    let b = fits-packed 1 3 argc (receiverKind r) (h .1) (h .2) (omega (arith, receiver-small r)) in
     row-more (kind 13 (omega arith) (omega arith))
-    (row-more (h .0) (row-more (fits-packed 1 3 argc (receiverKind r) (h .1) (h .2) (omega (arith, receiver-small r))) (row-more (receiver-fits s w argc r (h .2) (h .3)) (row-nil []))))
+    (row-more (h .0) (row-more b (row-more (receiver-fits s w argc r (h .2) (h .3)) (row-nil []))))
 op-row s w (Rotate n) h = alone 14 n (omega arith) (omega arith) h
 op-row s w (Switch i) h = alone 15 i (omega arith) (omega arith) h
 op-row s w MakeFnPtr h = alone 16 0 (omega arith) (omega arith) refl

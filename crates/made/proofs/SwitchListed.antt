@@ -13,6 +13,7 @@ use Rattle.shape.specs.Kinds.{bound, caseValue, caseChild, childKind}
 use Rattle.numbers.specs.Numbers.{numbersOk}
 use Rattle.cases.specs.Split as Split
 use Rattle.lowering.specs.Kinds.{switchKind}
+use Rattle.lowering.specs.Code.{Code}
 use Rattle.lowering.specs.Pools.{Pools, emits, constOf, pushConst}
 use Rattle.lowering.specs.Out.{Rec}
 use Rattle.lowering.specs.Nodes.{Right, node-bounds, child-valid, subject-valid, guard-valid, body-valid}
@@ -61,7 +62,8 @@ case-value s C M e c m =
 
 -- ---- rows
 
-case-rows-ok : (s : List ℕ) (l : Layout) (fallback N : ℕ) → ((c : ℕ) → target (l .bodies) fallback (entryOf (caseBlocks s c) (l .caseArms)) ≤ N)
+case-rows-ok : (s : List ℕ) (l : Layout) (fallback N : ℕ)
+    → ((c : ℕ) → target (l .bodies) fallback (entryOf (caseBlocks s c) (l .caseArms)) ≤ N)
     → (cs : List ℕ) (p : Pools) → ((c : ℕ) → List·Memᴰ c cs → ConstOk s (constOf s (child c))) → PoolsOk s p
     → AllIn (CaseOk N (length (casePools s cs p .consts))) (caseRows s l fallback cs p)
 unfolding caseRows casePools
@@ -80,7 +82,8 @@ flag-small : (b : Bool) → oneIf b ≤ 1
 flag-small true = omega arith
 flag-small false = omega arith
 
-range-rows-ok : (l : Layout) (fallback N : ℕ) → ((e : Split.Entry) → target (l .bodies) fallback (entryOf (e .blocks) (l .rangeArms)) ≤ N)
+range-rows-ok : (l : Layout) (fallback N : ℕ)
+    → ((e : Split.Entry) → target (l .bodies) fallback (entryOf (e .blocks) (l .rangeArms)) ≤ N)
     → (es : List Split.Entry) → AllIn (RangeOk N) (rangeRows l fallback es)
 unfolding rangeRows
 range-rows-ok l fallback N to [] = tt
@@ -97,7 +100,7 @@ range-table-ok fallback N h (e ∷ es) = ((omega arith, h), tt)
 abbrev pub tablesOf : List ℕ → Rec → ℕ
 tablesOf s rec = length (switch s rec .switches)
 
-module _ (s : List ℕ) (C : Right s) (M : numbersOk s ≡ true) (e : kind s 0 ≡ switchKind) (B : Blocks s) (rec : Rec) (W : Meets rec)
+module _ (s : List ℕ) (C : Right s) (M : numbersOk s ≡ true) (e : kind s 0 ≡ switchKind) (B : Blocks s) (rec : Rec) (meets : Meets rec)
     (L : GivesAll s (tablesOf s rec) rec) where
   abbrev l : Layout
   l = layout s rec
@@ -105,33 +108,34 @@ module _ (s : List ℕ) (C : Right s) (M : numbersOk s ≡ true) (e : kind s 0 �
   abbrev def : ℕ
   def = defaultBlock s
 
-  abbrev code-length : ℕ
-  code-length = length (switchCode def l)
+  abbrev code : Code
+  code = switchCode def l
 
   abbrev X : Context
   X = contextOf (switch s rec)
 
+  -- targets are places of the code, or its end
   ready : Ready s rec def X l
-  ready = switch-ready s rec W B
+  ready = switch-ready s rec meets B
 
-  inside : Within (switchCode def l) (depthAt (switchCode def l)) code-length
-  inside = (depths-agree (switchCode def l), omega arith)
+  inside : Within code (depthAt code) (length code)
+  inside = (depths-agree code, omega arith)
 
-  to-default : defaultAt def l ≤ code-length
-  to-default = default-aim s rec W def X l ready (depthAt (switchCode def l)) code-length inside .1
+  to-default : defaultAt def l ≤ length code
+  to-default = default-aim s rec meets def X l ready (depthAt code) (length code) inside .1
 
-  to-fallback : fallbackAt def (l .splits) l ≤ code-length
-  to-fallback = fallback-aim s rec W def X l ready (depthAt (switchCode def l)) code-length inside .1
+  to-fallback : fallbackAt def (l .splits) l ≤ length code
+  to-fallback = fallback-aim s rec meets def X l ready (depthAt code) (length code) inside .1
 
-  to-case : (c : ℕ) → caseTarget s def l c ≤ code-length
-  to-case c = case-aim s rec W def X l ready (depthAt (switchCode def l)) code-length inside c .1
+  to-case : (c : ℕ) → caseTarget s def l c ≤ length code
+  to-case c = case-aim s rec meets def X l ready (depthAt code) (length code) inside c .1
 
-  ranges-ok : (es : List Split.Entry) → l .splits ≡ es → AllIn (RangeOk code-length) (rangeRows l (defaultAt def l) es)
+  ranges-ok : (es : List Split.Entry) → l .splits ≡ es → AllIn (RangeOk (length code)) (rangeRows l (defaultAt def l) es)
   unfolding rangeRows
   ranges-ok [] q = tt
   ranges-ok (x ∷ es) q =
-      range-rows-ok l (defaultAt def l) code-length
-      (λ y. range-aim s rec W def X l ready (depthAt (switchCode def l)) code-length inside x es q y .1) (x ∷ es)
+      range-rows-ok l (defaultAt def l) (length code)
+      (λ y. range-aim s rec meets def X l ready (depthAt code) (length code) inside x es q y .1) (x ∷ es)
 
   pub switch-listed : Listed s (switch s rec)
   unfolding switch switchOf caseTable
@@ -145,7 +149,7 @@ module _ (s : List ℕ) (C : Right s) (M : numbersOk s ≡ true) (e : kind s 0 �
       record {
         code = all .code;
         pools = all .good;
-        tables = ((omega arith, to-fallback), range-table-ok (defaultAt def l) code-length to-default (l .splits));
-        cases = case-rows-ok s l (fallbackAt def (l .splits) l) code-length to-case cs p v (g .good);
+        tables = ((omega arith, to-fallback), range-table-ok (defaultAt def l) (length code) to-default (l .splits));
+        cases = case-rows-ok s l (fallbackAt def (l .splits) l) (length code) to-case cs p v (g .good);
         ranges = ranges-ok (l .splits) refl;
       }

@@ -57,11 +57,11 @@ pub fn left_as(buf: &[u32], zeroed: bool) -> bool
 }
 
 // Prints how many records were the same, and how many of `most` were not.
-pub fn print_result(same: u32, most: u32)
+pub fn print_result(same: u64, most: u64)
     requires { ⌜ same ≤ most ⌝ }
 {
-    print(b"same ", same as u64);
-    print(b"different ", (most - same) as u64);
+    print(b"same ", same);
+    print(b"different ", most - same);
 }
 
 fn print(label: &[u8], count: u64) {

@@ -45,6 +45,6 @@ fn main() {
     if fill(head, 4) {
         let most = words::word_at(head, 0);
         let same = agreeing(head, most);
-        print_result(same, most);
+        print_result(same as u64, most as u64);
     }
 }

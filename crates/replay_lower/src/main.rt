@@ -160,6 +160,6 @@ fn main() {
     if fill(&mut head, 4) {
         let most = words::word_at(&head, 0);
         let same = agreeing(most);
-        print_result(same, most);
+        print_result(same as u64, most as u64);
     }
 }

@@ -84,7 +84,7 @@ only-15 : allBelow 25 (λ k. not (goesByTable (effect k .flow)) || eqb k 15) ≡
 unfolding allBelow goesByTable effect
 only-15 = refl
 
-is-15 : (k : ℕ) → k < 25 → effect k .flow ≡ table → k ≡ 15
+pub is-15 : (k : ℕ) → k < 25 → effect k .flow ≡ table → k ≡ 15
 unfolding goesByTable
 is-15 k h e =
     eqb-true k 15

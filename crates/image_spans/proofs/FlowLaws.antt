@@ -1,0 +1,68 @@
+-- The flow of each kind by its number, and what it asks of the targets.
+use Prim.Native.Nat.{ℕ, _≤_, _<_}
+use mathlib.Core.Path.{_≡_, refl, sym, ap, _∙_}
+use mathlib.Core.Bool.{Bool, true, _&&_}
+use mathlib.Core.List.{List, map}
+use native.Mathlib.Omega.{arith}
+use lib.Dec.{ltb, leb}
+use lib.ListN.{getD, List·getD-map, List·getD-eq-default}
+use Rattle.bytecode.specs.Effect.{Flow, on, jump, branch, table, Effect, effect, effects, row, fixed}
+use Rattle.lowering.specs.Words.{instructions, aAt}
+use Rattle.wellmade.specs.Marks.{flowAt}
+use Rattle.wellmade.specs.Rules.{tables}
+use Rattle.wellmade.specs.Test.{leastTarget, aims}
+use Rattle.image_spans.specs.Flows.{flowNumber}
+use Rattle.image_spans.specs.Rows.{TargetTree}
+
+abbrev pub flows : List ℕ
+flows = map (λ (e : Effect). flowNumber (e .flow)) effects
+
+pub flow-there : (kind : ℕ) → getD flows kind 0 ≡ flowNumber (effect kind .flow)
+unfolding effect flowNumber
+flow-there kind = List·getD-map (λ (e : Effect). flowNumber (e .flow)) effects kind (row 0 0 0 fixed on)
+
+pub flow-past : (kind : ℕ) → 25 ≤ kind → 0 ≡ flowNumber (effect kind .flow)
+flow-past kind h = sym (List·getD-eq-default flows 0 h) ∙ flow-there kind
+
+by-table : (F : Flow) → flowNumber F ≡ 3 → F ≡ table
+unfolding flowNumber
+by-table on e = absurd (omega arith)
+by-table jump e = absurd (omega arith)
+by-table branch e = absurd (omega arith)
+by-table table e = refl
+
+-- the answers of the instruction at p, by the number f of its flow and its word a
+module _ (w : List ℕ) (p f : ℕ) (number : f ≡ flowNumber (flowAt w p)) where
+  pub aims-on : f ≡ 0 → true ≡ aims (flowAt w p) w p
+  unfolding flowNumber aims
+  aims-on z = by (flowAt w p) (sym number ∙ z)
+    where
+      by : (F : Flow) → flowNumber F ≡ 0 → true ≡ aims F w p
+      by on e = refl
+      by jump e = absurd (omega arith)
+      by branch e = absurd (omega arith)
+      by table e = absurd (omega arith)
+
+  pub aims-at : (a n : ℕ) → (f ≡ 0 → ⊥) → (f ≡ 3 → ⊥) → a ≡ aAt w p → n ≡ instructions w → (ltb p a && leb a n) ≡ aims (flowAt w p) w p
+  unfolding flowNumber aims
+  aims-at a n z t ea en = rw (ea, en) (by (flowAt w p) (λ e. z (number ∙ e)) (λ e. t (number ∙ e)))
+    where
+      by : (F : Flow) → (flowNumber F ≡ 0 → ⊥) → (flowNumber F ≡ 3 → ⊥) → (ltb p (aAt w p) && leb (aAt w p) (instructions w)) ≡ aims F w p
+      by on z t = absurd (z refl)
+      by jump z t = refl
+      by branch z t = refl
+      by table z t = absurd (t refl)
+
+  pub aims-by :
+      {t : List ℕ} (a : ℕ) (r : Bool)
+      → f ≡ 3
+      → a ≡ aAt w p
+      → p < 4294967295
+      → p < instructions w
+      → (TargetTree w t → p < 4294967295 → a < tables w → r ≡ ltb p (leastTarget w a))
+      → TargetTree w t
+      → r ≡ aims (flowAt w p) w p
+  unfolding aims
+  aims-by a r z ea small h says T =
+      let F = by-table (flowAt w p) (sym number ∙ z) in
+      rw ea at says T small (T .lie .named p h F) ∙ ap (λ (G : Flow). aims G w p) (sym F)

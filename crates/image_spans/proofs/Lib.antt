@@ -1,0 +1,7 @@
+pub mod AllLaws
+pub mod NeedLaws
+pub mod ChainLaws
+pub mod FlowLaws
+pub mod PutLaws
+pub mod TableLaws
+pub mod LieLaws

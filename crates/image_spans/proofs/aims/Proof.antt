@@ -1,0 +1,81 @@
+-- `image_spans::aims` meets its contract.
+use Prim.Native.Nat.{ℕ}
+use mathlib.Core.Path.{_≡_, ap, _∙_}
+use native.Mathlib.Omega.{arith}
+use Rattle.bytecode.specs.Effect.{effect}
+use Rattle.wellmade.specs.Marks.{flowAt}
+use Rattle.image_spans.specs.Flows.{flowNumber}
+use Rattle.image_spans.proofs.FlowLaws.{aims-on, aims-at, aims-by}
+use borrow.Author.Needs.{needs}
+use Rattle.image_spans.proofs.aims.Statement.{statement}
+use Rattle.image_spans.proofs.aims.Tie as tie
+
+mul-at : tie.Need-mul-at
+mul-at c = search needs
+
+add-at : tie.Need-add-at
+add-at c = search needs
+
+word-of-requires : tie.Need-word-of-requires
+word-of-requires c κs = search needs
+
+flow-of-requires : tie.Need-flow-of-requires
+flow-of-requires c κs = search needs
+
+add-word-of : tie.Need-add-word-of
+add-word-of c = search needs
+
+word-of-requires-2 : tie.Need-word-of-requires-2
+word-of-requires-2 c κs = search needs
+
+-- the number is that of the instruction's flow
+number :
+    (c : tie.After-word-of2) → let known = c .before .before .before .before in
+    let a = known .before .args in
+    c .before .flow-of .result ≡ flowNumber (flowAt (a .w .now) (a .p))
+number c = c .before .flow-of .ensures ∙ ap (λ (kind : ℕ). flowNumber (effect kind .flow)) (c .before .before .word-of .ensures)
+
+returns : tie.Need-returns
+returns c =
+    let read = c .before in
+    let known = read .before .before .before .before in
+    let a = known .before .args in
+    λ T h. aims-on (a .w .now) (a .p) _ (number read) (c .if1 .taken)
+
+table-aims-requires : tie.Need-table-aims-requires
+table-aims-requires c κs = search needs
+
+returns-2 : tie.Need-returns-2
+returns-2 c =
+    let read = c .before .before .before in
+    let known = read .before .before .before .before in
+    let a = known .before .args in
+    λ T h. aims-by (a .w .now) (a .p) _ (number read) _ _ (c .before .if2 .taken) (read .word-of2 .ensures)
+    (omega (arith, h, known .shared-slice-known .given 0)) h (c .table-aims .ensures) T
+
+word-of-requires-3 : tie.Need-word-of-requires-3
+word-of-requires-3 c κs = search needs
+
+returns-3 : tie.Need-returns-3
+returns-3 c =
+    let read = c .before .before .before in
+    let known = read .before .before .before .before in
+    let a = known .before .args in
+    λ T h. aims-at (a .w .now) (a .p) _ (number read) _ _ (c .before .before .if1 .left) (c .before .if2 .left)
+    (read .word-of2 .ensures) (c .word-of3 .ensures)
+
+pub aims-spec : {M : Type 1} → statement M
+aims-spec =
+    tie.close
+    (tie.spec
+    mul-at
+    add-at
+    word-of-requires
+    flow-of-requires
+    add-word-of
+    word-of-requires-2
+    returns
+    table-aims-requires
+    returns-2
+    word-of-requires-3
+    returns-3)

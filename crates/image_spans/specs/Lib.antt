@@ -1,0 +1,4 @@
+pub mod Premises
+pub mod Needs
+pub mod Rows
+pub mod Flows

@@ -1,0 +1,235 @@
+// Two tests of an image that many records ask of the same words: operands of steps that chains share, and targets of rows that tables and
+// Switches share. A tree over the words in the lent scratch answers each record, so that the cost stays near the image's length.
+ghost use mathlib.Core.Path.{_≡_};
+ghost use Prim.Native.Nat.{_+_, _*_, _≤_, _<_};
+ghost use lib.Dec.{leb, ltb};
+ghost use lib.ListN.{length};
+ghost use Rattle.words.specs.Count.{allBelow};
+ghost use Rattle.bytecode.specs.Effect.{effect};
+ghost use Rattle.lowering.specs.Words as words;
+ghost use Rattle.wellmade.specs.Rules as rules;
+ghost use Rattle.wellmade.specs.Marks as marks;
+ghost use Rattle.wellmade.specs.Test as test;
+ghost use Rattle.spans.specs.Tree.{Tree, leaf};
+ghost use Rattle.image_spans.specs.Premises.{Sized, ChainsLie, RowsLie};
+ghost use Rattle.image_spans.specs.Needs.{cut, needOf, NeedsIn, NeedTree};
+ghost use Rattle.image_spans.specs.Rows.{rowsBefore, Put, TargetTree};
+ghost use Rattle.image_spans.specs.Flows.{flowNumber};
+use image_read::apart;
+use image_read::chains_at;
+use image_read::size_of;
+use image_read::steps_at;
+use image_read::switches_at;
+use image_read::targets_at;
+use image_read::word_of;
+use spans::all_at_most;
+use spans::build;
+
+fn cut_off(n: u64) -> u32
+    ensures { λ r. ⌜ r ≡ cut n ⌝ }
+{
+    if n < 65536 { n as u32 } else { 65536 }
+}
+
+// How many operands a step with these words needs its chain to have.
+fn need(kind: u32, a: u32, b: u32, c: u32) -> u32
+    ensures { λ r. ⌜ r ≡ needOf kind a b c ⌝ }
+{
+    if kind == 0 {
+        return cut_off(a as u64 + 1);
+    }
+    if kind == 2 {
+        return cut_off(b as u64 + c as u64);
+    }
+    0
+}
+
+// The needs of all steps, as leaves of a tree.
+fn put_needs(w: &[u32], l: &mut [u32])
+    ensures { λ _. let image = now (w .entry) in
+        ⌜ (2 * rules.steps image ≤ length (now (l .entry)) → NeedsIn image (now (l .exit)) (rules.steps image)) ⌝ }
+{
+    let first = steps_at(w);
+    let n = size_of(w, 6);
+    if l.len() / 2 < n {
+        return;
+    }
+    let mut j = 0;
+    while j < n {
+        let at = first + 6 * j;
+        l[n + j] = need(
+            word_of(w, at),
+            word_of(w, at + 1),
+            word_of(w, at + 2),
+            word_of(w, at + 3),
+        );
+        j += 1;
+    }
+}
+
+// Whether `count` leaves from `first` on are at most `x`.
+fn run_fits(t: &[u32], size: usize, first: u32, count: u32, x: u32) -> bool
+    ensures { λ r. let tree = now (t .entry) in
+        ⌜ (Tree tree size → first + count ≤ size → r ≡ allBelow count (λ k. leb (leaf tree size (first + k)) x)) ⌝ }
+{
+    let a = first as usize;
+    all_at_most(t, size, a, a + count as usize, x)
+}
+
+// Whether each chain has the operands that its steps need, by the tree over the needs.
+fn chains_fit(w: &[u32], t: &[u32]) -> bool
+    ensures { λ r. ⌜ (NeedTree (now (w .entry)) (now (t .entry)) → r ≡ test.operandsRight (now (w .entry))) ⌝ }
+{
+    let size = size_of(w, 6);
+    let first = chains_at(w);
+    let n = size_of(w, 5);
+    let mut i = 0;
+    while i < n {
+        let at = first + 6 * i;
+        if run_fits(
+            t,
+            size,
+            word_of(w, at + 3),
+            word_of(w, at + 4),
+            word_of(w, at + 5),
+        ) {
+            i += 1;
+        } else {
+            return false;
+        }
+    }
+    true
+}
+
+// Whether each step of each chain has its operands in that chain.
+pub fn operands_right(w: &[u32], l: &mut [u32]) -> bool
+    ensures { λ r. let image = now (w .entry) in ⌜ (Sized image (now (l .entry)) → ChainsLie image → r ≡ test.operandsRight image) ⌝ }
+{
+    put_needs(w, l);
+    build(l, size_of(w, 6));
+    chains_fit(w, l)
+}
+
+// Where the next place is, by an instruction's kind: 0 behind, 1 at the target, 2 at either, 3 by a table.
+const FLOWS: [u32; 25] = [
+    0,
+    0,
+    0,
+    0,
+    0,
+    0,
+    0,
+    0,
+    1,
+    2,
+    2,
+    2,
+    0,
+    0,
+    0,
+    3,
+    0,
+    0,
+    0,
+    0,
+    0,
+    0,
+    0,
+    0,
+    0,
+];
+
+fn flow_of(kind: u32) -> u32
+    ensures { λ r. ⌜ r ≡ flowNumber (effect kind .flow) ⌝ }
+{
+    if kind < 25 { FLOWS[kind as usize] } else { 0 }
+}
+
+// The targets of the `n` rows of a kind, from `at` on.
+fn put_targets(w: &[u32], l: &mut [u32], kind: u32, at: usize, n: u32)
+    ensures { λ _. ⌜ (at + n ≤ length (now (l .entry)) → Put (now (w .entry)) kind at n (now (l .entry)) (now (l .exit))) ⌝ }
+{
+    let n = n as usize;
+    if l.len() < n {
+        return;
+    }
+    if l.len() - n < at {
+        return;
+    }
+    let next = apart(kind);
+    let mut from = targets_at(w, kind);
+    let mut j = 0;
+    while j < n {
+        l[at + j] = 4294967295 - word_of(w, from);
+        from += next;
+        j += 1;
+    }
+}
+
+fn rows_before(kind: u32, n: usize) -> usize
+    ensures value { λ r. ⌜ r ≡ rowsBefore kind n ⌝ }
+    ensures small { λ r. ⌜ r ≤ n ⌝ }
+{
+    if kind == 0 { 0 } else { n }
+}
+
+// Whether all targets of table `i`, its default's too, are above `p`, by the tree over the targets.
+fn table_aims(w: &[u32], t: &[u32], p: u32, i: u32) -> bool
+    ensures { λ r. let image = now (w .entry) in
+        ⌜ (TargetTree image (now (t .entry)) → p < 4294967295 → i < rules.tables image → r ≡ ltb p (test.leastTarget image i)) ⌝ }
+{
+    if p == 4294967295 {
+        return false;
+    }
+    let at = switches_at(w) + 4 * i as usize;
+    let n = size_of(w, 8);
+    let size = n + size_of(w, 9);
+    let first = rows_before(word_of(w, at), n) + word_of(w, at + 1) as usize;
+    let end = first + word_of(w, at + 2) as usize;
+    (p < word_of(w, at + 3)) & all_at_most(t, size, first, end, 4294967294 - p)
+}
+
+// Whether the targets of the instruction at `p` go forward, and not past the code.
+fn aims(w: &[u32], t: &[u32], p: u32) -> bool
+    ensures { λ r. let image = now (w .entry) in
+        ⌜ (TargetTree image (now (t .entry)) → p < words.instructions image → r ≡ test.aims (marks.flowAt image p) image p) ⌝ }
+{
+    let at = 12 + 4 * p as usize;
+    let flow = flow_of(word_of(w, at));
+    let a = word_of(w, at + 1);
+    if flow == 0 {
+        return true;
+    }
+    if flow == 3 {
+        return table_aims(w, t, p, a);
+    }
+    (p < a) & (a <= word_of(w, 0))
+}
+
+fn code_aims(w: &[u32], t: &[u32]) -> bool
+    ensures { λ r. ⌜ (TargetTree (now (w .entry)) (now (t .entry)) → r ≡ test.targetsRight (now (w .entry))) ⌝ }
+{
+    let n = word_of(w, 0);
+    let mut p = 0;
+    while p < n {
+        if aims(w, t, p) {
+            p += 1;
+        } else {
+            return false;
+        }
+    }
+    true
+}
+
+// Whether all targets go forward, a table's from each Switch naming it, and those of instructions not past the code.
+pub fn targets_right(w: &[u32], l: &mut [u32]) -> bool
+    ensures { λ r. let image = now (w .entry) in ⌜ (Sized image (now (l .entry)) → RowsLie image → r ≡ test.targetsRight image) ⌝ }
+{
+    let n = word_of(w, 8);
+    let m = word_of(w, 9);
+    let size = n as usize + m as usize;
+    put_targets(w, l, 0, size, n);
+    put_targets(w, l, 1, size + n as usize, m);
+    build(l, size);
+    code_aims(w, l)
+}
