@@ -1,28 +1,17 @@
--- The flow of each kind by its number, and what it asks of the targets.
+-- What the flow of an instruction, by its number, asks of the targets.
 use Prim.Native.Nat.{ℕ, _≤_, _<_}
 use mathlib.Core.Path.{_≡_, refl, sym, ap, _∙_}
 use mathlib.Core.Bool.{Bool, true, _&&_}
-use mathlib.Core.List.{List, map}
+use mathlib.Core.List.{List}
 use native.Mathlib.Omega.{arith}
 use lib.Dec.{ltb, leb}
-use lib.ListN.{getD, List·getD-map, List·getD-eq-default}
-use Rattle.bytecode.specs.Effect.{Flow, on, jump, branch, table, Effect, effect, effects, row, fixed}
+use Rattle.bytecode.specs.Effect.{Flow, on, jump, branch, table}
+use Rattle.bytecode.specs.Table.{flowNumber}
 use Rattle.lowering.specs.Words.{instructions, aAt}
 use Rattle.wellmade.specs.Marks.{flowAt}
 use Rattle.wellmade.specs.Rules.{tables}
 use Rattle.wellmade.specs.Test.{leastTarget, aims}
-use Rattle.image_spans.specs.Flows.{flowNumber}
 use Rattle.image_spans.specs.Rows.{TargetTree}
-
-abbrev pub flows : List ℕ
-flows = map (λ (e : Effect). flowNumber (e .flow)) effects
-
-pub flow-there : (kind : ℕ) → getD flows kind 0 ≡ flowNumber (effect kind .flow)
-unfolding effect flowNumber
-flow-there kind = List·getD-map (λ (e : Effect). flowNumber (e .flow)) effects kind (row 0 0 0 fixed on)
-
-pub flow-past : (kind : ℕ) → 25 ≤ kind → 0 ≡ flowNumber (effect kind .flow)
-flow-past kind h = sym (List·getD-eq-default flows 0 h) ∙ flow-there kind
 
 by-table : (F : Flow) → flowNumber F ≡ 3 → F ≡ table
 unfolding flowNumber

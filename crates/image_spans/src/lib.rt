@@ -5,7 +5,7 @@ ghost use Prim.Native.Nat.{_+_, _*_, _≤_, _<_};
 ghost use lib.Dec.{leb, ltb};
 ghost use lib.ListN.{length};
 ghost use Rattle.words.specs.Count.{allBelow};
-ghost use Rattle.bytecode.specs.Effect.{effect};
+ghost use Rattle.bytecode.specs.Table.{effectTable};
 ghost use Rattle.lowering.specs.Words as words;
 ghost use Rattle.wellmade.specs.Rules as rules;
 ghost use Rattle.wellmade.specs.Marks as marks;
@@ -14,7 +14,8 @@ ghost use Rattle.spans.specs.Tree.{Tree, leaf};
 ghost use Rattle.image_spans.specs.Premises.{Sized, ChainsLie, RowsLie};
 ghost use Rattle.image_spans.specs.Needs.{cut, needOf, NeedsIn, NeedTree};
 ghost use Rattle.image_spans.specs.Rows.{rowsBefore, Put, TargetTree};
-ghost use Rattle.image_spans.specs.Flows.{flowNumber};
+use bytecode::effects;
+use bytecode::entry;
 use image_read::apart;
 use image_read::chains_at;
 use image_read::size_of;
@@ -110,41 +111,6 @@ pub fn operands_right(w: &[u32], l: &mut [u32]) -> bool
     chains_fit(w, l)
 }
 
-// Where the next place is, by an instruction's kind: 0 behind, 1 at the target, 2 at either, 3 by a table.
-const FLOWS: [u32; 25] = [
-    0,
-    0,
-    0,
-    0,
-    0,
-    0,
-    0,
-    0,
-    1,
-    2,
-    2,
-    2,
-    0,
-    0,
-    0,
-    3,
-    0,
-    0,
-    0,
-    0,
-    0,
-    0,
-    0,
-    0,
-    0,
-];
-
-fn flow_of(kind: u32) -> u32
-    ensures { λ r. ⌜ r ≡ flowNumber (effect kind .flow) ⌝ }
-{
-    if kind < 25 { FLOWS[kind as usize] } else { 0 }
-}
-
 // The targets of the `n` rows of a kind, from `at` on.
 fn put_targets(w: &[u32], l: &mut [u32], kind: u32, at: usize, n: u32)
     ensures { λ _. ⌜ (at + n ≤ length (now (l .entry)) → Put (now (w .entry)) kind at n (now (l .entry)) (now (l .exit))) ⌝ }
@@ -190,12 +156,12 @@ fn table_aims(w: &[u32], t: &[u32], p: u32, i: u32) -> bool
 }
 
 // Whether the targets of the instruction at `p` go forward, and not past the code.
-fn aims(w: &[u32], t: &[u32], p: u32) -> bool
+fn aims(w: &[u32], t: &[u32], e: &[u8; 125], p: u32) -> bool
     ensures { λ r. let image = now (w .entry) in
-        ⌜ (TargetTree image (now (t .entry)) → p < words.instructions image → r ≡ test.aims (marks.flowAt image p) image p) ⌝ }
+        ⌜ (now (e .entry) ≡ effectTable → TargetTree image (now (t .entry)) → p < words.instructions image → r ≡ test.aims (marks.flowAt image p) image p) ⌝ }
 {
     let at = 12 + 4 * p as usize;
-    let flow = flow_of(word_of(w, at));
+    let flow = entry(e, word_of(w, at), 4);
     let a = word_of(w, at + 1);
     if flow == 0 {
         return true;
@@ -206,13 +172,14 @@ fn aims(w: &[u32], t: &[u32], p: u32) -> bool
     (p < a) & (a <= word_of(w, 0))
 }
 
-fn code_aims(w: &[u32], t: &[u32]) -> bool
-    ensures { λ r. ⌜ (TargetTree (now (w .entry)) (now (t .entry)) → r ≡ test.targetsRight (now (w .entry))) ⌝ }
+fn code_aims(w: &[u32], t: &[u32], e: &[u8; 125]) -> bool
+    ensures { λ r. let image = now (w .entry) in
+        ⌜ (now (e .entry) ≡ effectTable → TargetTree image (now (t .entry)) → r ≡ test.targetsRight image) ⌝ }
 {
     let n = word_of(w, 0);
     let mut p = 0;
     while p < n {
-        if aims(w, t, p) {
+        if aims(w, t, e, p) {
             p += 1;
         } else {
             return false;
@@ -231,5 +198,6 @@ pub fn targets_right(w: &[u32], l: &mut [u32]) -> bool
     put_targets(w, l, 0, size, n);
     put_targets(w, l, 1, size + n as usize, m);
     build(l, size);
-    code_aims(w, l)
+    let e = effects();
+    code_aims(w, l, &e)
 }

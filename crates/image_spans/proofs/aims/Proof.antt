@@ -2,9 +2,9 @@
 use Prim.Native.Nat.{ℕ}
 use mathlib.Core.Path.{_≡_, ap, _∙_}
 use native.Mathlib.Omega.{arith}
-use Rattle.bytecode.specs.Effect.{effect}
 use Rattle.wellmade.specs.Marks.{flowAt}
-use Rattle.image_spans.specs.Flows.{flowNumber}
+use Rattle.bytecode.specs.Table.{flowNumber, effectTable, entry}
+use Rattle.bytecode.proofs.TableLaws.{entry-flow}
 use Rattle.image_spans.proofs.FlowLaws.{aims-on, aims-at, aims-by}
 use borrow.Author.Needs.{needs}
 use Rattle.image_spans.proofs.aims.Statement.{statement}
@@ -19,8 +19,8 @@ add-at c = search needs
 word-of-requires : tie.Need-word-of-requires
 word-of-requires c κs = search needs
 
-flow-of-requires : tie.Need-flow-of-requires
-flow-of-requires c κs = search needs
+entry-requires : tie.Need-entry-requires
+entry-requires c κs = search needs
 
 add-word-of : tie.Need-add-word-of
 add-word-of c = search needs
@@ -32,15 +32,18 @@ word-of-requires-2 c κs = search needs
 number :
     (c : tie.After-word-of2) → let known = c .before .before .before .before in
     let a = known .before .args in
-    c .before .flow-of .result ≡ flowNumber (flowAt (a .w .now) (a .p))
-number c = c .before .flow-of .ensures ∙ ap (λ (kind : ℕ). flowNumber (effect kind .flow)) (c .before .before .word-of .ensures)
+    a .e .now ≡ effectTable → c .before .entry .result ≡ flowNumber (flowAt (a .w .now) (a .p))
+number c q =
+    c .before .entry .ensures q (omega arith)
+    ∙ ap (λ (kind : ℕ). entry kind 4) (c .before .before .word-of .ensures)
+    ∙ entry-flow _
 
 returns : tie.Need-returns
 returns c =
     let read = c .before in
     let known = read .before .before .before .before in
     let a = known .before .args in
-    λ T h. aims-on (a .w .now) (a .p) _ (number read) (c .if1 .taken)
+    λ q T h. aims-on (a .w .now) (a .p) _ (number read q) (c .if1 .taken)
 
 table-aims-requires : tie.Need-table-aims-requires
 table-aims-requires c κs = search needs
@@ -50,7 +53,7 @@ returns-2 c =
     let read = c .before .before .before in
     let known = read .before .before .before .before in
     let a = known .before .args in
-    λ T h. aims-by (a .w .now) (a .p) _ (number read) _ _ (c .before .if2 .taken) (read .word-of2 .ensures)
+    λ q T h. aims-by (a .w .now) (a .p) _ (number read q) _ _ (c .before .if2 .taken) (read .word-of2 .ensures)
     (omega (arith, h, known .shared-slice-known .given 0)) h (c .table-aims .ensures) T
 
 word-of-requires-3 : tie.Need-word-of-requires-3
@@ -61,7 +64,7 @@ returns-3 c =
     let read = c .before .before .before in
     let known = read .before .before .before .before in
     let a = known .before .args in
-    λ T h. aims-at (a .w .now) (a .p) _ (number read) _ _ (c .before .before .if1 .left) (c .before .if2 .left)
+    λ q T h. aims-at (a .w .now) (a .p) _ (number read q) _ _ (c .before .before .if1 .left) (c .before .if2 .left)
     (read .word-of2 .ensures) (c .word-of3 .ensures)
 
 pub aims-spec : {M : Type 1} → statement M
@@ -71,7 +74,7 @@ aims-spec =
     mul-at
     add-at
     word-of-requires
-    flow-of-requires
+    entry-requires
     add-word-of
     word-of-requires-2
     returns

@@ -5,6 +5,7 @@ use mathlib.Core.Bool.{true}
 use native.Mathlib.Omega.{arith}
 use Rattle.words.specs.Count.{allBelow}
 use Rattle.words.specs.CountLaws.{all-none, all-more, all-fails}
+use Rattle.bytecode.specs.Table.{effectTable}
 use Rattle.lowering.specs.Words.{instructions}
 use Rattle.wellmade.specs.Marks.{flowAt}
 use Rattle.wellmade.specs.Test as test
@@ -15,16 +16,16 @@ use Rattle.image_spans.proofs.code_aims.Statement.{statement}
 use Rattle.image_spans.proofs.code_aims.Tie as tie
 
 abbrev Inv-loop : tie.InvT-loop
-Inv-loop w t n p₀ p = (p ≤ n) × (TargetTree w t → allBelow p (λ q. test.aims (flowAt w q) w q) ≡ true)
+Inv-loop w t e n p₀ p = (p ≤ n) × (e ≡ effectTable → TargetTree w t → allBelow p (λ q. test.aims (flowAt w q) w q) ≡ true)
 
 abbrev μ-loop : tie.MeasureT-loop
-μ-loop w t n p₀ p = n - p
+μ-loop w t e n p₀ p = n - p
 
 word-of-requires : tie.Need-word-of-requires Inv-loop μ-loop
 word-of-requires c κs = search needs
 
 loop-holds : tie.Need-loop-holds Inv-loop μ-loop
-loop-holds c = (omega arith, λ T. all-none _)
+loop-holds c = (omega arith, λ q T. all-none _)
 
 aims-requires : tie.Need-aims-requires Inv-loop μ-loop
 aims-requires c κs = search needs
@@ -44,19 +45,19 @@ loop-less c = search needs
 loop-again : tie.Need-loop-again Inv-loop μ-loop
 loop-again c =
     let turn = c .before .before in
-    (omega arith, λ T. all-more _ _ (turn .before .loop .inv .1 T) (sym (c .before .aims .ensures T (inside turn)) ∙ c .if1 .taken))
+    (omega arith, λ q T. all-more _ _ (turn .before .loop .inv .1 q T) (sym (c .before .aims .ensures q T (inside turn)) ∙ c .if1 .taken))
 
 returns : tie.Need-returns Inv-loop μ-loop
 unfolding test.targetsRight
 returns c =
     let h = inside (c .before .before) in
-    λ T. sym (all-fails _ _ _ h (sym (c .before .aims .ensures T h) ∙ c .if1 .left))
+    λ q T. sym (all-fails _ _ _ h (sym (c .before .aims .ensures q T h) ∙ c .if1 .left))
 
 returns-2 : tie.Need-returns-2 Inv-loop μ-loop
 unfolding test.targetsRight
 returns-2 c =
     let loop = c .before .loop in
-    λ T. all-done _ _ _ _ (c .before .before .word-of .ensures) (loop .inv .0) (c .loop-test .left) (loop .inv .1 T)
+    λ q T. all-done _ _ _ _ (c .before .before .word-of .ensures) (loop .inv .0) (c .loop-test .left) (loop .inv .1 q T)
 
 pub code-aims-spec : {M : Type 1} → statement M
 code-aims-spec =

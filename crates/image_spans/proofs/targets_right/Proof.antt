@@ -34,6 +34,9 @@ put-targets-requires-2 c κs = search needs
 build-requires : tie.Need-build-requires
 build-requires c κs = search needs
 
+effects-requires : tie.Need-effects-requires
+effects-requires c κs = search needs
+
 code-aims-requires : tie.Need-code-aims-requires
 code-aims-requires c κs = search needs
 
@@ -42,11 +45,12 @@ same-length c = search needs
 
 returns : tie.Need-returns
 returns c =
-    let built = c .before .before .before .before in
+    let table = c .before .before .before in
+    let built = table .before .before .before in
     let second = built .before .before .before .before in
     let first = second .before .before .before .before in
     let read = first .before .before in
-    λ s lie. c .code-aims .ensures
+    λ s lie. c .code-aims .ensures (table .effects .ensures)
     (rows-built _ _ (read .before .word-of .ensures) (read .word-of2 .ensures)
     (first .put-targets .kept .1 .0)
     (second .put-targets2 .kept .1 .0)
@@ -70,6 +74,7 @@ targets-right-spec =
     add-put-targets
     put-targets-requires-2
     build-requires
+    effects-requires
     code-aims-requires
     same-length
     returns)
