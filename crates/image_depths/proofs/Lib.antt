@@ -1,0 +1,4 @@
+pub mod CodeLaws
+pub mod MarkLaws
+pub mod DeepLaws
+pub mod CheckLaws

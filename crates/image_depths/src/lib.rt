@@ -1,0 +1,288 @@
+// The depth at each place of an image, found in one pass over its code in the lent scratch, and checked in a second one.
+ghost use mathlib.Core.Path.{_≡_};
+ghost use mathlib.Core.Bool.{Bool};
+ghost use mathlib.Core.List.{List};
+ghost use Prim.Native.Nat.{ℕ, _+_, _-_, _<_, _≤_, max};
+ghost use lib.ListN.{length, take};
+ghost use Rattle.bytecode.specs.Table.{effectTable};
+ghost use Rattle.bytecode.specs.Table as table;
+ghost use Rattle.lowering.specs.Words as words;
+ghost use Rattle.lowering.specs.Run as runs;
+ghost use Rattle.wellmade.specs.Marks as marks;
+ghost use Rattle.wellmade.proofs.Right.{TablesNamed};
+ghost use Rattle.image_rows.specs.Rows.{Placed, Pooled};
+ghost use Rattle.image_rows.specs.Scratch.{marksOf, Does, Runs};
+ghost use Rattle.image_depths.specs.Checked.{Checked, RowsPooled};
+ghost use Rattle.image_depths.specs.Passing as passing;
+use bytecode::counted;
+use bytecode::effects;
+use bytecode::entry;
+use bytecode::kept;
+use image_read::word_of;
+use image_rows::come;
+use image_rows::come_rows;
+use image_rows::count_runs;
+use image_rows::mark_of;
+use image_rows::marks_there;
+use image_rows::rows_right;
+use image_rows::starts_of;
+use image_rows::table_word;
+use image_rows::word_from;
+use image_rows::Starts;
+use zeros::zero;
+
+// An instruction: its word a, where it goes, and what it pushes, pops and needs to find.
+pub struct Code {
+    pub a: u32,
+    pub flow: u32,
+    pub pushes: u32,
+    pub pops: u64,
+    pub needs: u64,
+}
+
+// What chain `i` takes: its operands, and one more for a Temporary root.
+fn chain_takes(w: &[u32], o: Starts, i: u32) -> u64
+    ensures value { λ r. ⌜ (Placed (now (w .entry)) o → r ≡ runs.chainTakes (now (w .entry)) i) ⌝ }
+    ensures small { λ r. ⌜ r ≤ 4294967296 ⌝ }
+{
+    let n = word_from(w, o.chains, 6 * (i as usize) + 5) as u64;
+    if word_from(w, o.chains, 6 * (i as usize)) == 3 {
+        return n + 1;
+    }
+    n
+}
+
+// The count that is popped on top; the chain is looked at only where it counts.
+fn on_top(w: &[u32], o: Starts, which: u32, a: u32, b: u32) -> u64
+    ensures value { λ r. ⌜ (Placed (now (w .entry)) o → r ≡ table.counted which a b (runs.chainTakes (now (w .entry)) a)) ⌝ }
+    ensures small { λ r. ⌜ r ≤ 4294967296 ⌝ }
+{
+    if which == 5 {
+        return chain_takes(w, o, a);
+    }
+    counted(which, a, b, 0)
+}
+
+// The instruction at `p`.
+fn code_at(w: &[u32], o: Starts, t: &[u8; 125], p: u32) -> Code
+    ensures { λ r. ⌜ (Placed (now (w .entry)) o → now (t .entry) ≡ effectTable → passing.Read (now (w .entry)) p r) ⌝ }
+{
+    let at = 12 + 4 * (p as usize);
+    let kind = word_of(w, at);
+    let a = word_of(w, at + 1);
+    let which = entry(t, kind, 3);
+    let top = on_top(w, o, which, a, word_of(w, at + 2));
+    let pops = (entry(t, kind, 0) as u64) + top;
+    let needs = pops + (entry(t, kind, 2) as u64) + (kept(which, a) as u64);
+    Code {
+        a: a,
+        flow: entry(t, kind, 4),
+        pushes: entry(t, kind, 1),
+        pops: pops,
+        needs: needs,
+    }
+}
+
+// The depth behind an instruction.
+fn after(c: Code, d: u32) -> u64
+    ensures value { λ r. ⌜ r ≡ d - c .pops + c .pushes ⌝ }
+    ensures small { λ r. ⌜ r ≤ 8589934592 ⌝ }
+{
+    let x = d as u64;
+    if c.pops < x {
+        return x - c.pops + (c.pushes as u64);
+    }
+    c.pushes as u64
+}
+
+// A Switch hands the mark `m` to its table. If none has come to the table before, its rows and its default are come to.
+fn open_table(w: &[u32], o: Starts, m: u32, l: &mut [u32], i: u32)
+    ensures { λ _. ⌜ (Placed (now (w .entry)) o → Pooled (now (w .entry)) i → 0 < m → Does (now (w .entry)) (λ a. marks.come m (marks.enter (now (w .entry)) i m a) (marks.tableNode (now (w .entry)) i)) (now (l .entry)) (now (l .exit))) ⌝ }
+{
+    let size = marks_there(o);
+    let node = (o.places as usize) + 1 + (i as usize);
+    if mark_of(l, size, node) != 0 {
+        return;
+    }
+    come_rows(w, o, m, l, i);
+    let d = table_word(w, o, i, 3);
+    come(m, l, size, d as usize);
+    come(m, l, size, node);
+}
+
+// Place `p` hands on the mark `m`.
+fn hand_on(w: &[u32], o: Starts, c: Code, p: u32, m: u32, l: &mut [u32])
+    ensures { λ _. ⌜ (Placed (now (w .entry)) o → passing.Read (now (w .entry)) p c → passing.PooledAt (now (w .entry)) p → 0 < m → Does (now (w .entry)) (marks.handOn (marks.flowAt (now (w .entry)) p) (now (w .entry)) p m) (now (l .entry)) (now (l .exit))) ⌝ }
+{
+    let size = marks_there(o);
+    let next = (p as usize) + 1;
+    if c.flow == 3 {
+        open_table(w, o, m, l, c.a);
+        return;
+    }
+    if c.flow == 2 {
+        come(m, l, size, next);
+        come(m, l, size, c.a as usize);
+        return;
+    }
+    if c.flow == 1 {
+        come(m, l, size, c.a as usize);
+        return;
+    }
+    come(m, l, size, next);
+}
+
+// Place `p` hands on its mark; false where the mark to hand on has no room in a word.
+fn pass(w: &[u32], o: Starts, t: &[u8; 125], p: u32, l: &mut [u32]) -> bool
+    ensures { λ r. ⌜ (Placed (now (w .entry)) o → now (t .entry) ≡ effectTable → passing.PooledAt (now (w .entry)) p → passing.Passed (now (w .entry)) p (now (l .entry)) (now (l .exit)) r) ⌝ }
+{
+    let m = mark_of(l, marks_there(o), p as usize);
+    if m == 0 {
+        return true;
+    }
+    let c = code_at(w, o, t, p);
+    let n = after(c, m - 1) + 1;
+    if 4294967295 < n {
+        return false;
+    }
+    hand_on(w, o, c, p, n as u32, l);
+    true
+}
+
+// The marks of the whole code.
+fn mark_all(w: &[u32], o: Starts, t: &[u8; 125], l: &mut [u32]) -> bool
+    ensures { λ r. ⌜ (Placed (now (w .entry)) o → now (t .entry) ≡ effectTable → TablesNamed (now (w .entry)) → RowsPooled (now (w .entry)) → marks.marksThere (now (w .entry)) ≤ length (now (l .entry)) → passing.MarkedAll (now (w .entry)) (now (l .exit)) r) ⌝ }
+{
+    zero(l);
+    come(1, l, marks_there(o), 0);
+    let n = o.places;
+    let mut p: u32 = 0;
+    while p < n {
+        if pass(w, o, t, p, l) {
+            p += 1;
+        } else {
+            return false;
+        }
+    }
+    true
+}
+
+// Each way from `p` leads to the mark `m`.
+fn leads(o: Starts, c: Code, l: &[u32], p: u32, m: u64) -> bool
+    ensures { λ r. ⌜ ((w : List ℕ) → Placed w o → passing.Read w p c → r ≡ passing.leads (marks.flowAt w p) w (marksOf w (now (l .entry))) p m) ⌝ }
+{
+    let size = marks_there(o);
+    let next = (p as usize) + 1;
+    if c.flow == 3 {
+        return (mark_of(l, size, (o.places as usize) + 1 + (c.a as usize)) as u64) == m;
+    }
+    if c.flow == 2 {
+        return ((mark_of(l, size, next) as u64) == m) & ((mark_of(l, size, c.a as usize) as u64) == m);
+    }
+    if c.flow == 1 {
+        return (mark_of(l, size, c.a as usize) as u64) == m;
+    }
+    (mark_of(l, size, next) as u64) == m
+}
+
+// Place `p` finds what it needs, and leads to its own mark.
+fn place_right(w: &[u32], o: Starts, t: &[u8; 125], l: &[u32], p: u32) -> bool
+    ensures { λ r. ⌜ (Placed (now (w .entry)) o → now (t .entry) ≡ effectTable → r ≡ marks.placeBy (marks.mark (marksOf (now (w .entry)) (now (l .entry))) p) (now (w .entry)) (marksOf (now (w .entry)) (now (l .entry))) p) ⌝ }
+{
+    let m = mark_of(l, marks_there(o), p as usize);
+    if m == 0 {
+        return true;
+    }
+    let c = code_at(w, o, t, p);
+    let n = after(c, m - 1) + 1;
+    (c.needs <= ((m - 1) as u64)) & leads(o, c, l, p, n)
+}
+
+fn places_right(w: &[u32], o: Starts, t: &[u8; 125], l: &[u32]) -> bool
+    ensures { λ r. ⌜ (Placed (now (w .entry)) o → now (t .entry) ≡ effectTable → r ≡ passing.placesRight (now (w .entry)) (marksOf (now (w .entry)) (now (l .entry)))) ⌝ }
+{
+    let n = o.places;
+    let mut p: u32 = 0;
+    while p < n {
+        if place_right(w, o, t, l, p) {
+            p += 1;
+        } else {
+            return false;
+        }
+    }
+    true
+}
+
+// The rows and the default of table `i` have its mark.
+fn table_right(w: &[u32], o: Starts, l: &[u32], i: u32) -> bool
+    ensures { λ r. ⌜ (Placed (now (w .entry)) o → Pooled (now (w .entry)) i → Runs (now (w .entry)) (now (l .entry)) → r ≡ marks.tableBy (marks.mark (marksOf (now (w .entry)) (now (l .entry))) (marks.tableNode (now (w .entry)) i)) (now (w .entry)) (marksOf (now (w .entry)) (now (l .entry))) i) ⌝ }
+{
+    let size = marks_there(o);
+    let m = mark_of(l, size, (o.places as usize) + 1 + (i as usize));
+    if m == 0 {
+        return true;
+    }
+    let rows = rows_right(w, o, l, i, m);
+    let d = table_word(w, o, i, 3);
+    rows & (mark_of(l, size, d as usize) == m)
+}
+
+fn tables_right(w: &[u32], o: Starts, l: &[u32]) -> bool
+    ensures { λ r. ⌜ (Placed (now (w .entry)) o → RowsPooled (now (w .entry)) → Runs (now (w .entry)) (now (l .entry)) → r ≡ passing.tablesRight (now (w .entry)) (marksOf (now (w .entry)) (now (l .entry)))) ⌝ }
+{
+    let n = o.tables;
+    let mut i: u32 = 0;
+    while i < n {
+        if table_right(w, o, l, i) {
+            i += 1;
+        } else {
+            return false;
+        }
+    }
+    true
+}
+
+fn larger(x: u32, y: u32) -> u32
+    ensures { λ r. ⌜ r ≡ max x y ⌝ }
+{
+    if x < y { y } else { x }
+}
+
+// The greatest of the marks 0 to `n`.
+fn most(l: &[u32], size: usize, n: u32) -> u32
+    ensures { λ r. ⌜ r ≡ marks.most (take size (now (l .entry))) n ⌝ }
+{
+    let mut x = mark_of(l, size, 0);
+    let mut i: u32 = 0;
+    while i < n {
+        i += 1;
+        x = larger(x, mark_of(l, size, i as usize));
+    }
+    x
+}
+
+// The marks agree everywhere, one value remains, and the reported depth is the greatest.
+fn marks_right(w: &[u32], o: Starts, t: &[u8; 125], l: &[u32]) -> bool
+    ensures { λ r. ⌜ (Placed (now (w .entry)) o → now (t .entry) ≡ effectTable → RowsPooled (now (w .entry)) → Runs (now (w .entry)) (now (l .entry)) → r ≡ marks.marksRight (now (w .entry)) (marksOf (now (w .entry)) (now (l .entry)))) ⌝ }
+{
+    let size = marks_there(o);
+    let n = o.places;
+    let d = (word_of(w, 11) as u64) + 1;
+    let places = places_right(w, o, t, l);
+    let tables = tables_right(w, o, l);
+    places & tables & (mark_of(l, size, n as usize) == 2) & ((most(l, size, n) as u64) == d)
+}
+
+// Whether runs agree on the depth at each place, find what they need, end with one value, and reach the depth that the image reports.
+// What the scratch holds in the end is not said.
+pub fn depths_right(w: &[u32], l: &mut [u32]) -> bool
+    ensures { λ r. ⌜ (Checked (now (w .entry)) → length (now (l .entry)) ≡ length (now (w .entry)) → r ≡ marks.marksRight (now (w .entry)) (marks.marked (now (w .entry)) (marks.marksThere (now (w .entry))) (words.instructions (now (w .entry))))) ⌝ }
+{
+    let o = starts_of(w);
+    let t = effects();
+    if mark_all(w, o, &t, l) {
+        count_runs(w, o, l);
+        return marks_right(w, o, &t, l);
+    }
+    false
+}

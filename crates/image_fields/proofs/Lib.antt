@@ -1,0 +1,4 @@
+pub mod ObeysLaws
+pub mod RecordLaws
+pub mod FitLaws
+pub mod CodeLaws

@@ -1,0 +1,4 @@
+pub mod ReadLaws
+pub mod ScratchLaws
+pub mod SeenLaws
+pub mod RunLaws
