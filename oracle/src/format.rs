@@ -79,6 +79,7 @@ pub const REFUSED_EVAL: u32 = 9;
 pub const REFUSED_EMITTED: u32 = 10;
 pub const REFUSED_SCRATCH: u32 = 11;
 pub const REFUSED_IMAGE: u32 = 12;
+pub const NOT_WELL_MADE: u32 = 13;
 
 // ---- lowering ----
 
@@ -106,6 +107,10 @@ pub const STEP_WORDS: usize = 6;
 pub const SWITCH_WORDS: usize = 4;
 pub const CASE_WORDS: usize = 2;
 pub const RANGE_WORDS: usize = 6;
+
+/// Greatest counts that the Rust keeps in 8 and in 16 bits.
+pub const MAX_U8: u32 = 255;
+pub const MAX_U16: u32 = 65_535;
 
 // ---- the program `lower` ----
 

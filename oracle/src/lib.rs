@@ -8,6 +8,8 @@ pub mod format;
 pub mod gen;
 pub mod grain;
 pub mod image;
+pub mod image_check;
+pub mod image_runs;
 pub mod limits;
 pub mod random;
 pub mod runs;
@@ -20,6 +22,7 @@ use crate::grain::compile::Lowering;
 use crate::grain::stand_in::Marks;
 use crate::tree::Whole;
 
+pub use image_check::check_image;
 pub use sheet::check;
 
 /// What lowering a sheet gives.

@@ -41,22 +41,25 @@ const EFFECTS: [(i64, i64); 25] = [
 
 /// An image taken apart.
 pub struct Program<'i> {
-    sizes: &'i [u32],
+    pub(crate) sizes: &'i [u32],
     code: &'i [u32],
-    constants: &'i [u32],
-    chains: &'i [u32],
-    steps: &'i [u32],
-    switches: &'i [u32],
-    cases: &'i [u32],
-    ranges: &'i [u32],
+    pub(crate) constants: &'i [u32],
+    pub(crate) names: &'i [u32],
+    pub(crate) tokens: &'i [u32],
+    pub(crate) residuals: &'i [u32],
+    pub(crate) chains: &'i [u32],
+    pub(crate) steps: &'i [u32],
+    pub(crate) switches: &'i [u32],
+    pub(crate) cases: &'i [u32],
+    pub(crate) ranges: &'i [u32],
 }
 
 #[derive(Clone, Copy)]
-struct Instruction {
-    kind: u32,
-    a: u32,
-    b: u32,
-    c: u32,
+pub(crate) struct Instruction {
+    pub kind: u32,
+    pub a: u32,
+    pub b: u32,
+    pub c: u32,
 }
 
 impl<'i> Program<'i> {
@@ -75,9 +78,9 @@ impl<'i> Program<'i> {
         let code = part(4 * size(0))?;
         let _positions = part(size(0))?;
         let constants = part(3 * size(1))?;
-        let _names = part(2 * size(2))?;
-        let _tokens = part(size(3))?;
-        let _residuals = part(size(4))?;
+        let names = part(2 * size(2))?;
+        let tokens = part(size(3))?;
+        let residuals = part(size(4))?;
         let chains = part(6 * size(5))?;
         let steps = part(6 * size(6))?;
         let switches = part(4 * size(7))?;
@@ -90,6 +93,9 @@ impl<'i> Program<'i> {
             sizes,
             code,
             constants,
+            names,
+            tokens,
+            residuals,
             chains,
             steps,
             switches,
@@ -102,7 +108,7 @@ impl<'i> Program<'i> {
         self.sizes[0] as usize
     }
 
-    fn instruction(&self, place: usize) -> Instruction {
+    pub(crate) fn instruction(&self, place: usize) -> Instruction {
         let words = &self.code[4 * place..4 * place + 4];
         Instruction {
             kind: words[0],
@@ -113,7 +119,7 @@ impl<'i> Program<'i> {
     }
 
     /// Pops, pushes and what must be there before.
-    fn effect(&self, op: Instruction) -> (i64, i64, i64) {
+    pub(crate) fn effect(&self, op: Instruction) -> (i64, i64, i64) {
         let (mut pops, pushes) = EFFECTS[op.kind as usize];
         match op.kind {
             12 => pops = i64::from(op.b % 256),
@@ -142,8 +148,17 @@ impl<'i> Program<'i> {
         (pops, pushes, needs)
     }
 
+    /// The target of a row of a table of this kind.
+    pub(crate) fn row_target(&self, kind: u32, row: usize) -> u32 {
+        if kind == 0 {
+            self.cases[2 * row]
+        } else {
+            self.ranges[6 * row + 5]
+        }
+    }
+
     /// Every place that a step from here can go to.
-    fn ways(&self, place: usize, op: Instruction) -> Vec<usize> {
+    pub(crate) fn ways(&self, place: usize, op: Instruction) -> Vec<usize> {
         match op.kind {
             8 => vec![op.a as usize],
             9..=11 => vec![op.a as usize, place + 1],
@@ -152,11 +167,7 @@ impl<'i> Program<'i> {
                 let (first, rows) = (table[1] as usize, table[2] as usize);
                 let mut ways = vec![table[3] as usize];
                 for row in first..first + rows {
-                    ways.push(if table[0] == 0 {
-                        self.cases[2 * row] as usize
-                    } else {
-                        self.ranges[6 * row + 5] as usize
-                    });
+                    ways.push(self.row_target(table[0], row) as usize);
                 }
                 ways
             }
