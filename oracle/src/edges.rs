@@ -13,9 +13,9 @@ fn noise(index: usize) -> u32 {
 }
 
 fn checksum(words: &[u32]) -> u64 {
-    words.iter().fold(0, |sum, word| {
-        (31 * sum + u64::from(*word)) % 4_294_967_291
-    })
+    words
+        .iter()
+        .fold(0, |sum, word| (31 * sum + u64::from(*word)) % 4_294_967_291)
 }
 
 /// The line of an edge.

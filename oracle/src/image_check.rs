@@ -206,18 +206,16 @@ fn receiver(op: &[u32]) -> u32 {
 
 /// Whether an instruction has a target of its own.
 fn jumps(kind: u32) -> bool {
-    matches!(
-        kind,
-        JUMP | JUMP_IF_TRUE | JUMP_IF_FALSE | SKIP_IF_NOT_UNIT
-    )
+    matches!(kind, JUMP | JUMP_IF_TRUE | JUMP_IF_FALSE | SKIP_IF_NOT_UNIT)
 }
 
 /// The unused words of an instruction.
 fn unused_words(op: &[u32]) -> &'static [usize] {
     match op[0] {
         CONST | OP_BOOL | LOAD_LOCAL | LOAD_NAMED | JUMP | JUMP_IF_TRUE | JUMP_IF_FALSE
-        | SKIP_IF_NOT_UNIT | ROTATE | OP_SWITCH | MAKE_ARRAY | CHECK_SIZE | OP_CHAIN
-        | EVAL_AST => &[2, 3],
+        | SKIP_IF_NOT_UNIT | ROTATE | OP_SWITCH | MAKE_ARRAY | CHECK_SIZE | OP_CHAIN | EVAL_AST => {
+            &[2, 3]
+        }
         OP_UNIT | LOAD_THIS | POP | MAKE_FN_PTR | INTERPOLATE_START | INTERPOLATE_APPEND
         | INTERPOLATE_END => &[1, 2, 3],
         CALL_FN_PTR => &[3],

@@ -2,6 +2,8 @@
 
 use oracle::format::*;
 use oracle::gen::{self, Size};
+use oracle::image_gen::ImageSize;
+use oracle::image_selftest::ImageFigures;
 use oracle::random::Random;
 use oracle::runs::Figures;
 use std::collections::HashMap;
@@ -36,6 +38,9 @@ oracle compare --dir DIR [--image W] [--scratch W] [--any-size] -- PROGRAM ARGS.
     over 65536 bytes get their own answer
 oracle selftest [--seed S] [--count N] [--profile P] [SIZE]
     demand 3 by brute force on random sheets, and the answers by other means
+oracle image-selftest [--seed S] [--count N] [--first I] [--small] [--places]
+    check random images beside sheets, each by brute force too, and print
+    counts; with --places also by the word at which a clause fails alone
 oracle bench [--rounds R] FILE...
     time the sheet check and the lowering, in nanoseconds for each sheet
 oracle edges
@@ -64,6 +69,7 @@ const FLAGS: &[&str] = &[
     "--list-profiles",
     "--program",
     "--any-size",
+    "--places",
 ];
 
 fn arguments(from: &[String]) -> Result<Arguments, String> {
@@ -123,6 +129,14 @@ impl Arguments {
         };
         let nodes = self.number("--nodes", base.nodes as u64)?.max(1) as usize;
         Ok(Size { nodes, ..base })
+    }
+
+    fn image_size(&self) -> ImageSize {
+        if self.flag("--small") {
+            ImageSize::SMALL
+        } else {
+            ImageSize::NORMAL
+        }
     }
 
     /// The sheets of a series, with their indices.
@@ -381,6 +395,21 @@ fn run_selftest(arguments: &Arguments) -> Result<(), String> {
     Ok(())
 }
 
+fn run_image_selftest(arguments: &Arguments) -> Result<(), String> {
+    let seed = arguments.number("--seed", 1)?;
+    let first = arguments.number("--first", 0)?;
+    let count = arguments.number("--count", 100_000)?;
+    let mut figures = ImageFigures::default();
+    let size = arguments.image_size();
+    oracle::image_selftest::series(seed, first, count, size, &mut figures)?;
+    print!("{}", figures.lines(arguments.flag("--places")));
+    println!(
+        "pairs {}, by brute force {}: all right",
+        figures.pairs, figures.decided
+    );
+    Ok(())
+}
+
 fn run_bench(arguments: &Arguments) -> Result<(), String> {
     let rounds = arguments.number("--rounds", 0)?;
     let sheets: Vec<Vec<u8>> = arguments
@@ -526,6 +555,7 @@ fn main() -> ExitCode {
         "lower" => run_lower(&arguments).map(|()| true),
         "table" => run_table(&arguments).map(|()| true),
         "selftest" => run_selftest(&arguments).map(|()| true),
+        "image-selftest" => run_image_selftest(&arguments).map(|()| true),
         "edges" => {
             print!("{}", oracle::edges::lines());
             Ok(true)
