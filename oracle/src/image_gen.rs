@@ -14,11 +14,11 @@ use crate::sheet::{self, Sheet};
 pub const FAMILIES: &[&str] = &[
     // What lowering makes.
     "lowered", // Well made, and such as lowering never makes.
-    "built", // Either of these with one word changed.
+    "built",   // Either of these with one word changed.
     "changed",
     // Either of these with one thing broken that concerns more than a word.
     "broken", // Any words behind plausible sizes.
-    "words", // Words too many, too few, or sizes past all lengths.
+    "words",  // Words too many, too few, or sizes past all lengths.
     "lengths",
     // Any of these beside a sheet that is refused, or that lowering refuses.
     "refused",

@@ -11,6 +11,7 @@ pub mod image;
 pub mod image_check;
 pub mod image_draft;
 pub mod image_gen;
+pub mod image_rows;
 pub mod image_runs;
 pub mod image_selftest;
 pub mod limits;

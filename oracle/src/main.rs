@@ -41,6 +41,9 @@ oracle selftest [--seed S] [--count N] [--profile P] [SIZE]
 oracle image-selftest [--seed S] [--count N] [--first I] [--small] [--places]
     check random images beside sheets, each by brute force too, and print
     counts; with --places also by the word at which a clause fails alone
+oracle image-rows
+    print hand-made images on both sides of each clause, one in a line:
+    name ; the sheet's words ; the image's words ; number
 oracle bench [--rounds R] FILE...
     time the sheet check and the lowering, in nanoseconds for each sheet
 oracle edges
@@ -556,6 +559,13 @@ fn main() -> ExitCode {
         "table" => run_table(&arguments).map(|()| true),
         "selftest" => run_selftest(&arguments).map(|()| true),
         "image-selftest" => run_image_selftest(&arguments).map(|()| true),
+        "image-rows" => {
+            for row in oracle::image_rows::rows() {
+                let (sheet, image) = (joined(&row.sheet), joined(&row.image));
+                println!("{} ; {sheet} ; {image} ; {}", row.name, row.answer());
+            }
+            Ok(true)
+        }
         "edges" => {
             print!("{}", oracle::edges::lines());
             Ok(true)
