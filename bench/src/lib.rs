@@ -5,7 +5,7 @@ pub mod sheets;
 pub mod workloads;
 
 extern "C" {
-    /// crates/api. Both ask nothing of their caller; a slice goes as a pointer and a length.
+    /// crates/api. All ask nothing of their caller; a slice goes as a pointer and a length.
     fn sheet_check(sheet: *const u8, length: usize) -> u32;
     fn sheet_lower(
         sheet: *const u8,
@@ -15,6 +15,14 @@ extern "C" {
         scratch: *mut u32,
         scratch_length: usize,
         words: *mut u64,
+    ) -> u32;
+    fn sheet_check_image(
+        sheet: *const u8,
+        length: usize,
+        image: *const u32,
+        image_length: usize,
+        scratch: *mut u32,
+        scratch_length: usize,
     ) -> u32;
 }
 
@@ -40,4 +48,19 @@ pub fn lower(sheet: &[u8], image: &mut [u32], scratch: &mut [u32]) -> (u32, u64)
         )
     };
     (number, words)
+}
+
+/// The proved check of an image beside its sheet: 0, 1 to 8, 11 or 13.
+pub fn check_image(sheet: &[u8], image: &[u32], scratch: &mut [u32]) -> u32 {
+    // Pointers and lengths are those of slices; the one that is written to is lent alone.
+    unsafe {
+        sheet_check_image(
+            sheet.as_ptr(),
+            sheet.len(),
+            image.as_ptr(),
+            image.len(),
+            scratch.as_mut_ptr(),
+            scratch.len(),
+        )
+    }
 }

@@ -60,45 +60,70 @@ impl ImageSize {
 /// The pair number `index` of a series.
 pub fn pair(seed: u64, index: u64, size: ImageSize) -> Pair {
     let mut random = Random::for_index(seed ^ 0x1A6E, index);
+    let random = &mut random;
+    let family = family(random);
+    let sheet = match family {
+        "refused" => refused_sheet(random, size),
+        _ => accepted(random, size),
+    };
+    let image = image(family, &sheet, random, size);
+    Pair {
+        family,
+        sheet,
+        image,
+    }
+}
+
+/// The sheet number `index` of a series, accepted, with so many images.
+pub fn group(seed: u64, index: u64, size: ImageSize, count: usize) -> (Vec<u8>, Vec<Vec<u32>>) {
+    let mut random = Random::for_index(seed ^ 0x1A6F, index);
+    let random = &mut random;
+    let sheet = accepted(random, size);
+    let images = (0..count)
+        .map(|_| image(family(random), &sheet, random, size))
+        .collect();
+    (sheet, images)
+}
+
+fn family(random: &mut Random) -> &'static str {
     let mut at = random.below(WEIGHTS.iter().sum());
     let mut family = 0;
     while at >= WEIGHTS[family] {
         at -= WEIGHTS[family];
         family += 1;
     }
-    of_family(FAMILIES[family], random, size)
+    FAMILIES[family]
 }
 
-/// The pair number `index` of a family.
-pub fn pair_of(family: &'static str, seed: u64, index: u64, size: ImageSize) -> Pair {
-    of_family(family, Random::for_index(seed ^ 0x1A6F, index), size)
-}
-
-fn of_family(family: &'static str, mut random: Random, size: ImageSize) -> Pair {
-    let random = &mut random;
-    let (sheet, image) = match family {
-        "lowered" => lowered(random, size),
-        "built" => built(random, size),
-        "changed" => {
-            let (sheet, mut image) = right(random, size);
-            let parts = sheet::read(&sheet).expect("an accepted sheet");
-            change(&parts, &mut image, random);
-            (sheet, image)
+/// An image of a family beside a sheet. Beside a refused one it is an image of
+/// another sheet.
+fn image(family: &str, bytes: &[u8], random: &mut Random, size: ImageSize) -> Vec<u32> {
+    let other;
+    let (bytes, sheet) = match sheet::read(bytes) {
+        Ok(sheet) => (bytes, sheet),
+        Err(_) => {
+            other = accepted(random, size);
+            (&other[..], sheet::read(&other).expect("an accepted sheet"))
         }
-        "broken" => {
-            let (sheet, image) = right(random, size);
-            let parts = sheet::read(&sheet).expect("an accepted sheet");
-            let image = broken(&parts, &image, random);
-            (sheet, image)
-        }
-        "words" => words(random, size),
-        "lengths" => lengths(random, size),
-        _ => refused(random, size),
     };
-    Pair {
-        family,
-        sheet,
-        image,
+    match family {
+        "lowered" => lowered(bytes, &sheet, random, size),
+        "built" => Builder::new(&sheet, random, size).build(),
+        "words" => words(random),
+        _ => {
+            let mut image = if random.chance(1, 3) {
+                lowered(bytes, &sheet, random, size)
+            } else {
+                Builder::new(&sheet, random, size).build()
+            };
+            match family {
+                "changed" => change(&sheet, &mut image, random),
+                "broken" => image = broken(&sheet, &image, random),
+                "lengths" => lengths(&mut image, random),
+                _ => (),
+            }
+            image
+        }
     }
 }
 
@@ -150,27 +175,11 @@ fn plain(random: &mut Random) -> Vec<u8> {
 
 // ---- right images ----
 
-fn lowered(random: &mut Random, size: ImageSize) -> (Vec<u8>, Vec<u32>) {
-    loop {
-        let sheet = accepted(random, size);
-        if let Ok(image) = crate::lower_sheet(&sheet) {
-            return (sheet, image.words);
-        }
-    }
-}
-
-fn built(random: &mut Random, size: ImageSize) -> (Vec<u8>, Vec<u32>) {
-    let sheet = accepted(random, size);
-    let parts = sheet::read(&sheet).expect("an accepted sheet");
-    let image = Builder::new(&parts, random, size).build();
-    (sheet, image)
-}
-
-fn right(random: &mut Random, size: ImageSize) -> (Vec<u8>, Vec<u32>) {
-    if random.chance(1, 3) {
-        lowered(random, size)
-    } else {
-        built(random, size)
+/// What lowering makes, or a built image where lowering refuses the sheet.
+fn lowered(bytes: &[u8], sheet: &Sheet<'_>, random: &mut Random, size: ImageSize) -> Vec<u32> {
+    match crate::lower_sheet(bytes) {
+        Ok(image) => image.words,
+        Err(_) => Builder::new(sheet, random, size).build(),
     }
 }
 
@@ -959,7 +968,7 @@ fn limits(
 
 // ---- one thing broken ----
 
-const WAYS: usize = 16;
+const WAYS: usize = 17;
 
 /// A right image with one thing broken, or brought to its edge.
 fn broken(sheet: &Sheet<'_>, image: &[u32], random: &mut Random) -> Vec<u32> {
@@ -1229,6 +1238,19 @@ fn break_one(
             let targets = [jump, jump + 1, jump.saturating_sub(1), 0];
             draft.code[jump][1] = *random.pick(&targets) as u32;
         }
+        // A CallRef that no run comes to, with no argument or any receiver.
+        15 => {
+            if draft.names.is_empty() {
+                return false;
+            }
+            let words = [0, 1, 256, 257, 512, 513, 767, 768, 769, 1_025];
+            let b = *random.pick(&words);
+            if b < 256 && sheet.locals == 0 {
+                return false;
+            }
+            let jump = [JUMP, place as u32 + 2, 0, 0];
+            draft.insert(place, &[jump, [CALL_REF, 0, b, 0]]);
+        }
         // A step in two chains, with as many operands or one less in one.
         _ => {
             let step = draft.steps.len() as u32;
@@ -1403,8 +1425,7 @@ fn nearest(draft: &ImageDraft, table: usize) -> usize {
 // ---- any words, wrong lengths, refused sheets ----
 
 /// Words behind sizes that fit them: mostly kinds and small numbers.
-fn words(random: &mut Random, size: ImageSize) -> (Vec<u8>, Vec<u32>) {
-    let sheet = accepted(random, size);
+fn words(random: &mut Random) -> Vec<u32> {
     let mut draft = ImageDraft::default();
     let few = |random: &mut Random| random.below(3);
     let wild = random.chance(1, 3);
@@ -1469,12 +1490,11 @@ fn words(random: &mut Random, size: ImageSize) -> (Vec<u8>, Vec<u32>) {
     }
     draft.max_stack = random.word();
     draft.depth = random.between(1, 3) as u32;
-    (sheet, draft.words())
+    draft.words()
 }
 
 /// Words too many or too few, and sizes whose sum passes 2^32.
-fn lengths(random: &mut Random, size: ImageSize) -> (Vec<u8>, Vec<u32>) {
-    let (sheet, mut image) = right(random, size);
+fn lengths(image: &mut Vec<u32>, random: &mut Random) {
     match random.below(8) {
         0 => {
             image.pop();
@@ -1514,33 +1534,52 @@ fn lengths(random: &mut Random, size: ImageSize) -> (Vec<u8>, Vec<u32>) {
             image[at] = image[at].wrapping_sub(1);
         }
     }
-    (sheet, image)
 }
 
-/// A sheet that is refused, or refused only by lowering, beside any image.
-fn refused(random: &mut Random, size: ImageSize) -> (Vec<u8>, Vec<u32>) {
-    let (_, image) = right(random, size);
+/// A sheet that is refused, or one that only lowering refuses.
+fn refused_sheet(random: &mut Random, size: ImageSize) -> Vec<u8> {
     if size.large && random.chance(1, 3_000) {
-        // Too many instructions emitted, or another limit passed.
+        // At a limit or past it; some emit too many instructions.
         let index = random.below(2 * crate::limits::EDGES.len()) as u64;
-        return (
-            crate::limits::sheet(index, Random::new(random.next())),
-            image,
-        );
+        return crate::limits::sheet(index, Random::new(random.next()));
     }
-    let nodes = Size {
-        nodes: size.nodes,
-        small: true,
-    };
-    if random.chance(1, 4) {
-        // A reached `eval`: accepted here.
+    if random.chance(1, 5) {
+        // A reached `eval`.
         let mut draft = Draft::new();
         let text = draft.text(KEYWORD_EVAL);
         draft.leaf(FN_CALL, [text, 0, 0], 1);
-        let sheet = draft.to_bytes();
-        let parts = sheet::read(&sheet).expect("an accepted sheet");
-        let image = Builder::new(&parts, random, size).build();
-        return (sheet, image);
+        return draft.to_bytes();
     }
-    (gen::sheet("damaged", random.next(), 0, nodes), image)
+    if size.large && random.chance(1, 60) {
+        return too_many(random);
+    }
+    let size = Size {
+        nodes: size.nodes,
+        small: true,
+    };
+    gen::sheet("damaged", random.next(), 0, size)
+}
+
+/// A switch whose cases repeat a guard until too many instructions are emitted.
+fn too_many(random: &mut Random) -> Vec<u8> {
+    let mut draft = Draft::new();
+    draft.open(SWITCH, [1, 64, 0], 1);
+    draft.leaf(UNIT, [0, 0, 0], 2);
+    // Emits 3 for each operand but the last, 64 times 64 times.
+    draft.open(COALESCE, [0, 0, 0], 3);
+    for _ in 0..random.between(23, 30) {
+        draft.leaf(THIS, [0, 0, 0], 4);
+    }
+    draft.close();
+    draft.leaf(UNIT, [0, 0, 0], 5);
+    for case in 0..64 {
+        draft.open(CASE, [0, 0, 0], 6);
+        draft.int(case, 7);
+        for _ in 0..64 {
+            draft.leaf(REF, [0, 0, 0], 8);
+        }
+        draft.close();
+    }
+    draft.close();
+    draft.to_bytes()
 }

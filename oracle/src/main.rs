@@ -2,7 +2,7 @@
 
 use oracle::format::*;
 use oracle::gen::{self, Size};
-use oracle::image_gen::ImageSize;
+use oracle::image_gen::{self, ImageSize};
 use oracle::image_selftest::ImageFigures;
 use oracle::random::Random;
 use oracle::runs::Figures;
@@ -44,6 +44,12 @@ oracle image-selftest [--seed S] [--count N] [--first I] [--small] [--places]
 oracle image-rows
     print hand-made images on both sides of each clause, one in a line:
     name ; the sheet's words ; the image's words ; number
+oracle image-vectors [--seed S] [--count N] --out FILE
+    write a binary file of small images beside sheets, the hand-made ones, some
+    beside refused sheets, and N (1800) others, in little-endian words: the number of groups, then for each group
+    the sheet's length in bytes, the number of its records, and the sheet's
+    bytes, padded with zeros to a word; then for each record the image's words,
+    the scratch's words, the number, and the words of the image
 oracle bench [--rounds R] FILE...
     time the sheet check and the lowering, in nanoseconds for each sheet
 oracle edges
@@ -180,12 +186,16 @@ fn put(out: &mut Vec<u8>, word: u32) {
     out.extend_from_slice(&word.to_le_bytes());
 }
 
-fn put_sheet(out: &mut Vec<u8>, sheet: &[u8]) {
-    put(out, sheet.len() as u32);
-    out.extend_from_slice(sheet);
+fn pad(out: &mut Vec<u8>) {
     while !out.len().is_multiple_of(4) {
         out.push(0);
     }
+}
+
+fn put_sheet(out: &mut Vec<u8>, sheet: &[u8]) {
+    put(out, sheet.len() as u32);
+    out.extend_from_slice(sheet);
+    pad(out);
 }
 
 fn write_file(path: &str, bytes: &[u8]) -> Result<(), String> {
@@ -413,6 +423,102 @@ fn run_image_selftest(arguments: &Arguments) -> Result<(), String> {
     Ok(())
 }
 
+/// The scratch for an image in the vectors: mostly of exactly its length.
+fn scratch_words(random: &mut Random, image: usize) -> usize {
+    match random.below(16) {
+        0 => image.saturating_sub(1),
+        1 => random.below(image + 1),
+        2 => image + 1,
+        3 => image + random.below(20),
+        _ => image,
+    }
+}
+
+/// A sheet and its images, each with the words of a scratch.
+type Group = (Vec<u8>, Vec<(Vec<u32>, usize)>);
+
+/// A few sheets for each of the numbers 1 to 8, beside a right and a wrong
+/// image, with enough scratch and without.
+fn refused_groups(seed: u64, groups: &mut Vec<Group>) {
+    const SHEETS: usize = 5;
+    const SHEET_BYTES: usize = 4_000;
+    let right = oracle::image_rows::rows().swap_remove(0).image;
+    let mut wrong = right.clone();
+    wrong.pop();
+    let mut left = [SHEETS; 9];
+    left[0] = 0;
+    let mut index = 0;
+    while left.iter().any(|left| *left > 0) {
+        let sheet = gen::sheet("damaged", seed, index, Size::SMALL);
+        index += 1;
+        let left = &mut left[oracle::check(&sheet) as usize];
+        if *left > 0 && sheet.len() <= SHEET_BYTES {
+            *left -= 1;
+            let records = [(&right, right.len()), (&right, 0), (&wrong, 40)];
+            let records = records.map(|(image, scratch)| (image.clone(), scratch));
+            groups.push((sheet, records.to_vec()));
+        }
+    }
+}
+
+fn run_image_vectors(arguments: &Arguments) -> Result<(), String> {
+    const IMAGE_WORDS: usize = 250;
+    const SHEET_BYTES: usize = 600;
+    let seed = arguments.number("--seed", 1)?;
+    let count = arguments.number("--count", 1_800)?;
+    let mut random = Random::new(seed ^ 0xB0F);
+    let mut groups: Vec<Group> = Vec::new();
+    for row in oracle::image_rows::rows() {
+        let bytes = row.sheet_bytes();
+        let record = (row.image.clone(), row.image.len());
+        match groups.iter_mut().find(|group| group.0 == bytes) {
+            Some(group) => group.1.push(record),
+            None => groups.push((bytes, vec![record])),
+        }
+    }
+    refused_groups(seed, &mut groups);
+    let (mut done, mut index) = (0, 0);
+    while done < count {
+        let (sheet, images) = image_gen::group(seed, index, ImageSize::SMALL, 8);
+        index += 1;
+        if sheet.len() > SHEET_BYTES {
+            continue;
+        }
+        let kept: Vec<_> = images
+            .into_iter()
+            .filter(|image| image.len() <= IMAGE_WORDS)
+            .map(|image| {
+                let words = scratch_words(&mut random, image.len());
+                (image, words)
+            })
+            .collect();
+        done += kept.len() as u64;
+        groups.push((sheet, kept));
+    }
+    let mut out = Vec::new();
+    let mut numbers = [0u64; 16];
+    put(&mut out, groups.len() as u32);
+    for (sheet, records) in &groups {
+        put(&mut out, sheet.len() as u32);
+        put(&mut out, records.len() as u32);
+        out.extend_from_slice(sheet);
+        pad(&mut out);
+        for (image, scratch) in records {
+            let number = oracle::check_image(sheet, image, &mut vec![1; *scratch]);
+            numbers[number as usize] += 1;
+            for word in [image.len() as u32, *scratch as u32, number] {
+                put(&mut out, word);
+            }
+            for word in image {
+                put(&mut out, *word);
+            }
+        }
+    }
+    write_file(arguments.text("--out")?, &out)?;
+    report(&numbers);
+    Ok(())
+}
+
 fn run_bench(arguments: &Arguments) -> Result<(), String> {
     let rounds = arguments.number("--rounds", 0)?;
     let sheets: Vec<Vec<u8>> = arguments
@@ -559,6 +665,7 @@ fn main() -> ExitCode {
         "table" => run_table(&arguments).map(|()| true),
         "selftest" => run_selftest(&arguments).map(|()| true),
         "image-selftest" => run_image_selftest(&arguments).map(|()| true),
+        "image-vectors" => run_image_vectors(&arguments).map(|()| true),
         "image-rows" => {
             for row in oracle::image_rows::rows() {
                 let (sheet, image) = (joined(&row.sheet), joined(&row.image));
