@@ -213,6 +213,8 @@ struct Builder<'r> {
     length: usize,
     /// The depth that is not gone far above.
     deepest: i64,
+    /// Many Switches, on few tables and rows.
+    switchy: bool,
 }
 
 const BITS: &[u32] = &[0, 1, 5, 97, 0x7FF8_0000, 0xFFF8_0001, 0x8000_0000, u32::MAX];
@@ -227,6 +229,7 @@ impl<'r> Builder<'r> {
             4..=60 if size.large => (length + 300, 290),
             _ => (length, deepest),
         };
+        let switchy = random.chance(1, 6) && length < 400;
         Builder {
             random,
             draft: ImageDraft::default(),
@@ -237,6 +240,7 @@ impl<'r> Builder<'r> {
             depth: Some(0),
             length,
             deepest,
+            switchy,
         }
     }
 
@@ -302,6 +306,11 @@ impl<'r> Builder<'r> {
             self.draft.residuals.push(node);
         }
         self.steps_and_chains();
+        if self.deepest > 65_000 {
+            let steps = self.draft.steps.len() as u32;
+            self.draft.chains.push([2, 0, 9, steps, 0, 65_535]);
+            self.draft.chains.push([3, 0, 0, steps, 0, 65_535]);
+        }
     }
 
     fn name(&mut self) -> u32 {
@@ -386,7 +395,7 @@ impl<'r> Builder<'r> {
                 return;
             }
         }
-        self.take(place, 1, 3);
+        self.take(place, 1, if self.switchy { 12 } else { 3 });
     }
 
     /// Lets some of the open targets that fit come to a place.
@@ -415,6 +424,16 @@ impl<'r> Builder<'r> {
 
     /// One more instruction, of any kind that can stand here.
     fn emit(&mut self) {
+        if self.switchy && self.depth.is_some_and(|depth| depth > 0) && self.random.chance(1, 2) {
+            // A Switch with a way past it.
+            let past = self.draft.code.len() as u32 + 2;
+            let depth = self.depth;
+            self.draft.code.push([SKIP_IF_NOT_UNIT, past, 0, 0]);
+            let table = self.table();
+            self.push([OP_SWITCH, table, 0, 0]);
+            self.depth = depth;
+            return;
+        }
         let kind = match self.depth {
             Some(depth) if depth < self.deepest && self.random.chance(1, 3) => {
                 *self.random.pick(&[CONST, OP_UNIT, OP_BOOL, LOAD_THIS])
@@ -968,7 +987,7 @@ fn limits(
 
 // ---- one thing broken ----
 
-const WAYS: usize = 17;
+const WAYS: usize = 18;
 
 /// A right image with one thing broken, or brought to its edge.
 fn broken(sheet: &Sheet<'_>, image: &[u32], random: &mut Random) -> Vec<u32> {
@@ -1250,6 +1269,32 @@ fn break_one(
             }
             let jump = [JUMP, place as u32 + 2, 0, 0];
             draft.insert(place, &[jump, [CALL_REF, 0, b, 0]]);
+        }
+        // Two Switches at depths one apart, on tables that share a row or not;
+        // the second's default gives the value more back.
+        16 => {
+            let (first, tables) = (draft.cases.len() as u32, draft.tables.len() as u32);
+            if draft.constants.is_empty() {
+                return false;
+            }
+            let at = place as u32;
+            draft.insert(
+                place,
+                &[
+                    UNIT_OP,
+                    [SKIP_IF_NOT_UNIT, at + 3, 0, 0],
+                    [OP_SWITCH, tables, 0, 0],
+                    UNIT_OP,
+                    [OP_SWITCH, tables + 1, 0, 0],
+                    POP_OP,
+                    POP_OP,
+                ],
+            );
+            draft.cases.push([at + 6, 0]);
+            draft.tables.push([0, first, 1, at + 6]);
+            let rows = random.below(2) as u32;
+            draft.tables.push([0, first, rows, at + 5]);
+            report_depth(draft, depth + 2);
         }
         // A step in two chains, with as many operands or one less in one.
         _ => {
@@ -1565,9 +1610,9 @@ fn too_many(random: &mut Random) -> Vec<u8> {
     let mut draft = Draft::new();
     draft.open(SWITCH, [1, 64, 0], 1);
     draft.leaf(UNIT, [0, 0, 0], 2);
-    // Emits 3 for each operand but the last, 64 times 64 times.
+    // Emits 3 for each operand but the last, and is named 2,080 times.
     draft.open(COALESCE, [0, 0, 0], 3);
-    for _ in 0..random.between(23, 30) {
+    for _ in 0..random.between(43, 50) {
         draft.leaf(THIS, [0, 0, 0], 4);
     }
     draft.close();
@@ -1575,7 +1620,7 @@ fn too_many(random: &mut Random) -> Vec<u8> {
     for case in 0..64 {
         draft.open(CASE, [0, 0, 0], 6);
         draft.int(case, 7);
-        for _ in 0..64 {
+        for _ in 0..=case {
             draft.leaf(REF, [0, 0, 0], 8);
         }
         draft.close();

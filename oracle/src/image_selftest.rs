@@ -11,7 +11,7 @@ use crate::image_runs;
 use crate::sheet;
 
 /// Steps that brute force takes at most for an image.
-const MOST_STEPS: usize = 20_000;
+const MOST_STEPS: usize = 3_000;
 
 #[derive(Default)]
 pub struct ImageFigures {

@@ -96,15 +96,15 @@ fn what_lowering_makes_at_its_limits_is_well_made() {
 #[test]
 fn brute_force_agrees() {
     let mut figures = ImageFigures::default();
-    image_selftest::series(7, 0, 60_000, ImageSize::SMALL, &mut figures).unwrap();
-    image_selftest::series(8, 0, 40_000, ImageSize::NORMAL, &mut figures).unwrap();
-    assert!(figures.decided > 90_000);
+    image_selftest::series(7, 0, 40_000, ImageSize::SMALL, &mut figures).unwrap();
+    image_selftest::series(8, 0, 30_000, ImageSize::NORMAL, &mut figures).unwrap();
+    assert!(figures.decided > 60_000);
     for clause in CLAUSES {
         let count = figures.clauses.get(clause).copied().unwrap_or(0);
         assert!(count >= 100, "{clause:?} fails first {count} times");
     }
-    assert!(figures.numbers[0] > 30_000);
-    assert!(figures.numbers[13] > 30_000);
+    assert!(figures.numbers[0] > 20_000);
+    assert!(figures.numbers[13] > 20_000);
     for family in FAMILIES {
         assert!(figures.families.contains_key(family), "no {family}");
     }
