@@ -434,8 +434,8 @@ impl<'i> Parts<'i> {
                 2 => 1,
                 _ => 0,
             };
-            for word in 1..=names {
-                below(at + word, step[word], sizes.names);
+            for (word, name) in step.iter().enumerate().skip(1).take(names) {
+                below(at + word, *name, sizes.names);
             }
         }
         for (at, case) in self.cases() {
@@ -640,11 +640,11 @@ impl<'i> Parts<'i> {
                 target if target == end => None,
                 target => depths[target],
             };
-            let most = targets.iter().map(|target| known(target));
-            let least = targets.iter().map(|target| known(target));
+            let most = |target: &u32| known(target).unwrap_or(NONE);
+            let least = |target: &u32| known(target).map_or(NONE, |depth| -depth);
             (
-                Greatest::of(most.map(|depth| depth.unwrap_or(NONE)).collect()),
-                Greatest::of(least.map(|depth| depth.map_or(NONE, |d| -d)).collect()),
+                Greatest::of(targets.iter().map(most).collect()),
+                Greatest::of(targets.iter().map(least).collect()),
             )
         });
         for (place, (at, op)) in self.code().enumerate() {

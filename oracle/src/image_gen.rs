@@ -161,8 +161,8 @@ fn plain(random: &mut Random) -> Vec<u8> {
     let mut draft = Draft::new();
     draft.leaf(UNIT, [0, 0, 0], random.word());
     for _ in 0..random.below(3) {
-        let bytes: &[u8] = *random.pick(&[b"a".as_slice(), b"", b"xy"]);
-        draft.text(bytes);
+        let bytes = *random.pick(&["a", "", "xy"]);
+        draft.text(bytes.as_bytes());
     }
     if !draft.texts.is_empty() {
         for _ in 0..random.below(4) {
@@ -1018,10 +1018,24 @@ fn reached(depths: &[Option<i64>], random: &mut Random) -> (usize, i64) {
 const UNIT_OP: [u32; CODE_WORDS] = [OP_UNIT, 0, 0, 0];
 const POP_OP: [u32; CODE_WORDS] = [POP, 0, 0, 0];
 
-/// Sets the reported depth where the code has grown, so that nothing else is
-/// wrong; the same walk as the check's, but never refusing.
+/// The reported depth where the code now goes so deep.
 fn report_depth(draft: &mut ImageDraft, at_least: i64) {
     draft.depth = draft.depth.max(at_least.max(0) as u32);
+}
+
+/// An instruction that changes the depth so, and Units or Pops that change it
+/// back.
+fn insert_and_put_back(
+    draft: &mut ImageDraft,
+    place: usize,
+    op: [u32; CODE_WORDS],
+    (before, after): (i64, i64),
+) {
+    let back = if after < before { UNIT_OP } else { POP_OP };
+    let mut code = vec![op];
+    code.extend(std::iter::repeat_n(back, before.abs_diff(after) as usize));
+    draft.insert(place, &code);
+    report_depth(draft, after);
 }
 
 /// True if there was something to break in this way.
@@ -1147,15 +1161,7 @@ fn break_one(
                 return false;
             }
             let after = depth - i64::from(pops) + 1;
-            let mut code = vec![op];
-            for _ in after..depth {
-                code.push(UNIT_OP);
-            }
-            for _ in depth..after {
-                code.push(POP_OP);
-            }
-            draft.insert(place, &code);
-            report_depth(draft, after);
+            insert_and_put_back(draft, place, op, (depth, after));
         }
         // A single pop, a pair of values appended, or an end, with what is
         // there or without; put back.
@@ -1187,15 +1193,7 @@ fn break_one(
             let index = draft.chains.len() as u32;
             draft.chains.push(chain);
             let after = depth - i64::from(pops) + 1;
-            let mut code = vec![[OP_CHAIN, index, 0, 0]];
-            for _ in after..depth {
-                code.push(UNIT_OP);
-            }
-            for _ in depth..after {
-                code.push(POP_OP);
-            }
-            draft.insert(place, &code);
-            report_depth(draft, after);
+            insert_and_put_back(draft, place, [OP_CHAIN, index, 0, 0], (depth, after));
         }
         // A second Switch on a table, in code that no run comes to, at any
         // place: before all the table's targets, or not.
