@@ -1,13 +1,13 @@
-/* The proved library, target/staticlib/libapi.a: the check of a sheet, and its lowering into an image.
+/* The proved library, target/staticlib/libapi.a: the check of a sheet, its lowering into an image, and the check of an image beside its sheet.
  *
  * The formats of sheet and image, word by word, are in docs/FORMAT.md. What the comments here say of answers and buffers is proved of the functions
  * for every sheet and every buffer (docs/PROOFS.md); the caller's duties are these:
  *
  *  - each pointer is not null, is aligned for its type, and points to as many elements as the length beside it says, also where that length is 0;
- *  - `image`, `scratch` and `words` are writable, and no two of the four areas overlap;
- *  - nothing else writes to any of them, or reads `image`, `scratch` or `words`, until the call returns.
+ *  - what is not `const` is writable, and overlaps no other area of the call;
+ *  - until the call returns, nothing else writes to any of the areas, or reads one that is not `const`.
  *
- * There is no other duty: any bytes are taken as a sheet. The functions use no heap and no global variable, make no system call, keep nothing between
+ * There is no other duty: any bytes are taken as a sheet, and any words as an image to check. The functions use no heap and no global variable, make no system call, keep nothing between
  * calls and always return, so they may run in several threads at once, each with its own buffers, and again from an interrupted call. Of the C library
  * they need memcpy and memset alone. The compiled code uses SSE registers to move data.
  */
@@ -21,9 +21,10 @@
 extern "C" {
 #endif
 
-/* What sheet_lower answers. Where several causes hold, the lowest number is the answer. */
+/* What the functions answer. Where several causes hold, the lowest number is the answer. */
 enum sheet_number {
-    SHEET_LOWERED = 0,
+    SHEET_LOWERED = 0,        /* sheet_lower: lowered */
+    SHEET_WELL_MADE = 0,      /* sheet_check_image: the image is well made */
     SHEET_SIZE = 1,           /* length, padding or a size is wrong */
     SHEET_SHAPE = 2,          /* a node's kind, shape or field is wrong */
     SHEET_TEXT = 3,           /* a text lies outside its bytes, or is malformed */
@@ -34,8 +35,9 @@ enum sheet_number {
     SHEET_UNSUPPORTED = 8,    /* kind 23, 24 or 25; FnCall `curry` with over one argument */
     SHEET_EVAL = 9,           /* lowering reaches an FnCall `eval` */
     SHEET_EMITTED = 10,       /* over 262,143 instructions emitted, those taken back included */
-    SHEET_SCRATCH_SHORT = 11, /* scratch below 16 words per emitted instruction, plus 16 per node, plus 4,096 */
-    SHEET_IMAGE_LONG = 12     /* the finished image is longer than its buffer */
+    SHEET_SCRATCH_SHORT = 11, /* scratch below 16 words per emitted instruction, plus 16 per node, plus 4,096; of an image check: below image_len */
+    SHEET_IMAGE_LONG = 12,    /* the finished image is longer than its buffer */
+    SHEET_ILL_MADE = 13       /* the image is not well made */
 };
 
 /* Scratch words for a sheet that emits `emitted` instructions and has `nodes` nodes. */
@@ -65,6 +67,23 @@ uint32_t sheet_lower(const uint8_t *sheet, size_t sheet_len,
                      uint32_t *image, size_t image_len,
                      uint32_t *scratch, size_t scratch_len,
                      uint64_t *words);
+
+/* Checks that the `image_len` words of `image` are an image that is well made for the sheet, with the help of `scratch`, which has `scratch_len` words:
+ * `image_len` or more.
+ *
+ * Returns 0, or the first of the numbers 1 to 8, 11 and 13 that fits. Every image that sheet_lower makes of a sheet is well made for it; so may be images
+ * of another compiler, and what they do is not compared with what the sheet says. The image is exactly the `image_len` words: in a longer buffer, pass
+ * the word count of the image, not the buffer's length. What the scratch held before does not matter.
+ *
+ *   returned     scratch
+ *   0, 13        all `scratch_len` words are 0
+ *   1 to 8, 11   kept
+ *
+ * Sheet and image are only read.
+ */
+uint32_t sheet_check_image(const uint8_t *sheet, size_t sheet_len,
+                           const uint32_t *image, size_t image_len,
+                           uint32_t *scratch, size_t scratch_len);
 
 #ifdef __cplusplus
 }
