@@ -1,6 +1,7 @@
-//! The proved lowering of rule sheets (`include/sheet_lower.h`), as safe functions without dependencies and without a heap.
+//! The proved lowering of rule sheets into images, and the check of an image beside its sheet (`include/sheet_lower.h`), as safe functions without
+//! dependencies and without a heap.
 //!
-//! What is said of answers and buffers is proved of the library for every sheet and every buffer.
+//! What is said of answers and buffers is proved of the library for every sheet, every image and every buffer.
 
 #![no_std]
 
@@ -33,10 +34,19 @@ mod sys {
             scratch_len: usize,
             words: *mut u64,
         ) -> u32;
+
+        pub fn sheet_check_image(
+            sheet: *const u8,
+            sheet_len: usize,
+            image: *const u32,
+            image_len: usize,
+            scratch: *mut u32,
+            scratch_len: usize,
+        ) -> u32;
     }
 }
 
-/// Why a sheet is turned down: the first of the numbers 1 to 12 that fits.
+/// Why a sheet or an image is refused: the first of the numbers 1 to 13 that fits.
 #[derive(Clone, Copy, Debug, PartialEq, Eq)]
 pub struct Refused(pub u32);
 
@@ -56,6 +66,7 @@ impl Refused {
             10 => "over 262,143 instructions emitted",
             11 => "the scratch is too short",
             12 => "the image is longer than its buffer",
+            13 => "the image is not well made",
             _ => "unknown",
         }
     }
@@ -100,5 +111,30 @@ pub fn lower<'a>(sheet: &[u8], image: &'a mut [u32], scratch: &mut [u32]) -> Res
         Ok(&image[..words as usize])
     } else {
         Err(Refused(number))
+    }
+}
+
+/// Checks that an image is well made for its sheet, with a scratch of at least as many words as the image has.
+///
+/// Every image that `lower` makes of a sheet is well made for it; so may be images of another compiler, and what they do is not compared with what the
+/// sheet says. The image is all of `image`: of a longer buffer, lend the part that the image fills.
+///
+/// On success and under the number 13 all of the scratch is zeroed. Under 1 to 8 (the sheet's own) and 11 (the scratch is too short) it is kept. No other
+/// number occurs.
+pub fn check_image(sheet: &[u8], image: &[u32], scratch: &mut [u32]) -> Result<(), Refused> {
+    // Pointers and lengths are those of three slices, of which the mutable one overlaps neither of the others, as Rust's references see to.
+    let number = unsafe {
+        sys::sheet_check_image(
+            sheet.as_ptr(),
+            sheet.len(),
+            image.as_ptr(),
+            image.len(),
+            scratch.as_mut_ptr(),
+            scratch.len(),
+        )
+    };
+    match number {
+        0 => Ok(()),
+        number => Err(Refused(number)),
     }
 }
