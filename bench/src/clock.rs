@@ -14,6 +14,15 @@ pub fn now() -> f64 {
     time[0] as f64 * 1e9 + time[1] as f64
 }
 
+/// Nanoseconds of one of so many calls.
+pub fn time(calls: u32, mut run: impl FnMut()) -> f64 {
+    let start = now();
+    for _ in 0..calls {
+        run();
+    }
+    (now() - start) / f64::from(calls)
+}
+
 pub fn median(times: &mut [f64]) -> f64 {
     times.sort_by(f64::total_cmp);
     times[times.len() / 2]

@@ -1,11 +1,13 @@
-//! The proved library and the sheets that it is timed on.
+//! The proved library, and the sheets and images that it is timed on.
 
 pub mod clock;
+pub mod images;
 pub mod sheets;
+pub mod stack;
 pub mod workloads;
 
 extern "C" {
-    /// crates/api. All ask nothing of their caller; a slice goes as a pointer and a length.
+    /// crates/api. They ask nothing of their caller; a slice goes as a pointer and a length.
     fn sheet_check(sheet: *const u8, length: usize) -> u32;
     fn sheet_lower(
         sheet: *const u8,
@@ -50,7 +52,7 @@ pub fn lower(sheet: &[u8], image: &mut [u32], scratch: &mut [u32]) -> (u32, u64)
     (number, words)
 }
 
-/// The proved check of an image beside its sheet: 0, 1 to 8, 11 or 13.
+/// The proved check of an image beside its sheet: 0, or the first of the numbers 1 to 8, 11 and 13 that fits.
 pub fn check_image(sheet: &[u8], image: &[u32], scratch: &mut [u32]) -> u32 {
     // Pointers and lengths are those of slices; the one that is written to is lent alone.
     unsafe {

@@ -8,6 +8,72 @@ use oracle::random::Random;
 pub const NODES: usize = MAX_NODES as usize;
 pub const LOCALS: usize = MAX_LOCALS as usize;
 
+/// A sheet with a name.
+pub type Named = (String, Vec<u8>);
+
+/// The sheets that the lowering is timed on.
+pub fn timed() -> Vec<Named> {
+    let mut all: Vec<Named> = vec![
+        ("rule".into(), rule()),
+        ("port".into(), port()),
+        ("switch".into(), switch(true)),
+        ("switch with guards".into(), switch(false)),
+        ("wide calls".into(), wide()),
+        ("deep chain".into(), deep_chain()),
+        ("full".into(), mixed(NODES)),
+    ];
+    for count in [1_000, 5_000, 20_000] {
+        all.push((format!("names {count}"), names(count)));
+    }
+    for count in [1_000, 5_000, 20_000] {
+        all.push((format!("constants {count}"), constants(count)));
+    }
+    for count in [1_000, 5_000, 20_000] {
+        all.push((format!("strings {count}"), strings(count)));
+    }
+    for count in [1_000, 5_000, 20_000] {
+        all.push((format!("chains {count}"), chains(count)));
+    }
+    for count in [1_000, 5_000, 20_000] {
+        all.push((format!("operators {count}"), operators(count)));
+    }
+    for count in [100, 1_000, 10_000] {
+        all.push((format!("locals {count}"), locals(count, 5_000)));
+    }
+    for nodes in [1_000, 4_000, 16_000, 65_536, NODES] {
+        all.push((format!("nodes {nodes}"), mixed(nodes)));
+    }
+    for nodes in [1_000, 4_000, 16_000, 65_536, NODES] {
+        all.push((format!("no pools {nodes}"), unpooled(nodes)));
+    }
+    all
+}
+
+/// The sheets that the stack is measured on: all depths and tables full.
+pub fn deep() -> Vec<Named> {
+    let list: Vec<(&str, Vec<u8>)> = vec![
+        ("refused with 1", vec![0]),
+        ("rule", rule()),
+        ("64 arrays", levels(ARRAY)),
+        ("64 interpolated", levels(INTERPOLATED)),
+        ("64 calls", levels(FN_CALL)),
+        ("64 ands", levels(AND)),
+        ("64 coalesces", levels(COALESCE)),
+        ("64 dots by roots", levels(DOT)),
+        ("64 indexes by roots", levels(INDEX)),
+        ("64 indexes by operands", operand_levels()),
+        ("62 methods", method_levels()),
+        ("63 links", deep_chain()),
+        ("switch, full tables", tables(true, 64)),
+        ("switch, calls in bodies", full_switch(FN_CALL)),
+        ("switch, ands in bodies", full_switch(AND)),
+        ("switch, coalesces in bodies", full_switch(COALESCE)),
+    ];
+    list.into_iter()
+        .map(|(name, sheet)| (name.to_string(), sheet))
+        .collect()
+}
+
 /// A typical rule of 37 nodes.
 pub fn rule() -> Vec<u8> {
     workloads::workload("rule").sheet

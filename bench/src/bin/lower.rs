@@ -7,61 +7,12 @@
 //! Rust lowering of a tree that has been read before, without the image. Then ours by passes, in nanoseconds: the check; the count; the
 //! lowering into the scratch, which is cleared behind it; the image's sections.
 
-use bench::clock::{least, now};
+use bench::clock::{least, time};
 use bench::sheets;
 use oracle::grain::compile::Lowering;
 use oracle::tree::{self, Whole};
 use std::hint::black_box;
 use std::time::{Duration, Instant};
-
-/// A sheet with a name.
-type Named = (String, Vec<u8>);
-
-fn all() -> Vec<Named> {
-    let mut all: Vec<Named> = vec![
-        ("rule".into(), sheets::rule()),
-        ("port".into(), sheets::port()),
-        ("switch".into(), sheets::switch(true)),
-        ("switch with guards".into(), sheets::switch(false)),
-        ("wide calls".into(), sheets::wide()),
-        ("deep chain".into(), sheets::deep_chain()),
-        ("full".into(), sheets::mixed(sheets::NODES)),
-    ];
-    for count in [1_000, 5_000, 20_000] {
-        all.push((format!("names {count}"), sheets::names(count)));
-    }
-    for count in [1_000, 5_000, 20_000] {
-        all.push((format!("constants {count}"), sheets::constants(count)));
-    }
-    for count in [1_000, 5_000, 20_000] {
-        all.push((format!("strings {count}"), sheets::strings(count)));
-    }
-    for count in [1_000, 5_000, 20_000] {
-        all.push((format!("chains {count}"), sheets::chains(count)));
-    }
-    for count in [1_000, 5_000, 20_000] {
-        all.push((format!("operators {count}"), sheets::operators(count)));
-    }
-    for count in [100, 1_000, 10_000] {
-        all.push((format!("locals {count}"), sheets::locals(count, 5_000)));
-    }
-    for nodes in [1_000, 4_000, 16_000, 65_536, sheets::NODES] {
-        all.push((format!("nodes {nodes}"), sheets::mixed(nodes)));
-    }
-    for nodes in [1_000, 4_000, 16_000, 65_536, sheets::NODES] {
-        all.push((format!("no pools {nodes}"), sheets::unpooled(nodes)));
-    }
-    all
-}
-
-/// Nanoseconds for one call.
-fn time(calls: u32, mut run: impl FnMut()) -> f64 {
-    let start = now();
-    for _ in 0..calls {
-        run();
-    }
-    (now() - start) / f64::from(calls)
-}
 
 /// Runs a sheet until its time is over, and prints its line.
 fn run(name: &str, sheet: &[u8], limit: Duration) {
@@ -174,7 +125,7 @@ fn main() {
         "image",
         "runs"
     );
-    for (name, sheet) in all() {
+    for (name, sheet) in sheets::timed() {
         if names.is_empty() || names.iter().any(|part| name.contains(part.as_str())) {
             run(&name, &sheet, Duration::from_secs_f64(seconds));
         }

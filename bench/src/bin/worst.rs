@@ -1,77 +1,19 @@
 //! The stack that a lowering uses, and hostile sheets with the time of each pass.
 //!
 //! `worst [stack] [NAME...]`: with `stack` only the stack; else both, of the sheets whose names contain one of NAME.
-//!
-//! The stack is measured by running the call on a painted stack of its own, and looking for the lowest word that changed.
 
 use bench::clock::now;
+use bench::stack::stack_of;
 use bench::{sheets, workloads};
 use oracle::format::*;
-use std::arch::asm;
 use std::hint::black_box;
 
-const STACK_WORDS: usize = 1 << 20;
-const PAINT: u64 = 0xA5A5_5A5A_C3C3_3C3C;
-
-/// What runs on the painted stack.
-struct Call<'a> {
-    run: &'a mut dyn FnMut(),
-}
-
-extern "C" fn enter(call: *mut Call<'_>) {
-    // The pointer is to a call that outlives this one.
-    unsafe { ((*call).run)() }
-}
-
-/// The bytes of stack that `run` touches.
-fn stack_of(run: &mut dyn FnMut()) -> usize {
-    let mut stack = vec![PAINT; STACK_WORDS];
-    let mut call = Call { run };
-    // A call needs a stack that is a multiple of 16 bytes.
-    let top = (stack.as_mut_ptr() as usize + 8 * STACK_WORDS) & !15;
-    // The stack pointer is put back before anything else runs; r12 keeps it, and callees keep r12.
-    unsafe {
-        asm!(
-            "mov r12, rsp",
-            "mov rsp, {top}",
-            "call {enter}",
-            "mov rsp, r12",
-            top = in(reg) top,
-            enter = sym enter,
-            in("rdi") &mut call,
-            out("r12") _,
-            clobber_abi("C"),
-        );
-    }
-    let untouched = stack.iter().take_while(|word| **word == PAINT).count();
-    assert!(untouched > 0, "the stack is too small");
-    top - (stack.as_ptr() as usize + 8 * untouched)
-}
-
 fn stack(names: &[String]) {
-    let sheets: Vec<(&str, Vec<u8>)> = vec![
-        ("refused with 1", vec![0]),
-        ("rule", sheets::rule()),
-        ("64 arrays", sheets::levels(ARRAY)),
-        ("64 interpolated", sheets::levels(INTERPOLATED)),
-        ("64 calls", sheets::levels(FN_CALL)),
-        ("64 ands", sheets::levels(AND)),
-        ("64 coalesces", sheets::levels(COALESCE)),
-        ("64 dots by roots", sheets::levels(DOT)),
-        ("64 indexes by roots", sheets::levels(INDEX)),
-        ("64 indexes by operands", sheets::operand_levels()),
-        ("62 methods", sheets::method_levels()),
-        ("63 links", sheets::deep_chain()),
-        ("switch, full tables", sheets::tables(true, 64)),
-        ("switch, calls in bodies", sheets::full_switch(FN_CALL)),
-        ("switch, ands in bodies", sheets::full_switch(AND)),
-        ("switch, coalesces in bodies", sheets::full_switch(COALESCE)),
-    ];
     println!(
         "{:<30}{:>4}{:>14}{:>14}{:>14}",
         "stack in bytes", "no", "check", "lower", "Rust lower"
     );
-    for (name, sheet) in sheets {
+    for (name, sheet) in sheets::deep() {
         if !names.is_empty() && !names.iter().any(|part| name.contains(part.as_str())) {
             continue;
         }
