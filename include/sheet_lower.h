@@ -7,9 +7,9 @@
  *  - what is not `const` is writable, and overlaps no other area of the call;
  *  - until the call returns, nothing else writes to any of the areas, or reads one that is not `const`.
  *
- * There is no other duty: any bytes are taken as a sheet, and any words as an image to check. The functions use no heap and no global variable, make no system call, keep nothing between
- * calls and always return, so they may run in several threads at once, each with its own buffers, and again from an interrupted call. Of the C library
- * they need memcpy and memset alone. The compiled code uses SSE registers to move data.
+ * There is no other duty: any bytes are taken as a sheet, and any words as an image to check. The functions use no heap and no global variable,
+ * make no system call, keep nothing between calls and always return, so they may run in several threads at once, each with its own buffers, and
+ * again from an interrupted call. Of the C library they need memcpy and memset alone. The compiled code uses SSE registers to move data.
  */
 #ifndef SHEET_LOWER_H
 #define SHEET_LOWER_H
