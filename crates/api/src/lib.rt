@@ -2,6 +2,8 @@
 ghost use mathlib.Core.Path.{_≡_};
 ghost use Rattle.checks.specs.Checked.{numberOf, checked};
 ghost use Rattle.api.specs.Given.{Given};
+ghost use Rattle.image_check.specs.Answer.{Answers};
+use image_check::check_image;
 use to_image::Answer;
 use to_image::lower;
 
@@ -33,4 +35,13 @@ pub extern "C" fn sheet_lower(
             number
         }
     }
+}
+
+// Whether `image`, exactly its words, is well made for `sheet`: 0, or the first that fits of the sheet's refusals 1 to 8, 11 for a scratch shorter
+// than the image, and 13.
+#[no_mangle]
+pub extern "C" fn sheet_check_image(sheet: &[u8], image: &[u32], scratch: &mut [u32]) -> u32
+    ensures { λ r. ⌜ Answers (now (sheet .entry)) (now (image .entry)) (now (scratch .entry)) r (now (scratch .exit)) ⌝ }
+{
+    check_image(sheet, image, scratch)
 }

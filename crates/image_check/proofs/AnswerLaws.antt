@@ -6,8 +6,8 @@ use mathlib.Core.List.{List}
 use native.Mathlib.Omega.{arith}
 use borrow.Author.Tests.{lt-ltb, le-ltb}
 use lib.Dec.{ltb}
-use lib.ListN.{length}
-use Rattle.zeros.specs.Zeros.{zeros}
+use lib.ListN.{length, length-replicate}
+use Rattle.zeros.specs.Zeros.{zeros, Zeroed}
 use Rattle.checks.specs.Checked.{numberOf, checked}
 use Rattle.lowering.specs.Limits.{scratchTooShort}
 use Rattle.wellmade.specs.Limits.{notWellMade}
@@ -102,13 +102,18 @@ unfolding imageNumber
 ends-short s w xs n e z h =
     by-number s w xs xs _ (sym (number-short s w xs _ (sym e ∙ z) h)) (scratch-short s w xs _ (sym e ∙ z) h)
 
-module _ (s w xs xs′ : List ℕ) (n : ℕ) (e : n ≡ numberOf (checked s)) (z : n ≡ 0) (h : length w ≤ length xs) (f : xs′ ≡ zeros (length xs)) where
+-- as many zeros as there were words
+all-zeros : (xs ys xs′ : List ℕ) → Zeroed ys xs′ → length xs′ ≡ length xs → xs′ ≡ zeros (length xs)
+all-zeros xs ys xs′ e h = e .is ∙ ap zeros (sym (length-replicate {A = ℕ} (length ys) 0) ∙ sym (ap length (e .is)) ∙ h)
+
+module _ (s w xs ys xs′ : List ℕ) (n : ℕ) (e : n ≡ numberOf (checked s)) (z : n ≡ 0) (h : length w ≤ length xs)
+    (f : Zeroed ys xs′) (g : length xs′ ≡ length xs) where
   pub ends-made : wellMade s w ≡ true → Answers s w xs 0 xs′
   unfolding imageNumber
   ends-made t =
-      by-number s w xs xs′ _ (sym (number-made s w xs _ (sym e ∙ z) h t)) (f ∙ scratch-zeroed s w xs _ (sym e ∙ z) h)
+      by-number s w xs xs′ _ (sym (number-made s w xs _ (sym e ∙ z) h t)) (all-zeros xs ys xs′ f g ∙ scratch-zeroed s w xs _ (sym e ∙ z) h)
 
   pub ends-unmade : wellMade s w ≡ false → Answers s w xs notWellMade xs′
   unfolding imageNumber
   ends-unmade t =
-      by-number s w xs xs′ _ (sym (number-unmade s w xs _ (sym e ∙ z) h t)) (f ∙ scratch-zeroed s w xs _ (sym e ∙ z) h)
+      by-number s w xs xs′ _ (sym (number-unmade s w xs _ (sym e ∙ z) h t)) (all-zeros xs ys xs′ f g ∙ scratch-zeroed s w xs _ (sym e ∙ z) h)

@@ -36,14 +36,34 @@ moved true true true true true = refl
 abbrev pub depthsRight : List ℕ → Bool
 depthsRight w = marksRight w (marked w (marksThere w) (instructions w))
 
-both : {a b : Bool} → (a && b) ≡ true → (a ≡ true) × (b ≡ true)
-both {a} {b} h = and-eq-true-iff a b .0 h
+-- of ten tests that hold, the first, the sixth and the eighth
+three : (a b c d e f g h i j : Bool) → (a && b && c && d && e && f && g && h && i && j) ≡ true → (a ≡ true) × ((f ≡ true) × (h ≡ true))
+three a b c d e f g h i j t =
+    let nine = and-eq-true-iff (a && b && c && d && e && f && g && h && i) j .0 t .0 in
+    let eight = and-eq-true-iff (a && b && c && d && e && f && g && h) i .0 nine .0 in
+    let seven = and-eq-true-iff (a && b && c && d && e && f && g) h .0 eight in
+    let six = and-eq-true-iff (a && b && c && d && e && f) g .0 (seven .0) .0 in
+    let five = and-eq-true-iff (a && b && c && d && e) f .0 six in
+    let four = and-eq-true-iff (a && b && c && d) e .0 (five .0) .0 in
+    let more = and-eq-true-iff (a && b && c) d .0 four .0 in
+    let two = and-eq-true-iff (a && b) c .0 more .0 in
+    (and-eq-true-iff a b .0 two .0, (five .1, seven .1))
 
 and-false : (a b : Bool) → a ≡ false → (a && b) ≡ false
 and-false a b e = ap (λ (x : Bool). x && b) e
 
 and-true : (a b : Bool) → a ≡ true → (a && b) ≡ b
 and-true a b e = ap (λ (x : Bool). x && b) e
+
+-- sizes that agree
+there : (w : List ℕ) → sizesAgree w ≡ true → (sizesWords ≤ length w) × (length w ≡ endAt w)
+unfolding sizesAgree
+there w a =
+    let parts = and-eq-true-iff (leb sizesWords (length w)) (eqb (length w) (endAt w)) .0 a in
+    (leb-true sizesWords (length w) (parts .0), eqb-true (length w) (endAt w) (parts .1))
+
+pub sized : (w l : List ℕ) → sizesAgree w ≡ true → length l ≡ length w → Sized w l
+sized w l a e = record { ends = there w a .1; room = omega (arith, e) }
 
 module _ (s w : List ℕ) where
   words-are : wordsRight s w ≡ (fieldsRight s w && operandsRight w)
@@ -73,23 +93,21 @@ module _ (s w : List ℕ) where
     fields-fail z =
         sym (after-sizes ∙ and-false _ (depthsRight w) (and-false _ (targetsRight w) (and-false (fieldsRight s w) (operandsRight w) z)))
 
-    pub sized : (l : List ℕ) → length l ≡ length w → Sized w l
-    unfolding sizesAgree
-    sized l e = record { ends = eqb-true (length w) (endAt w) (both a .1); room = omega arith }
-
     module _ (f : fieldsRight s w ≡ true) where
       after-fields : wellMade s w ≡ (operandsRight w && targetsRight w && depthsRight w)
       after-fields = after-sizes ∙ ap (λ (x : Bool). (x && operandsRight w) && targetsRight w && depthsRight w) f
 
-      pub chains : ChainsLie w
+      sections : (test.codeRight s w ≡ true) × ((test.chainsRight s w ≡ true) × (test.switchesRight w ≡ true))
       unfolding fieldsRight
-      chains = chains-lie s w (both (both (both (both (both f .0) .0) .0) .0) .1)
+      sections =
+          three (test.codeRight s w) (test.constsRight s w) (test.namesRight s w) (test.tokensRight w) (test.residualsRight s w)
+          (test.chainsRight s w) (test.stepsRight w) (test.switchesRight w) (test.casesRight w) (test.rangesRight w) f
+
+      pub chains : ChainsLie w
+      chains = chains-lie s w (sections .1 .0)
 
       pub rows : RowsLie w
-      unfolding fieldsRight
-      rows = rows-lie s w
-          (both (both (both (both (both (both (both (both (both f .0) .0) .0) .0) .0) .0) .0) .0) .0)
-          (both (both (both f .0) .0) .1)
+      rows = rows-lie s w (sections .0) (sections .1 .1)
 
       pub operands-fail : operandsRight w ≡ false → false ≡ wellMade s w
       operands-fail z = sym (after-fields ∙ and-false _ (depthsRight w) (and-false (operandsRight w) (targetsRight w) z))
@@ -106,13 +124,12 @@ module _ (s w : List ℕ) where
           depths-are = sym (after-operands ∙ and-true (targetsRight w) (depthsRight w) t)
 
           pub tested : Checked w
-          unfolding sizesAgree
           tested =
               let right = words-are ∙ ap (λ (x : Bool). x && operandsRight w) f ∙ o in
               let words = tells-words s w .yields right in
               record {
-                enough = leb-true sizesWords (length w) (both a .0);
-                sizes = eqb-true (length w) (endAt w) (both a .1);
+                enough = there w a .0;
+                sizes = there w a .1;
                 aims = tells-targets s w words .yields t;
                 named = rows .named;
                 pooled = rows .runs;

@@ -74,7 +74,7 @@ pub const-right : (s w : List ℕ) (i : ℕ) {first texts k a b : ℕ} {r : Bool
     → r ≡ constRight s w i
 unfolding constWord
 const-right s w i {first} {texts} {k} {a} {b} q t f e₀ e₁ e₂ =
-    cc (const-by s w (first + 3 * i) k a b e₀ e₁ e₂, add-zero (first + 3 * i), add-zero (constsAt w + 3 * i))
+    cc (const-by s w (first + 3 * i) k a b e₀ e₁ e₂, add-zero (constsAt w + 3 * i))
 
 pub name-right : (s w : List ℕ) (i : ℕ) {first texts a b : ℕ} → texts ≡ textCount s → first ≡ namesAt w
     → a ≡ word w (first + 2 * i) → b ≡ word w (first + 2 * i + 1)

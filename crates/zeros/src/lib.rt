@@ -1,11 +1,9 @@
 // Lent words set to 0.
-ghost use mathlib.Core.Path.{_≡_};
-ghost use lib.ListN.{length};
-ghost use Rattle.zeros.specs.Zeros.{zeros};
+ghost use Rattle.zeros.specs.Zeros.{Zeroed};
 
 // Every word of `out` becomes 0.
 pub fn zero(out: &mut [u32])
-    ensures { λ _. ⌜ now (out .exit) ≡ zeros (length (now (out .entry))) ⌝ }
+    ensures { λ _. ⌜ Zeroed (now (out .entry)) (now (out .exit)) ⌝ }
 {
     let mut i = 0;
     while i < out.len() {

@@ -46,7 +46,7 @@ loop-holds c =
     let same = came .come .kept .1 .0 ∙ zeroed .zero .kept .0 in
     (omega arith, refl,
     λ P T N R room.
-    held-start (a .w .now) (a .o) _ (length (a .l .now)) _ _ (came .before .marks-there .ensures .0) (zeroed .zero .ensures)
+    held-start (a .w .now) (a .o) _ (length (a .l .now)) _ _ (came .before .marks-there .ensures .0) (zeroed .zero .ensures .is)
     (came .come .ensures) P (omega (arith, room, same)))
 
 pass-requires : tie.Need-pass-requires Inv-loop μ-loop

@@ -57,7 +57,9 @@ returns : tie.Need-returns
 unfolding boundsBy
 returns c =
     let named = c .before .before .before .before in
-    bounds-read _ _ (named .word-of2 .ensures) (c .before .before .before .local-count .ensures) (named .before .word-of .ensures)
+    let a = named .before .before .before .before .args in
+    bounds-read (a .s .now) (a .w .now)
+    (named .word-of2 .ensures) (c .before .before .before .local-count .ensures) (named .before .word-of .ensures)
     (c .before .before .word-of3 .ensures) (c .before .word-of4 .ensures) (c .word-of5 .ensures)
 
 pub code-bounds-spec : {M : Type 1} → statement M

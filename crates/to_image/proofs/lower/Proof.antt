@@ -43,7 +43,7 @@ same-length-2 c = search needs
 
 returns-3 : tie.Need-returns-3
 returns-3 c = refused-long _ _ _ _ _ _ _ _ (c .before .before .before .before .before .before .before .before .before .before .before .before .before .before .before .before .before .before .before .check .ensures) (c .before .before .before .before .before .before .before .before .before .before .before .before .before .before .before .before .before .before .number .ensures) (c .before .before .before .before .before .before .before .before .before .before .before .before .before .before .before .before .before .if1 .left) (c .before .before .before .before .before .before .before .before .before .before .before .before .before .before .before .before .total .ensures) (c .before .before .before .before .before .before .before .before .before .before .before .before .before .before .before .node-count .ensures) (c .before .before .before .before .before .before .before .before .before .before .before .before .before .before .refusal .ensures) (c .before .before .before .before .before .before .before .before .before .before .before .before .before .if2 .left)
-    _ (c .before .before .before .before .before .before .before .before .before .build .last .1 .1 .0) _ _ (c .before .before .before .before .before .before .before .before .before .build .ensures) (c .before .before .before .zero .ensures) (c .before .before .before .before .before .before .before .before .before .build .kept .1 .1 .0) (c .before .before .before .before .before .before .before .before .before .build .kept .1 .0) (omega arith)
+    _ (c .before .before .before .before .before .before .before .before .before .build .last .1 .1 .0) _ _ (c .before .before .before .before .before .before .before .before .before .build .ensures) (c .before .before .before .zero .ensures .is) (c .before .before .before .before .before .before .before .before .before .build .kept .1 .1 .0) (c .before .before .before .before .before .before .before .before .before .build .kept .1 .0) (omega arith)
 
 same-length-3 : tie.Need-same-length-3
 same-length-3 c = search needs
@@ -53,7 +53,7 @@ same-length-4 c = search needs
 
 returns-4 : tie.Need-returns-4
 returns-4 c = lowered-whole _ _ _ _ _ _ _ _ (c .before .before .before .before .before .before .before .before .before .before .before .before .before .before .before .before .before .before .before .check .ensures) (c .before .before .before .before .before .before .before .before .before .before .before .before .before .before .before .before .before .before .number .ensures) (c .before .before .before .before .before .before .before .before .before .before .before .before .before .before .before .before .before .if1 .left) (c .before .before .before .before .before .before .before .before .before .before .before .before .before .before .before .before .total .ensures) (c .before .before .before .before .before .before .before .before .before .before .before .before .before .before .before .node-count .ensures) (c .before .before .before .before .before .before .before .before .before .before .before .before .before .before .refusal .ensures) (c .before .before .before .before .before .before .before .before .before .before .before .before .before .if2 .left)
-    _ (c .before .before .before .before .before .before .before .before .before .build .last .1 .1 .0) _ _ (c .before .before .before .before .before .before .before .before .before .build .ensures) (c .before .before .before .zero .ensures) (c .before .before .before .before .before .before .before .before .before .build .kept .1 .1 .0) (c .before .before .before .before .before .before .before .before .before .build .kept .1 .0) (omega arith)
+    _ (c .before .before .before .before .before .before .before .before .before .build .last .1 .1 .0) _ _ (c .before .before .before .before .before .before .before .before .before .build .ensures) (c .before .before .before .zero .ensures .is) (c .before .before .before .before .before .before .before .before .before .build .kept .1 .1 .0) (c .before .before .before .before .before .before .before .before .before .build .kept .1 .0) (omega arith)
 
 pub lower-spec : {M : Type 1} → statement M
 lower-spec =

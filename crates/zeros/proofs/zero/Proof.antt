@@ -40,7 +40,7 @@ same-length : tie.Need-same-length Inv-loop μ-loop
 same-length c = c .before .loop .inv .1
 
 returns : tie.Need-returns Inv-loop μ-loop
-returns c = let here = c .before .loop in zero-all _ _ (here .i) (here .inv .0) (omega arith) (here .inv .2)
+returns c = let here = c .before .loop in record { is = zero-all _ _ (here .i) (here .inv .0) (omega arith) (here .inv .2) }
 
 pub zero-spec : {M : Type 1} → statement M
 zero-spec =
