@@ -70,8 +70,8 @@ module _ (s w : List ℕ) where
   unfolding wordsRight fieldsRight
   words-are =
       let front =
-          test.codeRight s w && test.constsRight s w && test.namesRight s w && test.tokensRight w && test.residualsRight s w
-          && test.chainsRight s w && test.stepsRight w in
+      test.codeRight s w && test.constsRight s w && test.namesRight s w && test.tokensRight w && test.residualsRight s w
+      && test.chainsRight s w && test.stepsRight w in
       moved front (operandsRight w) (test.switchesRight w) (test.casesRight w) (test.rangesRight w)
 
   -- the whole test, in the order of the code

@@ -1,11 +1,11 @@
 -- One law for each way through the code that checks the marks.
-use Prim.Native.Nat.{ℕ, zero, suc, _+_, _-_, _≤_, _<_, max}
+use Prim.Native.Nat.{ℕ, suc, _+_, _-_, _≤_, _<_, max}
 use mathlib.Core.Path.{_≡_, refl, sym, ap, ap₂, _∙_, subst}
 use mathlib.Core.Bool.{Bool, true, false, _&&_}
 use mathlib.Core.List.{List}
 use native.Mathlib.Omega.{arith}
 use lib.Dec.{eqb, leb}
-use lib.ListN.{length, take}
+use lib.ListN.{length}
 use Rattle.words.specs.Count.{allBelow}
 use Rattle.words.specs.CountLaws.{all-suc, all-same, all-fails}
 use Rattle.bytecode.specs.Effect.{Flow, on, jump, branch, table}
@@ -14,27 +14,26 @@ use Rattle.lowering.specs.Words.{instructions, greatestDepth, constsAt, chainsA
 use Rattle.lowering.specs.Run.{needs, branchTarget, rowTarget, tableTarget}
 use Rattle.wellmade.specs.Rules.{tables, cases, ranges, endAt}
 use Rattle.wellmade.specs.Marks.{mark, marksThere, tableNode, flowAt, after, edges, edge, placeBy, tableBy, most, marked, marksRight}
-use Rattle.image_rows.specs.declared.Starts.{Starts}
-use Rattle.image_rows.specs.Rows.{Placed}
 use Rattle.image_rows.specs.Scratch.{marksOf, Counted}
-use Rattle.image_depths.specs.declared.Code.{Code}
 use Rattle.image_depths.specs.Checked.{Checked}
-use Rattle.image_depths.specs.Passing.{Read, leads, placesRight, tablesRight, MarkedAll}
-use Rattle.image_depths.proofs.MarkLaws.{table-row, table-default, after-read}
+use Rattle.image_depths.specs.Passing.{leads, placesRight, tablesRight, MarkedAll}
+use Rattle.image_depths.proofs.MarkLaws.{table-row, table-default}
 use Rattle.image_depths.proofs.DeepLaws.{deep-false}
 
 and-lazy : (a b : Bool) → elim a [ true ↦ b | false ↦ false ] ≡ (a && b)
 and-lazy true b = refl
 and-lazy false b = refl
 
-pub leads-table : (F : Flow) (w l : List ℕ) (p m a t x : ℕ) → flowNumber F ≡ 3 → a ≡ aAt w p → t ≡ tableNode w a → x ≡ mark l t → eqb x m ≡ leads F w l p m
+pub leads-table : (F : Flow) (w l : List ℕ) (p m a t x : ℕ) → flowNumber F ≡ 3 → a ≡ aAt w p → t ≡ tableNode w a → x ≡ mark l t
+    → eqb x m ≡ leads F w l p m
 unfolding flowNumber leads allBelow edges edge
 leads-table on w l p m a t x e q g h = absurd (omega arith)
 leads-table jump w l p m a t x e q g h = absurd (omega arith)
 leads-table branch w l p m a t x e q g h = absurd (omega arith)
 leads-table table w l p m a t x e q g h = ap (λ (y : ℕ). eqb y m) (h ∙ ap (mark l) (g ∙ ap (tableNode w) q))
 
-pub leads-branch : (F : Flow) (w l : List ℕ) (p m a x y : ℕ) → flowNumber F ≡ 2 → a ≡ aAt w p → x ≡ mark l (p + 1) → y ≡ mark l a → (eqb x m && eqb y m) ≡ leads F w l p m
+pub leads-branch : (F : Flow) (w l : List ℕ) (p m a x y : ℕ) → flowNumber F ≡ 2 → a ≡ aAt w p → x ≡ mark l (p + 1) → y ≡ mark l a
+    → (eqb x m && eqb y m) ≡ leads F w l p m
 unfolding flowNumber leads allBelow edges edge branchTarget
 leads-branch on w l p m a x y e q g h = absurd (omega arith)
 leads-branch jump w l p m a x y e q g h = absurd (omega arith)
@@ -50,7 +49,8 @@ leads-jump jump w l p m a x e q h = ap (λ (y : ℕ). eqb y m) (h ∙ ap (mark l
 leads-jump branch w l p m a x e q h = absurd (omega arith)
 leads-jump table w l p m a x e q h = absurd (omega arith)
 
-pub leads-on : (F : Flow) (w l : List ℕ) (p m x : ℕ) → (flowNumber F ≡ 3 → ⊥) → (flowNumber F ≡ 2 → ⊥) → (flowNumber F ≡ 1 → ⊥) → x ≡ mark l (p + 1) → eqb x m ≡ leads F w l p m
+pub leads-on : (F : Flow) (w l : List ℕ) (p m x : ℕ) → (flowNumber F ≡ 3 → ⊥) → (flowNumber F ≡ 2 → ⊥) → (flowNumber F ≡ 1 → ⊥)
+    → x ≡ mark l (p + 1) → eqb x m ≡ leads F w l p m
 unfolding flowNumber leads allBelow edges edge
 leads-on on w l p m x a b c h = ap (λ (y : ℕ). eqb y m) h
 leads-on jump w l p m x a b c h = absurd (c refl)
@@ -61,7 +61,8 @@ pub place-none : (w l : List ℕ) (p m : ℕ) → m ≡ mark l p → m ≡ 0 →
 unfolding placeBy
 place-none w l p m e z = ap (λ (x : ℕ). placeBy x w l p) (sym (sym e ∙ z))
 
-pub place-by : (w l : List ℕ) (p m n k : ℕ) (r : Bool) → m ≡ mark l p → (m ≡ 0 → ⊥) → n ≡ after w p (m - 1) → k ≡ needs w p → r ≡ leads (flowAt w p) w l p (n + 1) → (leb k (m - 1) && r) ≡ placeBy (mark l p) w l p
+pub place-by : (w l : List ℕ) (p m n k : ℕ) (r : Bool) → m ≡ mark l p → (m ≡ 0 → ⊥) → n ≡ after w p (m - 1) → k ≡ needs w p
+    → r ≡ leads (flowAt w p) w l p (n + 1) → (leb k (m - 1) && r) ≡ placeBy (mark l p) w l p
 unfolding placeBy leads
 place-by w l p m n k r e z g h f =
     let s : mark l p ≡ suc (m - 1) = omega arith in
@@ -69,21 +70,27 @@ place-by w l p m n k r e z g h f =
     ap₂ _&&_ (ap (λ (x : ℕ). leb x (m - 1)) h) (f ∙ ap (leads (flowAt w p) w l p) next) ∙ ap (λ (x : ℕ). placeBy x w l p) (sym s)
 
 -- loops over all places, all tables
-pub places-fail : (w l : List ℕ) (n p : ℕ) (r : Bool) → n ≡ instructions w → p < n → r ≡ placeBy (mark l p) w l p → r ≡ false → false ≡ placesRight w l
+pub places-fail : (w l : List ℕ) (n p : ℕ) (r : Bool) → n ≡ instructions w → p < n → r ≡ placeBy (mark l p) w l p → r ≡ false
+    → false ≡ placesRight w l
 unfolding placesRight
-places-fail w l n p r e h q f = sym (all-fails (λ p. placeBy (mark l p) w l p) (instructions w) p (subst (λ (k : ℕ). p < k) e h) (sym q ∙ f))
+places-fail w l n p r e h q f =
+    sym (all-fails (λ p. placeBy (mark l p) w l p) (instructions w) p (subst (λ (k : ℕ). p < k) e h) (sym q ∙ f))
 
-pub places-done : (w l : List ℕ) (n p : ℕ) → n ≡ instructions w → p ≤ n → n ≤ p → allBelow p (λ p. placeBy (mark l p) w l p) ≡ true → true ≡ placesRight w l
+pub places-done : (w l : List ℕ) (n p : ℕ) → n ≡ instructions w → p ≤ n → n ≤ p → allBelow p (λ p. placeBy (mark l p) w l p) ≡ true
+    → true ≡ placesRight w l
 unfolding placesRight
 places-done w l n p e a b h =
     let q : p ≡ instructions w = omega arith in
     sym (subst (λ (k : ℕ). allBelow k (λ p. placeBy (mark l p) w l p) ≡ true) q h)
 
-pub tables-fail : (w l : List ℕ) (n i : ℕ) (r : Bool) → n ≡ tables w → i < n → r ≡ tableBy (mark l (tableNode w i)) w l i → r ≡ false → false ≡ tablesRight w l
+pub tables-fail : (w l : List ℕ) (n i : ℕ) (r : Bool) → n ≡ tables w → i < n → r ≡ tableBy (mark l (tableNode w i)) w l i
+    → r ≡ false → false ≡ tablesRight w l
 unfolding tablesRight
-tables-fail w l n i r e h q f = sym (all-fails (λ i. tableBy (mark l (tableNode w i)) w l i) (tables w) i (subst (λ (k : ℕ). i < k) e h) (sym q ∙ f))
+tables-fail w l n i r e h q f =
+    sym (all-fails (λ i. tableBy (mark l (tableNode w i)) w l i) (tables w) i (subst (λ (k : ℕ). i < k) e h) (sym q ∙ f))
 
-pub tables-done : (w l : List ℕ) (n i : ℕ) → n ≡ tables w → i ≤ n → n ≤ i → allBelow i (λ i. tableBy (mark l (tableNode w i)) w l i) ≡ true → true ≡ tablesRight w l
+pub tables-done : (w l : List ℕ) (n i : ℕ) → n ≡ tables w → i ≤ n → n ≤ i
+    → allBelow i (λ i. tableBy (mark l (tableNode w i)) w l i) ≡ true → true ≡ tablesRight w l
 unfolding tablesRight
 tables-done w l n i e a b h =
     let q : i ≡ tables w = omega arith in
@@ -97,17 +104,22 @@ pub table-none : (w l : List ℕ) (i m : ℕ) → m ≡ mark l (tableNode w i) �
 unfolding tableBy
 table-none w l i m e z = ap (λ (x : ℕ). tableBy x w l i) (sym (sym e ∙ z))
 
-table-some : (w l : List ℕ) (i m : ℕ) → m ≡ mark l (tableNode w i) → (m ≡ 0 → ⊥) → allBelow (suc (switchWord w i 2)) (rowsTo w l i m) ≡ tableBy (mark l (tableNode w i)) w l i
+table-some : (w l : List ℕ) (i m : ℕ) → m ≡ mark l (tableNode w i) → (m ≡ 0 → ⊥)
+    → allBelow (suc (switchWord w i 2)) (rowsTo w l i m) ≡ tableBy (mark l (tableNode w i)) w l i
 unfolding tableBy
 table-some w l i m e z =
     let s : m ≡ suc (m - 1) = omega (arith, z) in
     ap (λ (x : ℕ). allBelow (suc (switchWord w i 2)) (rowsTo w l i x)) s ∙ ap (λ (x : ℕ). tableBy x w l i) (sym s ∙ e)
 
-pub table-by : (w l : List ℕ) (i m d x : ℕ) (r : Bool) → m ≡ mark l (tableNode w i) → (m ≡ 0 → ⊥) → r ≡ allBelow (switchWord w i 2) (λ j. eqb (mark l (rowTarget w i j)) m) → d ≡ switchWord w i 3 → x ≡ mark l d → (r && eqb x m) ≡ tableBy (mark l (tableNode w i)) w l i
+pub table-by : (w l : List ℕ) (i m d x : ℕ) (r : Bool) → m ≡ mark l (tableNode w i) → (m ≡ 0 → ⊥)
+    → r ≡ allBelow (switchWord w i 2) (λ j. eqb (mark l (rowTarget w i j)) m) → d ≡ switchWord w i 3 → x ≡ mark l d
+    → (r && eqb x m) ≡ tableBy (mark l (tableNode w i)) w l i
 table-by w l i m d x r e z h g k =
     let n = switchWord w i 2 in
     ap₂ _&&_
-    (h ∙ all-same (λ j. eqb (mark l (rowTarget w i j)) m) (rowsTo w l i m) n (λ j b. ap (λ (t : ℕ). eqb (mark l t) m) (sym (table-row w i j b))))
+    (h
+    ∙ all-same (λ j. eqb (mark l (rowTarget w i j)) m) (rowsTo w l i m) n
+    (λ j b. ap (λ (t : ℕ). eqb (mark l t) m) (sym (table-row w i j b))))
     (ap (λ (y : ℕ). eqb y m) (k ∙ ap (mark l) (g ∙ sym (table-default w i))))
     ∙ sym (all-suc (rowsTo w l i m) n) ∙ table-some w l i m e z
 
@@ -125,7 +137,8 @@ most-more l i x y z e g h =
 pub most-done : (l : List ℕ) (i n x : ℕ) → i ≤ n → n ≤ i → x ≡ most l i → x ≡ most l n
 most-done l i n x a b e = let s : i ≡ n = omega arith in e ∙ ap (most l) s
 
-pub marks-by : (w l : List ℕ) (n g : ℕ) (a b : Bool) (x y : ℕ) → n ≡ instructions w → g ≡ greatestDepth w → a ≡ placesRight w l → b ≡ tablesRight w l → x ≡ mark l n → y ≡ most l n → (a && b && eqb x 2 && eqb y (g + 1)) ≡ marksRight w l
+pub marks-by : (w l : List ℕ) (n g : ℕ) (a b : Bool) (x y : ℕ) → n ≡ instructions w → g ≡ greatestDepth w → a ≡ placesRight w l
+    → b ≡ tablesRight w l → x ≡ mark l n → y ≡ most l n → (a && b && eqb x 2 && eqb y (g + 1)) ≡ marksRight w l
 unfolding marksRight placesRight tablesRight
 marks-by w l n g a b x y e f h k p q =
     let s : g + 1 ≡ suc (greatestDepth w) = omega (arith, f) in
@@ -136,8 +149,10 @@ pub room : (w : List ℕ) → Checked w → marksThere w + cases w + ranges w �
 unfolding endAt rangesAt casesAt switchesAt chainsAt constsAt
 room w K = omega (arith, K .sizes)
 
-pub marked-right : (w : List ℕ) (l l′ : List ℕ) (t r : Bool) → MarkedAll w l t → t ≡ true → Counted w l l′ → r ≡ marksRight w (marksOf w l′) → r ≡ marksRight w (marked w (marksThere w) (instructions w))
+pub marked-right : (w : List ℕ) (l l′ : List ℕ) (t r : Bool) → MarkedAll w l t → t ≡ true → Counted w l l′
+    → r ≡ marksRight w (marksOf w l′) → r ≡ marksRight w (marked w (marksThere w) (instructions w))
 marked-right w l l′ t r M e C h = h ∙ ap (marksRight w) (C .marks ∙ M .done e)
 
-pub marked-wrong : (w : List ℕ) (l : List ℕ) (t : Bool) → Checked w → instructions w ≤ 4294967295 → MarkedAll w l t → t ≡ false → false ≡ marksRight w (marked w (marksThere w) (instructions w))
+pub marked-wrong : (w : List ℕ) (l : List ℕ) (t : Bool) → Checked w → instructions w ≤ 4294967295 → MarkedAll w l t → t ≡ false
+    → false ≡ marksRight w (marked w (marksThere w) (instructions w))
 marked-wrong w l t K b M e = sym (deep-false w (K .aims) (K .named) b (M .deep e))

@@ -1,6 +1,6 @@
 -- What is read of an instruction is what a run goes by.
-use Prim.Native.Nat.{ℕ, _+_, _*_, _≤_, _<_}
-use mathlib.Core.Path.{_≡_, refl, sym, ap, _∙_, subst}
+use Prim.Native.Nat.{ℕ, _+_, _*_, _<_}
+use mathlib.Core.Path.{_≡_, refl, sym, ap, _∙_}
 use mathlib.Core.Bool.{Bool, true, false}
 use mathlib.Core.List.{List}
 use native.Mathlib.Omega.{arith}
@@ -8,14 +8,16 @@ use lib.Dec.{eqb}
 use borrow.Author.Tests.{eq-eqb, ne-eqb, eqb-true, eqb-false}
 use Rattle.bytecode.specs.Effect.{effect}
 use Rattle.bytecode.specs.Table.{effectTable, entry, counted, kept}
-use Rattle.bytecode.proofs.TableLaws.{entry-pops, entry-pushes, entry-keeps, entry-count, entry-flow, counted-is, kept-is, counted-argc, counted-ref, counted-a, counted-chain, counted-none}
+use Rattle.bytecode.proofs.TableLaws.{entry-pops, entry-pushes, entry-keeps, entry-count, entry-flow}
+use Rattle.bytecode.proofs.TableLaws.{counted-is, kept-is, counted-argc, counted-ref, counted-a, counted-none}
 use Rattle.lowering.specs.Words.{word, chainsAt, kindAt, aAt, bAt, chainWord}
 use Rattle.lowering.specs.Run.{chainTakes, pops, pushes, needs}
 use Rattle.image_rows.specs.declared.Starts.{Starts}
 use Rattle.image_rows.specs.Rows.{Placed}
 use Rattle.image_depths.specs.Passing.{Read}
 
-module _ (w : List ℕ) (o : Starts) (i n k : ℕ) (operands : n ≡ word w (o .chains + (6 * i + 5))) (root : k ≡ word w (o .chains + 6 * i)) where
+module _ (w : List ℕ) (o : Starts) (i n k : ℕ) (operands : n ≡ word w (o .chains + (6 * i + 5)))
+    (root : k ≡ word w (o .chains + 6 * i)) where
   operands-is : Placed w o → n ≡ chainWord w i 5
   unfolding chainWord
   operands-is P =
@@ -40,7 +42,8 @@ module _ (w : List ℕ) (o : Starts) (i n k : ℕ) (operands : n ≡ word w (o .
 pub counted-other : (which a b n m : ℕ) → (which ≡ 5 → ⊥) → counted which a b n ≡ counted which a b m
 counted-other which a b n m h = by (eqb which 1) refl (eqb which 2) refl (eqb which 3) refl
   where
-    by : (s : Bool) → eqb which 1 ≡ s → (t : Bool) → eqb which 2 ≡ t → (u : Bool) → eqb which 3 ≡ u → counted which a b n ≡ counted which a b m
+    by : (s : Bool) → eqb which 1 ≡ s → (t : Bool) → eqb which 2 ≡ t → (u : Bool) → eqb which 3 ≡ u
+        → counted which a b n ≡ counted which a b m
     by true e t f u g = let z = eqb-true which 1 e in sym (counted-argc which a b n z) ∙ counted-argc which a b m z
     by false e true f u g = let z = eqb-true which 2 f in sym (counted-ref which a b n z) ∙ counted-ref which a b m z
     by false e false f true g = let z = eqb-true which 3 g in sym (counted-a which a b n z) ∙ counted-a which a b m z
@@ -50,7 +53,8 @@ counted-other which a b n m h = by (eqb which 1) refl (eqb which 2) refl (eqb wh
         let z = eqb-false which 3 g in
         sym (counted-none which a b n x y z h) ∙ counted-none which a b m x y z h
 
-pops-is : (w : List ℕ) (p : ℕ) → entry (kindAt w p) 0 + counted (entry (kindAt w p) 3) (aAt w p) (bAt w p) (chainTakes w (aAt w p)) ≡ pops w p
+pops-is : (w : List ℕ) (p : ℕ)
+    → entry (kindAt w p) 0 + counted (entry (kindAt w p) 3) (aAt w p) (bAt w p) (chainTakes w (aAt w p)) ≡ pops w p
 unfolding pops
 pops-is w p =
     let k = kindAt w p in

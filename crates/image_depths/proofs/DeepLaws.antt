@@ -1,20 +1,20 @@
--- Where a mark has no room in a word, the image is not well made: the depth at a place is at most the place, so the mark could only be that of the end.
-use Prim.Native.Nat.{ℕ, zero, suc, _+_, _-_, _≤_, _<_}
-use mathlib.Core.Path.{_≡_, refl, sym, ap, _∙_, subst}
+-- Where a mark has no room in a word, the image is not well made: the depth at a place is at most the place, so the mark could only
+-- be that of the end.
+use Prim.Native.Nat.{ℕ, zero, suc, _+_, _-_, _≤_}
+use mathlib.Core.Path.{_≡_, refl, ap, subst}
 use mathlib.Core.Bool.{Bool, true, false}
 use mathlib.Core.List.{List}
 use native.Mathlib.Omega.{arith}
-use borrow.Author.Tests.{ltb-true, ltb-false}
+use borrow.Author.Tests.{ltb-true}
 use lib.Dec.{ltb}
 use Rattle.lowering.specs.Words.{instructions, kindAt}
 use Rattle.lowering.specs.Run.{State, step, stepOn, run, next, pushes}
-use Rattle.wellmade.specs.Marks.{mark, marksThere, after, marked, marksRight}
-use Rattle.wellmade.proofs.Tells.{Tells}
+use Rattle.wellmade.specs.Marks.{mark, marksThere, marked, marksRight}
 use Rattle.wellmade.proofs.Real.{Real, goes-on, stays}
-use Rattle.wellmade.proofs.Told.{Told, Aims, by-keeps, marked-start, marked-told}
+use Rattle.wellmade.proofs.Told.{Aims, by-keeps, marked-start, marked-told}
 use Rattle.wellmade.proofs.Right.{Right, TablesNamed, tells-right, right-next}
 use Rattle.bytecode.proofs.TableLaws.{pushes-one}
-use Rattle.image_depths.specs.Passing.{Deep, DeepAt}
+use Rattle.image_depths.specs.Passing.{DeepAt}
 
 pushes-small : (w : List ℕ) (p : ℕ) → pushes w p ≤ 1
 unfolding pushes
@@ -47,7 +47,8 @@ marked-keeps w size p (suc k) j d h =
     subst (λ (n : ℕ). mark (marked w size n) j ≡ suc d) e
     (by-keeps (mark (marked w size (p + k)) (p + k)) w (p + k) (marked w size (p + k)) j d (marked-keeps w size p k j d h))
 
-pub deep-false : (w : List ℕ) → Aims w → TablesNamed w → instructions w ≤ 4294967295 → DeepAt w → marksRight w (marked w (marksThere w) (instructions w)) ≡ false
+pub deep-false : (w : List ℕ) → Aims w → TablesNamed w → instructions w ≤ 4294967295 → DeepAt w
+    → marksRight w (marked w (marksThere w) (instructions w)) ≡ false
 deep-false w A N b D = by (marksRight w l) refl
   where
     l : List ℕ
@@ -57,16 +58,20 @@ deep-false w A N b D = by (marksRight w l) refl
     absurdly R =
         let p = D .place in
         let d = D .deep .depth in
-        let x = marked-told w A (marksThere w) p (omega arith) (omega (arith, D .inside)) .places p d (omega (arith, D .inside)) (D .deep .there) in
+        let x = marked-told w A (marksThere w) p (omega arith) (omega (arith, D .inside)) .places p d (omega (arith, D .inside))
+        (D .deep .there) in
         let small = real-small w A p d x in
         let whole : p + (instructions w - p) ≡ instructions w = omega (arith, D .inside) in
-        let there : mark l p ≡ suc d = subst (λ (n : ℕ). mark (marked w (marksThere w) n) p ≡ suc d) whole (marked-keeps w (marksThere w) p (instructions w - p) p d (D .deep .there)) in
+        let there : mark l p ≡ suc d = subst (λ (n : ℕ). mark (marked w (marksThere w) n) p ≡ suc d) whole
+        (marked-keeps w (marksThere w) p (instructions w - p) p d (D .deep .there)) in
         let a = A p (D .inside) 0 in
-        let m = right-next w l A N (marked-start w (marksThere w) (instructions w) (omega arith)) (R .places) (R .tabled) p d (D .inside) there 0 in
+        let m = right-next w l A N (marked-start w (marksThere w) (instructions w) (omega arith)) (R .places) (R .tabled) p d
+        (D .inside) there 0 in
         let few = pushes-small w p in
         let end : next w 0 p ≡ instructions w = omega (arith, a .0, a .1, small, D .deep .large, few, D .inside, b) in
         omega (arith, ap (mark l) end, m, R .ends, D .deep .large)
 
-    by : (t : Bool) → marksRight w (marked w (marksThere w) (instructions w)) ≡ t → marksRight w (marked w (marksThere w) (instructions w)) ≡ false
+    by : (t : Bool) → marksRight w (marked w (marksThere w) (instructions w)) ≡ t
+        → marksRight w (marked w (marksThere w) (instructions w)) ≡ false
     by true e = absurd (absurdly (tells-right w (marked w (marksThere w) (instructions w)) .yields e))
     by false e = e

@@ -2,7 +2,7 @@
 use Prim.Native.Nat.{ℕ, zero, suc, _+_, _-_, _≤_, _<_}
 use mathlib.Core.Path.{_≡_, refl, sym, ap, _∙_, subst}
 use mathlib.Core.Bool.{Bool, true, false, true≢false}
-use mathlib.Core.List.{List, [], _∷_}
+use mathlib.Core.List.{List, _∷_}
 use native.Mathlib.Omega.{arith}
 use native.Mathlib.Numerals.{add-one}
 use lib.ListN.{getD, take}
@@ -11,19 +11,20 @@ use borrow.Author.Tests.{eq-eqb, ne-eqb, lt-ltb, le-ltb}
 use Rattle.zeros.specs.Zeros.{zeros}
 use Rattle.bytecode.specs.Effect.{Flow, on, jump, branch, table}
 use Rattle.bytecode.specs.Table.{flowNumber}
-use Rattle.lowering.specs.Words.{word, instructions, aAt, switchWord}
+use Rattle.lowering.specs.Words.{instructions, aAt, switchWord}
 use Rattle.lowering.specs.Run.{pops, pushes, rowTarget, tableTarget, branchTarget}
-use Rattle.wellmade.specs.Marks.{mark, marksThere, tableNode, flowAt, after, edge, edges, come, comes, enter, opened, handOn, passBy, marked}
+use Rattle.wellmade.specs.Marks.{mark, marksThere, tableNode, flowAt, after, edge, edges}
+use Rattle.wellmade.specs.Marks.{come, comes, enter, opened, handOn, passBy, marked}
 use Rattle.wellmade.proofs.ComeLaws.{come-new, come-old}
 use Rattle.wellmade.proofs.Right.{TablesNamed}
 use Rattle.image_rows.specs.declared.Starts.{Starts}
 use Rattle.image_rows.specs.Rows.{Placed, Pooled}
-use Rattle.image_rows.specs.Scratch.{marksOf, noted, Seen, Did, Does, Left}
+use Rattle.image_rows.specs.Scratch.{marksOf, noted, Seen, Does, Left}
 use Rattle.image_rows.proofs.ScratchLaws.{size-is}
 use Rattle.image_rows.proofs.SeenLaws.{comes-same, did-none, did-come, did-both}
 use Rattle.image_depths.specs.declared.Code.{Code}
 use Rattle.image_depths.specs.Checked.{RowsPooled}
-use Rattle.image_depths.specs.Passing.{Read, PooledAt, Deep, Passed, DeepAt, MarkedAll}
+use Rattle.image_depths.specs.Passing.{Read, PooledAt, Deep, Passed, MarkedAll}
 
 -- the same change in other words
 did-same : (w : List ℕ) (F G : List ℕ → List ℕ) (l l′ : List ℕ) → F (marksOf w l) ≡ G (marksOf w l) → Does w F l l′ → Does w G l l′
@@ -38,7 +39,8 @@ pub table-default : (w : List ℕ) (i : ℕ) → tableTarget w i (switchWord w i
 unfolding tableTarget
 table-default w i = rw (le-ltb (switchWord w i 2) (switchWord w i 2) (omega arith), tableTarget)
 
-enter-new : (w : List ℕ) (i m : ℕ) (l : List ℕ) → mark l (tableNode w i) ≡ 0 → come m (comes m (rowTarget w i) (switchWord w i 2) l) (switchWord w i 3) ≡ enter w i m l
+enter-new : (w : List ℕ) (i m : ℕ) (l : List ℕ) → mark l (tableNode w i) ≡ 0
+    → come m (comes m (rowTarget w i) (switchWord w i 2) l) (switchWord w i 3) ≡ enter w i m l
 unfolding enter comes
 enter-new w i m l z =
     let n = switchWord w i 2 in
@@ -51,17 +53,20 @@ unfolding enter
 enter-old w i m l z = rw (ne-eqb (mark l (tableNode w i)) 0 z, enter)
 
 -- the mark of a table, read by the number of its node
-pub node-mark : (w : List ℕ) (o : Starts) (i size x : ℕ) (l : List ℕ) → size ≡ o .places + 1 + o .tables → x ≡ mark (take size l) (o .places + 1 + i) → Placed w o → x ≡ mark (marksOf w l) (tableNode w i)
+pub node-mark : (w : List ℕ) (o : Starts) (i size x : ℕ) (l : List ℕ) → size ≡ o .places + 1 + o .tables
+    → x ≡ mark (take size l) (o .places + 1 + i) → Placed w o → x ≡ mark (marksOf w l) (tableNode w i)
 node-mark w o i size x l s e P =
     let node : o .places + 1 + i ≡ tableNode w i = omega (arith, P .places) in
     e ∙ ap (mark (take size l)) node ∙ ap (λ (n : ℕ). mark (take n l) (tableNode w i)) (size-is w o size s P)
 
-module _ (w : List ℕ) (o : Starts) (m i size x : ℕ) (l : List ℕ) (s : size ≡ o .places + 1 + o .tables) (e : x ≡ mark (take size l) (o .places + 1 + i)) where
+module _ (w : List ℕ) (o : Starts) (m i size x : ℕ) (l : List ℕ) (s : size ≡ o .places + 1 + o .tables)
+    (e : x ≡ mark (take size l) (o .places + 1 + i)) where
   pub opened-old : (x ≡ 0 → ⊥) → Placed w o → Does w (λ a. come m (enter w i m a) (tableNode w i)) l l
   opened-old z P =
       let there : mark (marksOf w l) (tableNode w i) ≡ 0 → ⊥ = λ q. z (node-mark w o i size x l s e P ∙ q) in
       did-same w (λ a. a) (λ a. come m (enter w i m a) (tableNode w i)) l l
-      (sym (ap (λ (y : List ℕ). come m y (tableNode w i)) (enter-old w i m (marksOf w l) there) ∙ come-old m (marksOf w l) (tableNode w i) there))
+      (sym (ap (λ (y : List ℕ). come m y (tableNode w i)) (enter-old w i m (marksOf w l) there)
+      ∙ come-old m (marksOf w l) (tableNode w i) there))
       (did-none w l)
 
   pub opened-new : (d : ℕ) (l₁ l₂ l₃ : List ℕ) → x ≡ 0
@@ -77,8 +82,8 @@ module _ (w : List ℕ) (o : Starts) (m i size x : ℕ) (l : List ℕ) (s : size
       ∙ ap (λ (t : ℕ). come m (come m (rows (marksOf w l)) t) (tableNode w i)) (g P)
       ∙ ap (λ (y : List ℕ). come m y (tableNode w i)) (enter-new w i m (marksOf w l) (sym (node-mark w o i size x l s e P) ∙ z)))
       (did-both w (λ a. come m (rows a) d) (λ a. come m a (o .places + 1 + i)) l l₂ l₃
-      (did-both w rows (λ a. come m a d) l l₁ l₂ (R P Q p) (did-come w o size m d l₁ l₂ sz D))
-      (did-come w o size m (o .places + 1 + i) l₂ l₃ sz N))
+      (did-both w rows (λ a. come m a d) l l₁ l₂ (R P Q p) (did-come w size m d l₁ l₂ sz D))
+      (did-come w size m (o .places + 1 + i) l₂ l₃ sz N))
 
 -- handing on, by the number of the flow
 flow-table : (F : Flow) → flowNumber F ≡ 3 → F ≡ table
@@ -88,7 +93,8 @@ flow-table jump e = absurd (omega arith)
 flow-table branch e = absurd (omega arith)
 flow-table table e = refl
 
-is-table : (F : Flow) (w : List ℕ) (p m : ℕ) (l : List ℕ) → flowNumber F ≡ 3 → come m (enter w (aAt w p) m l) (tableNode w (aAt w p)) ≡ handOn F w p m l
+is-table : (F : Flow) (w : List ℕ) (p m : ℕ) (l : List ℕ) → flowNumber F ≡ 3
+    → come m (enter w (aAt w p) m l) (tableNode w (aAt w p)) ≡ handOn F w p m l
 unfolding flowNumber handOn opened comes edges edge
 is-table on w p m l e = absurd (omega arith)
 is-table jump w p m l e = absurd (omega arith)
@@ -109,7 +115,8 @@ is-jump jump w p m l e = refl
 is-jump branch w p m l e = absurd (omega arith)
 is-jump table w p m l e = absurd (omega arith)
 
-is-on : (F : Flow) (w : List ℕ) (p m : ℕ) (l : List ℕ) → (flowNumber F ≡ 3 → ⊥) → (flowNumber F ≡ 2 → ⊥) → (flowNumber F ≡ 1 → ⊥) → come m l (p + 1) ≡ handOn F w p m l
+is-on : (F : Flow) (w : List ℕ) (p m : ℕ) (l : List ℕ) → (flowNumber F ≡ 3 → ⊥) → (flowNumber F ≡ 2 → ⊥) → (flowNumber F ≡ 1 → ⊥)
+    → come m l (p + 1) ≡ handOn F w p m l
 unfolding flowNumber handOn opened comes edges edge
 is-on on w p m l a b c = refl
 is-on jump w p m l a b c = absurd (c refl)
@@ -133,27 +140,29 @@ module _ (w : List ℕ) (o : Starts) (c : Code) (p m size : ℕ) (l : List ℕ) 
       let sz = size-is w o size s P in
       did-same w (λ a. come m (come m a (p + 1)) (c .a)) (handOn (flowAt w p) w p m) l l₂
       (ap (come m (come m (marksOf w l) (p + 1))) (R .a) ∙ is-branch (flowAt w p) w p m (marksOf w l) (sym (R .flow) ∙ f))
-      (did-both w (λ a. come m a (p + 1)) (λ a. come m a (c .a)) l l₁ l₂ (did-come w o size m (p + 1) l l₁ sz D) (did-come w o size m (c .a) l₁ l₂ sz E))
+      (did-both w (λ a. come m a (p + 1)) (λ a. come m a (c .a)) l l₁ l₂ (did-come w size m (p + 1) l l₁ sz D)
+      (did-come w size m (c .a) l₁ l₂ sz E))
 
   pub hand-jump : (l₁ : List ℕ) → c .flow ≡ 1 → Left size m (c .a) l l₁
       → Placed w o → Read w p c → PooledAt w p → 0 < m → Does w (handOn (flowAt w p) w p m) l l₁
   hand-jump l₁ f D P R Q h =
       did-same w (λ a. come m a (c .a)) (handOn (flowAt w p) w p m) l l₁
       (ap (come m (marksOf w l)) (R .a) ∙ is-jump (flowAt w p) w p m (marksOf w l) (sym (R .flow) ∙ f))
-      (did-come w o size m (c .a) l l₁ (size-is w o size s P) D)
+      (did-come w size m (c .a) l l₁ (size-is w o size s P) D)
 
   pub hand-on : (l₁ : List ℕ) → (c .flow ≡ 3 → ⊥) → (c .flow ≡ 2 → ⊥) → (c .flow ≡ 1 → ⊥) → Left size m (p + 1) l l₁
       → Placed w o → Read w p c → PooledAt w p → 0 < m → Does w (handOn (flowAt w p) w p m) l l₁
   hand-on l₁ x y z D P R Q h =
       did-same w (λ a. come m a (p + 1)) (handOn (flowAt w p) w p m) l l₁
       (is-on (flowAt w p) w p m (marksOf w l) (λ e. x (R .flow ∙ e)) (λ e. y (R .flow ∙ e)) (λ e. z (R .flow ∙ e)))
-      (did-come w o size m (p + 1) l l₁ (size-is w o size s P) D)
+      (did-come w size m (p + 1) l l₁ (size-is w o size s P) D)
 
 -- the pass at one place
 pub after-read : (w : List ℕ) (p : ℕ) (c : Code) (d n : ℕ) → n ≡ d - c .pops + c .pushes → Read w p c → n ≡ after w p d
 after-read w p c d n e R = e ∙ ap (λ (x : ℕ). d - x + c .pushes) (R .pops) ∙ ap (λ (x : ℕ). d - pops w p + x) (R .pushes)
 
-pub place-mark : (w : List ℕ) (o : Starts) (p size m : ℕ) (l : List ℕ) → size ≡ o .places + 1 + o .tables → m ≡ mark (take size l) p → Placed w o → m ≡ mark (marksOf w l) p
+pub place-mark : (w : List ℕ) (o : Starts) (p size m : ℕ) (l : List ℕ) → size ≡ o .places + 1 + o .tables → m ≡ mark (take size l) p
+    → Placed w o → m ≡ mark (marksOf w l) p
 place-mark w o p size m l s e P = e ∙ ap (λ (n : ℕ). mark (take n l) p) (size-is w o size s P)
 
 module _ (w : List ℕ) (o : Starts) (p size m : ℕ) (l : List ℕ) (s : size ≡ o .places + 1 + o .tables) (e : m ≡ mark (take size l) p) where
@@ -165,12 +174,17 @@ module _ (w : List ℕ) (o : Starts) (p size m : ℕ) (l : List ℕ) (s : size �
     deep = λ h. absurd (true≢false h);
   }
 
-  pub passed-deep : (c : Code) (n : ℕ) (l′ : List ℕ) → (m ≡ 0 → ⊥) → n ≡ (m - 1) - c .pops + c .pushes → 4294967295 < n + 1 → Placed w o → Read w p c → Passed w p l l′ false
+  pub passed-deep : (c : Code) (n : ℕ) (l′ : List ℕ) → (m ≡ 0 → ⊥) → n ≡ (m - 1) - c .pops + c .pushes → 4294967295 < n + 1
+      → Placed w o → Read w p c → Passed w p l l′ false
   passed-deep c n l′ z g h P R =
       let there = place-mark w o p size m l s e P in
       record {
         done = λ q. absurd (true≢false (sym q));
-        deep = λ q. record { depth = m - 1; there = omega (arith, there, z); large = subst (λ (x : ℕ). 4294967295 < suc x) (after-read w p c (m - 1) n g R) (omega arith) };
+        deep = λ q. record {
+          depth = m - 1;
+          there = omega (arith, there, z);
+          large = subst (λ (x : ℕ). 4294967295 < suc x) (after-read w p c (m - 1) n g R) (omega arith);
+        };
       }
 
   pub passed-on : (c : Code) (n : ℕ) (l′ : List ℕ) → (m ≡ 0 → ⊥) → n ≡ (m - 1) - c .pops + c .pushes
@@ -203,10 +217,11 @@ take-zeros zero n h = refl
 take-zeros (suc m) zero h = absurd (omega arith)
 take-zeros (suc m) (suc n) h = ap {B = List ℕ} (λ l. 0 ∷ l) (take-zeros m n (omega arith))
 
-pub held-start : (w : List ℕ) (o : Starts) (size n : ℕ) (l l′ : List ℕ) → size ≡ o .places + 1 + o .tables → l ≡ zeros n → Left size 1 0 l l′ → Placed w o → marksThere w ≤ n → Held w 0 l′
+pub held-start : (w : List ℕ) (o : Starts) (size n : ℕ) (l l′ : List ℕ) → size ≡ o .places + 1 + o .tables → l ≡ zeros n
+    → Left size 1 0 l l′ → Placed w o → marksThere w ≤ n → Held w 0 l′
 unfolding marked
 held-start w o size n l l′ s e L P room =
-    let D = did-come w o size 1 0 l l′ (size-is w o size s P) L none in
+    let D = did-come w size 1 0 l l′ (size-is w o size s P) L none in
     record {
       marks = D .marks ∙ ap (λ (x : List ℕ). come 1 (marksOf w x) 0) e ∙ ap (λ (x : List ℕ). come 1 x 0) (take-zeros (marksThere w) n room)
           ∙ come-new 1 (zeros (marksThere w)) 0 (zeros-at (marksThere w) 0);
@@ -231,7 +246,8 @@ held-on w p l l′ r H T t =
 pub pooled-at : (w : List ℕ) (p : ℕ) → TablesNamed w → RowsPooled w → p < instructions w → PooledAt w p
 pooled-at w p N R h f = R (aAt w p) (N p h f)
 
-pub held-deep : (w : List ℕ) (p : ℕ) (l l′ l″ : List ℕ) (r : Bool) → p < instructions w → Held w p l → Passed w p l l′ r → r ≡ false → MarkedAll w l″ false
+pub held-deep : (w : List ℕ) (p : ℕ) (l l′ l″ : List ℕ) (r : Bool) → p < instructions w → Held w p l → Passed w p l l′ r → r ≡ false
+    → MarkedAll w l″ false
 held-deep w p l l′ l″ r b H T t = record {
   done = λ z. absurd (true≢false (sym z));
   deep = λ z. record { place = p; inside = b; deep = subst (λ (x : List ℕ). Deep w x p) (H .marks) (T .deep t) };

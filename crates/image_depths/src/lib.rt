@@ -1,6 +1,5 @@
 // The depth at each place of an image, found in one pass over its code in the lent scratch, and checked in a second one.
 ghost use mathlib.Core.Path.{_≡_};
-ghost use mathlib.Core.Bool.{Bool};
 ghost use mathlib.Core.List.{List};
 ghost use Prim.Native.Nat.{ℕ, _+_, _-_, _<_, _≤_, max};
 ghost use lib.ListN.{length, take};
@@ -13,12 +12,13 @@ ghost use Rattle.wellmade.proofs.Right.{TablesNamed};
 ghost use Rattle.image_rows.specs.Rows.{Placed, Pooled};
 ghost use Rattle.image_rows.specs.Scratch.{marksOf, Does, Runs};
 ghost use Rattle.image_depths.specs.Checked.{Checked, RowsPooled};
-ghost use Rattle.image_depths.specs.Passing as passing;
+ghost use Rattle.image_depths.specs.Passing.{Read, PooledAt, Passed, MarkedAll, leads, placesRight, tablesRight};
 use bytecode::counted;
 use bytecode::effects;
 use bytecode::entry;
 use bytecode::kept;
 use image_read::word_of;
+use image_rows::Starts;
 use image_rows::come;
 use image_rows::come_rows;
 use image_rows::count_runs;
@@ -28,7 +28,6 @@ use image_rows::rows_right;
 use image_rows::starts_of;
 use image_rows::table_word;
 use image_rows::word_from;
-use image_rows::Starts;
 use zeros::zero;
 
 // An instruction: its word a, where it goes, and what it pushes, pops and needs to find.
@@ -54,7 +53,8 @@ fn chain_takes(w: &[u32], o: Starts, i: u32) -> u64
 
 // The count that is popped on top; the chain is looked at only where it counts.
 fn on_top(w: &[u32], o: Starts, which: u32, a: u32, b: u32) -> u64
-    ensures value { λ r. ⌜ (Placed (now (w .entry)) o → r ≡ table.counted which a b (runs.chainTakes (now (w .entry)) a)) ⌝ }
+    ensures value { λ r. let image = now (w .entry) in
+        ⌜ (Placed image o → r ≡ table.counted which a b (runs.chainTakes image a)) ⌝ }
     ensures small { λ r. ⌜ r ≤ 4294967296 ⌝ }
 {
     if which == 5 {
@@ -65,7 +65,7 @@ fn on_top(w: &[u32], o: Starts, which: u32, a: u32, b: u32) -> u64
 
 // The instruction at `p`.
 fn code_at(w: &[u32], o: Starts, t: &[u8; 125], p: u32) -> Code
-    ensures { λ r. ⌜ (Placed (now (w .entry)) o → now (t .entry) ≡ effectTable → passing.Read (now (w .entry)) p r) ⌝ }
+    ensures { λ r. ⌜ (Placed (now (w .entry)) o → now (t .entry) ≡ effectTable → Read (now (w .entry)) p r) ⌝ }
 {
     let at = 12 + 4 * (p as usize);
     let kind = word_of(w, at);
@@ -97,7 +97,11 @@ fn after(c: Code, d: u32) -> u64
 
 // A Switch hands the mark `m` to its table. If none has come to the table before, its rows and its default are come to.
 fn open_table(w: &[u32], o: Starts, m: u32, l: &mut [u32], i: u32)
-    ensures { λ _. ⌜ (Placed (now (w .entry)) o → Pooled (now (w .entry)) i → 0 < m → Does (now (w .entry)) (λ a. marks.come m (marks.enter (now (w .entry)) i m a) (marks.tableNode (now (w .entry)) i)) (now (l .entry)) (now (l .exit))) ⌝ }
+    ensures { λ _. let image = now (w .entry) in
+        ⌜ (Placed image o
+        → Pooled image i
+        → 0 < m
+        → Does image (λ a. marks.come m (marks.enter image i m a) (marks.tableNode image i)) (now (l .entry)) (now (l .exit))) ⌝ }
 {
     let size = marks_there(o);
     let node = (o.places as usize) + 1 + (i as usize);
@@ -112,7 +116,9 @@ fn open_table(w: &[u32], o: Starts, m: u32, l: &mut [u32], i: u32)
 
 // Place `p` hands on the mark `m`.
 fn hand_on(w: &[u32], o: Starts, c: Code, p: u32, m: u32, l: &mut [u32])
-    ensures { λ _. ⌜ (Placed (now (w .entry)) o → passing.Read (now (w .entry)) p c → passing.PooledAt (now (w .entry)) p → 0 < m → Does (now (w .entry)) (marks.handOn (marks.flowAt (now (w .entry)) p) (now (w .entry)) p m) (now (l .entry)) (now (l .exit))) ⌝ }
+    ensures { λ _. let image = now (w .entry) in
+        let done = Does image (marks.handOn (marks.flowAt image p) image p m) (now (l .entry)) (now (l .exit)) in
+        ⌜ (Placed image o → Read image p c → PooledAt image p → 0 < m → done) ⌝ }
 {
     let size = marks_there(o);
     let next = (p as usize) + 1;
@@ -134,7 +140,9 @@ fn hand_on(w: &[u32], o: Starts, c: Code, p: u32, m: u32, l: &mut [u32])
 
 // Place `p` hands on its mark; false where the mark to hand on has no room in a word.
 fn pass(w: &[u32], o: Starts, t: &[u8; 125], p: u32, l: &mut [u32]) -> bool
-    ensures { λ r. ⌜ (Placed (now (w .entry)) o → now (t .entry) ≡ effectTable → passing.PooledAt (now (w .entry)) p → passing.Passed (now (w .entry)) p (now (l .entry)) (now (l .exit)) r) ⌝ }
+    ensures { λ r. let image = now (w .entry) in
+        let done = Passed image p (now (l .entry)) (now (l .exit)) r in
+        ⌜ (Placed image o → now (t .entry) ≡ effectTable → PooledAt image p → done) ⌝ }
 {
     let m = mark_of(l, marks_there(o), p as usize);
     if m == 0 {
@@ -151,7 +159,13 @@ fn pass(w: &[u32], o: Starts, t: &[u8; 125], p: u32, l: &mut [u32]) -> bool
 
 // The marks of the whole code.
 fn mark_all(w: &[u32], o: Starts, t: &[u8; 125], l: &mut [u32]) -> bool
-    ensures { λ r. ⌜ (Placed (now (w .entry)) o → now (t .entry) ≡ effectTable → TablesNamed (now (w .entry)) → RowsPooled (now (w .entry)) → marks.marksThere (now (w .entry)) ≤ length (now (l .entry)) → passing.MarkedAll (now (w .entry)) (now (l .exit)) r) ⌝ }
+    ensures { λ r. let image = now (w .entry) in
+        ⌜ (Placed image o
+        → now (t .entry) ≡ effectTable
+        → TablesNamed image
+        → RowsPooled image
+        → marks.marksThere image ≤ length (now (l .entry))
+        → MarkedAll image (now (l .exit)) r) ⌝ }
 {
     zero(l);
     come(1, l, marks_there(o), 0);
@@ -169,7 +183,8 @@ fn mark_all(w: &[u32], o: Starts, t: &[u8; 125], l: &mut [u32]) -> bool
 
 // Each way from `p` leads to the mark `m`.
 fn leads(o: Starts, c: Code, l: &[u32], p: u32, m: u64) -> bool
-    ensures { λ r. ⌜ ((w : List ℕ) → Placed w o → passing.Read w p c → r ≡ passing.leads (marks.flowAt w p) w (marksOf w (now (l .entry))) p m) ⌝ }
+    ensures { λ r.
+        ⌜ ((w : List ℕ) → Placed w o → Read w p c → r ≡ leads (marks.flowAt w p) w (marksOf w (now (l .entry))) p m) ⌝ }
 {
     let size = marks_there(o);
     let next = (p as usize) + 1;
@@ -177,7 +192,8 @@ fn leads(o: Starts, c: Code, l: &[u32], p: u32, m: u64) -> bool
         return (mark_of(l, size, (o.places as usize) + 1 + (c.a as usize)) as u64) == m;
     }
     if c.flow == 2 {
-        return ((mark_of(l, size, next) as u64) == m) & ((mark_of(l, size, c.a as usize) as u64) == m);
+        return ((mark_of(l, size, next) as u64) == m)
+            & ((mark_of(l, size, c.a as usize) as u64) == m);
     }
     if c.flow == 1 {
         return (mark_of(l, size, c.a as usize) as u64) == m;
@@ -187,7 +203,9 @@ fn leads(o: Starts, c: Code, l: &[u32], p: u32, m: u64) -> bool
 
 // Place `p` finds what it needs, and leads to its own mark.
 fn place_right(w: &[u32], o: Starts, t: &[u8; 125], l: &[u32], p: u32) -> bool
-    ensures { λ r. ⌜ (Placed (now (w .entry)) o → now (t .entry) ≡ effectTable → r ≡ marks.placeBy (marks.mark (marksOf (now (w .entry)) (now (l .entry))) p) (now (w .entry)) (marksOf (now (w .entry)) (now (l .entry))) p) ⌝ }
+    ensures { λ r. let image = now (w .entry) in
+        let found = marksOf image (now (l .entry)) in
+        ⌜ (Placed image o → now (t .entry) ≡ effectTable → r ≡ marks.placeBy (marks.mark found p) image found p) ⌝ }
 {
     let m = mark_of(l, marks_there(o), p as usize);
     if m == 0 {
@@ -199,7 +217,8 @@ fn place_right(w: &[u32], o: Starts, t: &[u8; 125], l: &[u32], p: u32) -> bool
 }
 
 fn places_right(w: &[u32], o: Starts, t: &[u8; 125], l: &[u32]) -> bool
-    ensures { λ r. ⌜ (Placed (now (w .entry)) o → now (t .entry) ≡ effectTable → r ≡ passing.placesRight (now (w .entry)) (marksOf (now (w .entry)) (now (l .entry)))) ⌝ }
+    ensures { λ r. let image = now (w .entry) in
+        ⌜ (Placed image o → now (t .entry) ≡ effectTable → r ≡ placesRight image (marksOf image (now (l .entry)))) ⌝ }
 {
     let n = o.places;
     let mut p: u32 = 0;
@@ -215,7 +234,10 @@ fn places_right(w: &[u32], o: Starts, t: &[u8; 125], l: &[u32]) -> bool
 
 // The rows and the default of table `i` have its mark.
 fn table_right(w: &[u32], o: Starts, l: &[u32], i: u32) -> bool
-    ensures { λ r. ⌜ (Placed (now (w .entry)) o → Pooled (now (w .entry)) i → Runs (now (w .entry)) (now (l .entry)) → r ≡ marks.tableBy (marks.mark (marksOf (now (w .entry)) (now (l .entry))) (marks.tableNode (now (w .entry)) i)) (now (w .entry)) (marksOf (now (w .entry)) (now (l .entry))) i) ⌝ }
+    ensures { λ r. let image = now (w .entry) in
+        let found = marksOf image (now (l .entry)) in
+        let right = marks.tableBy (marks.mark found (marks.tableNode image i)) image found i in
+        ⌜ (Placed image o → Pooled image i → Runs image (now (l .entry)) → r ≡ right) ⌝ }
 {
     let size = marks_there(o);
     let m = mark_of(l, size, (o.places as usize) + 1 + (i as usize));
@@ -228,7 +250,9 @@ fn table_right(w: &[u32], o: Starts, l: &[u32], i: u32) -> bool
 }
 
 fn tables_right(w: &[u32], o: Starts, l: &[u32]) -> bool
-    ensures { λ r. ⌜ (Placed (now (w .entry)) o → RowsPooled (now (w .entry)) → Runs (now (w .entry)) (now (l .entry)) → r ≡ passing.tablesRight (now (w .entry)) (marksOf (now (w .entry)) (now (l .entry)))) ⌝ }
+    ensures { λ r. let image = now (w .entry) in
+        let found = marksOf image (now (l .entry)) in
+        ⌜ (Placed image o → RowsPooled image → Runs image (now (l .entry)) → r ≡ tablesRight image found) ⌝ }
 {
     let n = o.tables;
     let mut i: u32 = 0;
@@ -263,7 +287,12 @@ fn most(l: &[u32], size: usize, n: u32) -> u32
 
 // The marks agree everywhere, one value remains, and the reported depth is the greatest.
 fn marks_right(w: &[u32], o: Starts, t: &[u8; 125], l: &[u32]) -> bool
-    ensures { λ r. ⌜ (Placed (now (w .entry)) o → now (t .entry) ≡ effectTable → RowsPooled (now (w .entry)) → Runs (now (w .entry)) (now (l .entry)) → r ≡ marks.marksRight (now (w .entry)) (marksOf (now (w .entry)) (now (l .entry)))) ⌝ }
+    ensures { λ r. let image = now (w .entry) in
+        ⌜ (Placed image o
+        → now (t .entry) ≡ effectTable
+        → RowsPooled image
+        → Runs image (now (l .entry))
+        → r ≡ marks.marksRight image (marksOf image (now (l .entry)))) ⌝ }
 {
     let size = marks_there(o);
     let n = o.places;
@@ -276,7 +305,9 @@ fn marks_right(w: &[u32], o: Starts, t: &[u8; 125], l: &[u32]) -> bool
 // Whether runs agree on the depth at each place, find what they need, end with one value, and reach the depth that the image reports.
 // What the scratch holds in the end is not said.
 pub fn depths_right(w: &[u32], l: &mut [u32]) -> bool
-    ensures { λ r. ⌜ (Checked (now (w .entry)) → length (now (l .entry)) ≡ length (now (w .entry)) → r ≡ marks.marksRight (now (w .entry)) (marks.marked (now (w .entry)) (marks.marksThere (now (w .entry))) (words.instructions (now (w .entry))))) ⌝ }
+    ensures { λ r. let image = now (w .entry) in
+        let marked = marks.marked image (marks.marksThere image) (words.instructions image) in
+        ⌜ (Checked image → length (now (l .entry)) ≡ length image → r ≡ marks.marksRight image marked) ⌝ }
 {
     let o = starts_of(w);
     let t = effects();

@@ -1,11 +1,11 @@
 -- Words of tables and rows, read by where their sections start.
 use Prim.Native.Nat.{ℕ, _+_, _*_, _-_, _≤_, _<_}
-use mathlib.Core.Path.{_≡_, refl, sym, ap, _∙_, subst}
+use mathlib.Core.Path.{_≡_, refl, sym, ap, _∙_}
 use mathlib.Core.Bool.{Bool, true, false}
 use mathlib.Core.List.{List}
 use native.Mathlib.Omega.{arith}
-use lib.Dec.{eqb, ltb}
-use lib.ListN.{length, getD, List·getD-eq-default}
+use lib.Dec.{eqb}
+use lib.ListN.{length, List·getD-eq-default}
 use borrow.Author.Tests.{eq-eqb, ne-eqb, lt-ltb, le-ltb}
 use Rattle.lowering.specs.Words.{word, switchesAt, casesAt, rangesAt, switchWord, caseWord, rangeWord}
 use Rattle.lowering.specs.Run.{rowTarget}
@@ -40,7 +40,8 @@ row-case w o q x h e P =
     let same : o .rows + 2 * q ≡ casesAt w + 2 * q = omega (arith, P .rows) in
     e ∙ ap (word w) same ∙ sym (is-case w q (omega (arith, P .cases)))
 
-pub row-range : (w : List ℕ) (o : Starts) (q x : ℕ) → o .cases ≤ q → q - o .cases < o .ranges → x ≡ word w (o .spans + (6 * (q - o .cases) + 5)) → Placed w o → x ≡ rowOf w q
+pub row-range : (w : List ℕ) (o : Starts) (q x : ℕ) → o .cases ≤ q → q - o .cases < o .ranges
+    → x ≡ word w (o .spans + (6 * (q - o .cases) + 5)) → Placed w o → x ≡ rowOf w q
 row-range w o q x h g e P =
     let same : o .spans + (6 * (q - o .cases) + 5) ≡ rangesAt w + (6 * (q - cases w) + 5) = omega (arith, P .spans, P .cases) in
     e ∙ ap (word w) same ∙ sym (is-range w q (omega (arith, P .cases)) (omega (arith, P .cases, P .ranges)))
@@ -57,10 +58,12 @@ first-range : (w : List ℕ) (i : ℕ) → (switchWord w i 0 ≡ 0 → ⊥) → 
 unfolding firstRow
 first-range w i z = rw (ne-eqb (switchWord w i 0) 0 z, firstRow)
 
-pub first-of-cases : (w : List ℕ) (o : Starts) (i kind x : ℕ) → (Placed w o → kind ≡ switchWord w i 0) → kind ≡ 0 → (Placed w o → x ≡ switchWord w i 1) → Placed w o → x ≡ firstRow w i
+pub first-of-cases : (w : List ℕ) (o : Starts) (i kind x : ℕ) → (Placed w o → kind ≡ switchWord w i 0) → kind ≡ 0
+    → (Placed w o → x ≡ switchWord w i 1) → Placed w o → x ≡ firstRow w i
 first-of-cases w o i kind x k z e P = e P ∙ sym (first-case w i (sym (k P) ∙ z))
 
-pub first-of-ranges : (w : List ℕ) (o : Starts) (i kind x : ℕ) → (Placed w o → kind ≡ switchWord w i 0) → (kind ≡ 0 → ⊥) → (Placed w o → x ≡ switchWord w i 1) → Placed w o → o .cases + x ≡ firstRow w i
+pub first-of-ranges : (w : List ℕ) (o : Starts) (i kind x : ℕ) → (Placed w o → kind ≡ switchWord w i 0) → (kind ≡ 0 → ⊥)
+    → (Placed w o → x ≡ switchWord w i 1) → Placed w o → o .cases + x ≡ firstRow w i
 first-of-ranges w o i kind x k z e P =
     let same : o .cases + x ≡ cases w + switchWord w i 1 = omega (arith, P .cases, e P) in
     same ∙ sym (first-range w i (λ q. z (k P ∙ q)))
@@ -72,7 +75,8 @@ target-case w i r e =
     let same : casesAt w + 2 * (switchWord w i 1 + r) + 0 ≡ casesAt w + 2 * (switchWord w i 1 + r) = omega arith in
     rw (e, rowTarget) (ap (word w) same)
 
-target-range : (w : List ℕ) (i r : ℕ) → eqb (switchWord w i 0) 0 ≡ false → rowTarget w i r ≡ word w (rangesAt w + (6 * (switchWord w i 1 + r) + 5))
+target-range : (w : List ℕ) (i r : ℕ) → eqb (switchWord w i 0) 0 ≡ false
+    → rowTarget w i r ≡ word w (rangesAt w + (6 * (switchWord w i 1 + r) + 5))
 unfolding rowTarget rangeWord
 target-range w i r e =
     let same : rangesAt w + 6 * (switchWord w i 1 + r) + 5 ≡ rangesAt w + (6 * (switchWord w i 1 + r) + 5) = omega arith in

@@ -1,14 +1,14 @@
 -- Runs of rows that lead to one mark, counted from the front, tell whether the rows of a table do.
 use Prim.Native.Nat.{ℕ, zero, suc, _+_, _-_, _≤_, _<_, min}
-use mathlib.Core.Path.{_≡_, refl, sym, ap, ap₂, _∙_, subst}
+use mathlib.Core.Path.{_≡_, refl, sym, ap, _∙_, subst}
 use mathlib.Core.Bool.{Bool, true, false, _&&_, and-eq-true-iff}
 use mathlib.Core.List.{List}
 use native.Mathlib.Omega.{arith}
 use native.Mathlib.Numerals.{add-one}
-use lib.Dec.{eqb, ltb, leb}
-use lib.ListN.{length, getD, set, take, drop, length-drop}
+use lib.Dec.{eqb, leb}
+use lib.ListN.{length, set, take, drop, length-drop}
 use lib.Seq.{take-set-le, drop-set-add, getD-drop, getD-set-same, getD-set-other}
-use borrow.Author.Tests.{eq-eqb, ne-eqb, eqb-true, eqb-false, le-leb, leb-true, ltb-true, ltb-false}
+use borrow.Author.Tests.{eq-eqb, ne-eqb, eqb-true, eqb-false, le-leb, leb-true}
 use Rattle.words.specs.Count.{allBelow}
 use Rattle.words.specs.CountLaws.{all-at, all-of, all-same}
 use Rattle.lowering.specs.Words.{word, switchWord}
@@ -48,7 +48,8 @@ module _ (f : ℕ → ℕ) where
   run-alike zero j a b = let e : j ≡ 0 = omega arith in ap f e
   run-alike (suc q) j a b = by (run-alike q) (eqb j (suc q)) refl (eqb (f (suc q)) (f q)) refl
     where
-      by : ((j : ℕ) → j ≤ q → q < j + runBefore f (suc q) → f j ≡ f q) → (s : Bool) → eqb j (suc q) ≡ s → (t : Bool) → eqb (f (suc q)) (f q) ≡ t → f j ≡ f (suc q)
+      by : ((j : ℕ) → j ≤ q → q < j + runBefore f (suc q) → f j ≡ f q) → (s : Bool) → eqb j (suc q) ≡ s → (t : Bool)
+          → eqb (f (suc q)) (f q) ≡ t → f j ≡ f (suc q)
       by before true d t e = ap f (eqb-true j (suc q) d)
       by before false d true e =
           let n = eqb-false j (suc q) d in
@@ -70,13 +71,17 @@ module _ (f : ℕ → ℕ) where
       let here : first + suc n ≡ suc (first + n) = omega arith in
       let end : first + suc (suc n) ≡ suc (suc (first + n)) = omega arith in
       let last : f (suc (first + n)) ≡ m = subst (λ (q : ℕ). f q ≡ m) here (h (suc n) (omega arith)) in
-      let below : suc n ≤ runBefore f (suc (first + n)) = subst (λ (q : ℕ). suc n ≤ runBefore f q) here (run-long first m (suc n) (λ j b. h j (omega arith))) in
+      let below : suc n ≤ runBefore f (suc (first + n)) =
+      subst (λ (q : ℕ). suc n ≤ runBefore f q) here (run-long first m (suc n) (λ j b. h j (omega arith))) in
       subst (λ (q : ℕ). suc (suc n) ≤ runBefore f q) (sym end)
       (omega (arith, run-same (suc (first + n)) (last ∙ sym (h n (omega arith)))))
 
   -- n rows that end at q have the mark m: by the run that ends there, as far as a word counts
-  alike-is : (first m n q x y : ℕ) → 0 < n → n ≤ 4294967295 → q ≡ first + n - 1 → x ≡ f q → y ≡ min (runBefore f (suc q)) 4294967295 → (eqb x m && leb n y) ≡ allBelow n (λ j. eqb (f (first + j)) m)
-  alike-is first m n q x y h g e k r = both (eqb x m && leb n y) (allBelow n (λ j. eqb (f (first + j)) m)) (λ t. forth (and-eq-true-iff (eqb x m) (leb n y) .0 t)) (λ t. and-eq-true-iff (eqb x m) (leb n y) .1 (back t))
+  alike-is : (first m n q x y : ℕ) → 0 < n → n ≤ 4294967295 → q ≡ first + n - 1 → x ≡ f q → y ≡ min (runBefore f (suc q)) 4294967295
+      → (eqb x m && leb n y) ≡ allBelow n (λ j. eqb (f (first + j)) m)
+  alike-is first m n q x y h g e k r =
+      both (eqb x m && leb n y) (allBelow n (λ j. eqb (f (first + j)) m)) (λ t. forth (and-eq-true-iff (eqb x m) (leb n y) .0 t))
+      (λ t. and-eq-true-iff (eqb x m) (leb n y) .1 (back t))
     where
       forth : (eqb x m ≡ true) × (leb n y ≡ true) → allBelow n (λ j. eqb (f (first + j)) m) ≡ true
       forth t = all-of (λ j. eqb (f (first + j)) m) n (λ j b.
@@ -96,7 +101,8 @@ pub record Counting (w l₀ : List ℕ) (q before run : ℕ) (l : List ℕ) : Ty
   pub marks : marksOf w l ≡ marksOf w l₀
   pub last : before ≡ markBefore (rowMark w l₀) q
   pub long : run ≡ min (runBefore (rowMark w l₀) q) 4294967295
-  pub runs : marksThere w + cases w + ranges w ≤ length l₀ → (j : ℕ) → j < q → noted w l j ≡ min (runBefore (rowMark w l₀) (suc j)) 4294967295
+  pub runs : marksThere w + cases w + ranges w ≤ length l₀ → (j : ℕ) → j < q
+      → noted w l j ≡ min (runBefore (rowMark w l₀) (suc j)) 4294967295
 
 pub counting-start : (w l : List ℕ) → Counting w l 0 0 0 l
 unfolding markBefore runBefore
@@ -107,7 +113,9 @@ module _ (w l₀ : List ℕ) (q before run t m run′ size : ℕ) (l l′ : List
     (target : t ≡ rowOf w q) (there : m ≡ mark (take size l) t)
     (same : m ≡ before → run′ ≡ min (run + 1) 4294967295) (other : (m ≡ before → ⊥) → run′ ≡ 1) (put : l′ ≡ set l (size + q) run′) where
   mark-is : m ≡ rowMark w l₀ q
-  mark-is = there ∙ ap (mark (take size l)) target ∙ ap (λ (n : ℕ). mark (take n l) (rowOf w q)) s ∙ ap (λ (a : List ℕ). mark a (rowOf w q)) (C .marks)
+  mark-is =
+      there ∙ ap (mark (take size l)) target ∙ ap (λ (n : ℕ). mark (take n l) (rowOf w q)) s
+      ∙ ap (λ (a : List ℕ). mark a (rowOf w q)) (C .marks)
 
   run-is : run′ ≡ min (runBefore (rowMark w l₀) (suc q)) 4294967295
   run-is = by (eqb m before) refl
@@ -124,7 +132,8 @@ module _ (w l₀ : List ℕ) (q before run t m run′ size : ℕ) (l l′ : List
   rest-is =
       ap (drop (marksThere w)) (put ∙ ap (λ (n : ℕ). set l (n + q) run′) s) ∙ drop-set-add (marksThere w) l q run′
 
-  noted-at : marksThere w + cases w + ranges w ≤ length l₀ → (j : ℕ) → j < q + 1 → (b : Bool) → eqb j q ≡ b → noted w l′ j ≡ min (runBefore (rowMark w l₀) (suc j)) 4294967295
+  noted-at : marksThere w + cases w + ranges w ≤ length l₀ → (j : ℕ) → j < q + 1 → (b : Bool) → eqb j q ≡ b
+      → noted w l′ j ≡ min (runBefore (rowMark w l₀) (suc j)) 4294967295
   noted-at room j h true e =
       let z = eqb-true j q e in
       ap (λ (x : List ℕ). word x j) rest-is ∙ ap (word (set (drop (marksThere w) l) q run′)) z
@@ -144,16 +153,20 @@ module _ (w l₀ : List ℕ) (q before run t m run′ size : ℕ) (l l′ : List
     runs = λ room j h. noted-at room j h (eqb j q) refl;
   }
 
-pub counting-done : (w : List ℕ) (o : Starts) (l₀ : List ℕ) (q total before run : ℕ) (l : List ℕ) → Placed w o → total ≡ o .cases + o .ranges → q ≡ total → Counting w l₀ q before run l → Counted w l₀ l
+pub counting-done : (w : List ℕ) (o : Starts) (l₀ : List ℕ) (q total before run : ℕ) (l : List ℕ) → Placed w o
+    → total ≡ o .cases + o .ranges → q ≡ total → Counting w l₀ q before run l → Counted w l₀ l
 counting-done w o l₀ q total before run l P e d C = record {
   marks = C .marks;
-  runs = λ room. record { runs = λ j h.
-      subst (λ (a : List ℕ). noted w l j ≡ min (runBefore (λ i. mark a (rowOf w i)) (suc j)) 4294967295) (sym (C .marks))
-      (C .runs room j (omega (arith, P .cases, P .ranges))) };
+  runs = λ room. record {
+    runs = λ j h.
+        subst (λ (a : List ℕ). noted w l j ≡ min (runBefore (λ i. mark a (rowOf w i)) (suc j)) 4294967295) (sym (C .marks))
+        (C .runs room j (omega (arith, P .cases, P .ranges)));
+  };
 }
 
 -- the rows of a table
-pub rows-none : (w l : List ℕ) (i m rows : ℕ) → rows ≡ switchWord w i 2 → rows ≡ 0 → true ≡ allBelow (switchWord w i 2) (λ j. eqb (mark (marksOf w l) (rowTarget w i j)) m)
+pub rows-none : (w l : List ℕ) (i m rows : ℕ) → rows ≡ switchWord w i 2 → rows ≡ 0
+    → true ≡ allBelow (switchWord w i 2) (λ j. eqb (mark (marksOf w l) (rowTarget w i j)) m)
 unfolding allBelow
 rows-none w l i m rows e z = ap (λ (n : ℕ). allBelow n (λ j. eqb (mark (marksOf w l) (rowTarget w i j)) m)) (sym z ∙ e)
 
@@ -171,4 +184,4 @@ rows-some w o l i m rows first size last t x y e z small s a d g h k P Q R =
     alike-is (rowMark w l) first m rows last x y (omega (arith, z)) small d there (run ∙ R .runs last inside)
     ∙ ap (λ (n : ℕ). allBelow n (λ j. eqb (rowMark w l (first + j)) m)) (e P)
     ∙ all-same (λ j. eqb (rowMark w l (first + j)) m) (λ j. eqb (mark (marksOf w l) (rowTarget w i j)) m) (switchWord w i 2)
-      (λ j b. ap (λ (u : ℕ). eqb (mark (marksOf w l) u) m) (ap (λ (n : ℕ). rowOf w (n + j)) (a P) ∙ sym (row-of w i j Q b)))
+    (λ j b. ap (λ (u : ℕ). eqb (mark (marksOf w l) u) m) (ap (λ (n : ℕ). rowOf w (n + j)) (a P) ∙ sym (row-of w i j Q b)))

@@ -1,5 +1,5 @@
 -- What a store does to the marks and to the words of rows behind them.
-use Prim.Native.Nat.{ℕ, zero, suc, _+_, _-_, _≤_, _<_, min, max}
+use Prim.Native.Nat.{ℕ, _+_, _≤_, _<_, min, max}
 use mathlib.Core.Path.{_≡_, refl, sym, ap, _∙_, subst}
 use mathlib.Core.List.{List}
 use native.Mathlib.Omega.{arith}
@@ -10,7 +10,7 @@ use Rattle.wellmade.specs.Marks.{mark, marksThere, come}
 use Rattle.wellmade.proofs.ComeLaws.{come-new, come-old}
 use Rattle.image_rows.specs.declared.Starts.{Starts}
 use Rattle.image_rows.specs.Rows.{Placed, rowOf}
-use Rattle.image_rows.specs.Scratch.{marksOf, noted, Left, Noted, Stepped}
+use Rattle.image_rows.specs.Scratch.{marksOf, Left, Noted, Stepped}
 
 pub size-is : (w : List ℕ) (o : Starts) (size : ℕ) → size ≡ o .places + 1 + o .tables → Placed w o → size ≡ marksThere w
 size-is w o size e P = omega (arith, P .places, P .tables)
@@ -65,7 +65,8 @@ noted-more size k n l h =
 
 -- one row of a table
 module _ (w : List ℕ) (o : Starts) (m k n size was : ℕ) (l l₁ : List ℕ) where
-  pub stepped-fresh : (t : ℕ) (l₂ : List ℕ) → size ≡ o .places + 1 + o .tables → Noted size k n was l l₁ → was ≡ 0 → (Placed w o → t ≡ rowOf w k) → Left size m t l₁ l₂ → Placed w o → Stepped w m k n 1 l l₂
+  pub stepped-fresh : (t : ℕ) (l₂ : List ℕ) → size ≡ o .places + 1 + o .tables → Noted size k n was l l₁ → was ≡ 0
+      → (Placed w o → t ≡ rowOf w k) → Left size m t l₁ l₂ → Placed w o → Stepped w m k n 1 l l₂
   stepped-fresh t l₂ e N z g L P =
       let s = size-is w o size e P in
       let N′ = subst (λ (x : ℕ). Noted x k n was l l₁) s N in
@@ -76,7 +77,8 @@ module _ (w : List ℕ) (o : Starts) (m k n size was : ℕ) (l l₁ : List ℕ) 
         rest = L′ .rest ∙ N′ .rest ∙ ap (λ (x : ℕ). set (drop (marksThere w) l) k (max x n)) (N′ .was);
       }
 
-  pub stepped-again : (r : ℕ) → size ≡ o .places + 1 + o .tables → Noted size k n was l l₁ → (was ≡ 0 → ⊥) → r ≡ min was n → Placed w o → Stepped w m k n r l l₁
+  pub stepped-again : (r : ℕ) → size ≡ o .places + 1 + o .tables → Noted size k n was l l₁ → (was ≡ 0 → ⊥) → r ≡ min was n
+      → Placed w o → Stepped w m k n r l l₁
   stepped-again r e N z h P =
       let N′ = subst (λ (x : ℕ). Noted x k n was l l₁) (size-is w o size e P) N in
       record {

@@ -1,5 +1,5 @@
 -- All rows of a table are come to, though rows that were seen before are passed over.
-use Prim.Native.Nat.{ℕ, zero, suc, _+_, _-_, _≤_, _<_, min, max}
+use Prim.Native.Nat.{ℕ, zero, suc, _+_, _-_, _≤_, _<_, max}
 use mathlib.Core.Path.{_≡_, refl, sym, ap, _∙_, subst}
 use mathlib.Core.Bool.{Bool, true, false}
 use mathlib.Core.List.{List}
@@ -13,8 +13,7 @@ use Rattle.lowering.specs.Words.{word, switchWord}
 use Rattle.lowering.specs.Run.{rowTarget}
 use Rattle.wellmade.specs.Marks.{mark, marksThere, come, comes}
 use Rattle.wellmade.proofs.ComeLaws.{come-new, come-old, come-keeps, come-length, comes-keep}
-use Rattle.image_rows.specs.declared.Starts.{Starts}
-use Rattle.image_rows.specs.Rows.{Placed, rowOf, firstRow, Pooled}
+use Rattle.image_rows.specs.Rows.{rowOf, firstRow, Pooled}
 use Rattle.image_rows.specs.Scratch.{marksOf, noted, Settled, Seen, Did, Does, Left, Stepped}
 use Rattle.image_rows.proofs.ReadLaws.{row-of}
 use Rattle.image_rows.proofs.ScratchLaws.{come-past}
@@ -61,7 +60,8 @@ comes-more : (m : ℕ) (f : ℕ → ℕ) (k : ℕ) (l : List ℕ) → comes m f 
 unfolding comes
 comes-more m f k l = rw add-one refl
 
-comes-skip : (m : ℕ) (f : ℕ → ℕ) (k n : ℕ) (l : List ℕ) → ((r : ℕ) → k ≤ r → r < k + n → Settled (comes m f k l) (f r)) → comes m f (k + n) l ≡ comes m f k l
+comes-skip : (m : ℕ) (f : ℕ → ℕ) (k n : ℕ) (l : List ℕ) → ((r : ℕ) → k ≤ r → r < k + n → Settled (comes m f k l) (f r))
+    → comes m f (k + n) l ≡ comes m f k l
 unfolding comes
 comes-skip m f k zero l S = let e : k + zero ≡ k = omega arith in ap (λ (j : ℕ). comes m f j l) e
 comes-skip m f k (suc n) l S =
@@ -85,45 +85,50 @@ set-most l k v = by (ltb k (length l)) refl
         let past : length (set l k v) ≤ k = omega (arith, length-set l k v, ltb-false k (length l) e) in
         omega (arith, List·getD-eq-default (set l k v) 0 past)
 
+-- the rows of the list, from one of them on
+abbrev pub rowsFrom : List ℕ → ℕ → ℕ → ℕ
+rowsFrom w first j = rowOf w (first + j)
+
 -- r rows of a table are passed, from the scratch l₀ on: the words of rows tell what will hold once all are
 pub record Going (w : List ℕ) (m first rows : ℕ) (l₀ : List ℕ) (r : ℕ) (l : List ℕ) : Type 0 where
-  pub marks : marksOf w l ≡ comes m (λ j. rowOf w (first + j)) r (marksOf w l₀)
+  pub marks : marksOf w l ≡ comes m (rowsFrom w first) r (marksOf w l₀)
   pub ahead : (q : ℕ) → first + r ≤ q → noted w l q ≡ noted w l₀ q
-  pub seen : (q j : ℕ) → q ≤ j → j < q + noted w l q → Settled (comes m (λ j. rowOf w (first + j)) rows (marksOf w l₀)) (rowOf w j)
+  pub seen : (q j : ℕ) → q ≤ j → j < q + noted w l q → Settled (comes m (rowsFrom w first) rows (marksOf w l₀)) (rowOf w j)
 
 module _ (w : List ℕ) (m first rows : ℕ) (l₀ : List ℕ) where
-  f : ℕ → ℕ
-  f j = rowOf w (first + j)
-
   pub going-start : Seen w l₀ → Going w m first rows l₀ 0 l₀
   unfolding comes
   going-start S = record {
     marks = refl;
     ahead = λ q h. refl;
-    seen = λ q j a b. settled-comes m (λ j. rowOf w (first + j)) rows (marksOf w l₀) (rowOf w j) (S .seen q j a b);
+    seen = λ q j a b. settled-comes m (rowsFrom w first) rows (marksOf w l₀) (rowOf w j) (S .seen q j a b);
   }
 
-  module _ (r s : ℕ) (l l′ : List ℕ) (p : 0 < m) (S : Seen w l₀) (h : r < rows) (G : Going w m first rows l₀ r l) (T : Stepped w m (first + r) (rows - r) s l l′) where
+  module _ (r s : ℕ) (l l′ : List ℕ) (p : 0 < m) (S : Seen w l₀) (h : r < rows) (G : Going w m first rows l₀ r l)
+      (T : Stepped w m (first + r) (rows - r) s l l′) where
     -- what was noted of this row tells of the scratch l₀
     was : noted w l (first + r) ≡ noted w l₀ (first + r)
     was = G .ahead (first + r) (omega arith)
 
-    step-marks : (b : Bool) → eqb (noted w l (first + r)) 0 ≡ b → (0 < s) × (marksOf w l′ ≡ comes m (λ j. rowOf w (first + j)) (r + s) (marksOf w l₀))
+    step-marks : (b : Bool) → eqb (noted w l (first + r)) 0 ≡ b
+        → (0 < s) × (marksOf w l′ ≡ comes m (rowsFrom w first) (r + s) (marksOf w l₀))
     step-marks true e =
         let t = T .fresh (eqb-true (noted w l (first + r)) 0 e) in
-        let one : r + 1 ≡ r + s = omega (arith, t .0) in
-        (omega (arith, t .0),
-        t .1 ∙ ap (λ (x : List ℕ). come m x (rowOf w (first + r))) (G .marks)
-        ∙ sym (comes-more m (λ j. rowOf w (first + j)) r (marksOf w l₀)) ∙ ap (λ (j : ℕ). comes m (λ j. rowOf w (first + j)) j (marksOf w l₀)) one)
+        let one : r + 1 ≡ r + s = omega (arith, t .0) in (
+          omega (arith, t .0),
+          t .1 ∙ ap (λ (x : List ℕ). come m x (rowOf w (first + r))) (G .marks)
+              ∙ sym (comes-more m (rowsFrom w first) r (marksOf w l₀)) ∙ ap (λ (j : ℕ). comes m (rowsFrom w first) j (marksOf w l₀)) one,
+        )
     step-marks false e =
         let z = eqb-false (noted w l (first + r)) 0 e in
         let t = T .again z in
-        let some : 0 < noted w l (first + r) = omega (arith, z) in
-        (omega (arith, t .0),
-        t .1 ∙ G .marks
-        ∙ sym (comes-skip m (λ j. rowOf w (first + j)) r s (marksOf w l₀) (λ j a b.
-            settled-comes m (λ j. rowOf w (first + j)) r (marksOf w l₀) (rowOf w (first + j))
-            (S .seen (first + r) (first + j) (omega arith) (omega (arith, t .0, was))))))
+        let some : 0 < noted w l (first + r) = omega (arith, z) in (
+          omega (arith, t .0),
+          t .1 ∙ G .marks
+              ∙ sym (comes-skip m (rowsFrom w first) r s (marksOf w l₀) (λ j a b.
+              settled-comes m (rowsFrom w first) r (marksOf w l₀) (rowOf w (first + j))
+              (S .seen (first + r) (first + j) (omega arith) (omega (arith, t .0, was))))),
+        )
 
     noted-else : (q : ℕ) → (q ≡ first + r → ⊥) → noted w l′ q ≡ noted w l q
     noted-else q n =
@@ -135,24 +140,25 @@ module _ (w : List ℕ) (m first rows : ℕ) (l₀ : List ℕ) where
         subst (λ (x : List ℕ). word x (first + r) ≤ max (noted w l (first + r)) (rows - r)) (sym (T .rest))
         (set-most (drop (marksThere w) l) (first + r) (max (noted w l (first + r)) (rows - r)))
 
-    settled-here : (j : ℕ) → first + r ≤ j → j < first + r + noted w l′ (first + r) → Settled (comes m (λ j. rowOf w (first + j)) rows (marksOf w l₀)) (rowOf w j)
+    settled-here : (j : ℕ) → first + r ≤ j → j < first + r + noted w l′ (first + r)
+        → Settled (comes m (rowsFrom w first) rows (marksOf w l₀)) (rowOf w j)
     settled-here j a b = by (ltb j (first + rows)) refl
       where
-        by : (t : Bool) → ltb j (first + rows) ≡ t → Settled (comes m (λ j. rowOf w (first + j)) rows (marksOf w l₀)) (rowOf w j)
+        by : (t : Bool) → ltb j (first + rows) ≡ t → Settled (comes m (rowsFrom w first) rows (marksOf w l₀)) (rowOf w j)
         by true e =
             let inside = ltb-true j (first + rows) e in
             let same : first + (j - first) ≡ j = omega arith in
-            subst (λ (i : ℕ). Settled (comes m (λ j. rowOf w (first + j)) rows (marksOf w l₀)) (rowOf w i)) same
-            (settled-rows m (λ j. rowOf w (first + j)) rows (marksOf w l₀) p (j - first) (omega arith))
+            subst (λ (i : ℕ). Settled (comes m (rowsFrom w first) rows (marksOf w l₀)) (rowOf w i)) same
+            (settled-rows m (rowsFrom w first) rows (marksOf w l₀) p (j - first) (omega arith))
         by false e =
             let past = ltb-false j (first + rows) e in
-            settled-comes m (λ j. rowOf w (first + j)) rows (marksOf w l₀) (rowOf w j)
+            settled-comes m (rowsFrom w first) rows (marksOf w l₀) (rowOf w j)
             (S .seen (first + r) j a (omega (arith, noted-here, was)))
 
-    step-seen : (q j : ℕ) → q ≤ j → j < q + noted w l′ q → Settled (comes m (λ j. rowOf w (first + j)) rows (marksOf w l₀)) (rowOf w j)
+    step-seen : (q j : ℕ) → q ≤ j → j < q + noted w l′ q → Settled (comes m (rowsFrom w first) rows (marksOf w l₀)) (rowOf w j)
     step-seen q j a b = by (eqb q (first + r)) refl
       where
-        by : (t : Bool) → eqb q (first + r) ≡ t → Settled (comes m (λ j. rowOf w (first + j)) rows (marksOf w l₀)) (rowOf w j)
+        by : (t : Bool) → eqb q (first + r) ≡ t → Settled (comes m (rowsFrom w first) rows (marksOf w l₀)) (rowOf w j)
         by true e =
             let same = eqb-true q (first + r) e in
             settled-here j (omega arith) (subst (λ (i : ℕ). j < i + noted w l′ i) same b)
@@ -167,31 +173,33 @@ module _ (w : List ℕ) (m first rows : ℕ) (l₀ : List ℕ) where
           seen = step-seen;
         }
 
-  pub going-done : (i r : ℕ) (l : List ℕ) → r ≡ rows → first ≡ firstRow w i → rows ≡ switchWord w i 2 → Pooled w i → Going w m first rows l₀ r l → Did w (comes m (rowTarget w i) (switchWord w i 2)) l₀ l
+  pub going-done : (i r : ℕ) (l : List ℕ) → r ≡ rows → first ≡ firstRow w i → rows ≡ switchWord w i 2 → Pooled w i
+      → Going w m first rows l₀ r l → Did w (comes m (rowTarget w i) (switchWord w i 2)) l₀ l
   going-done i r l e a b P G = record {
-    marks = G .marks ∙ whole r e;
-    seen = record { seen = λ q j c d. subst (λ (x : List ℕ). Settled x (rowOf w j)) (sym (G .marks ∙ ap (λ (k : ℕ). comes m (λ j. rowOf w (first + j)) k (marksOf w l₀)) e)) (G .seen q j c d) };
+    marks = all ∙ ap (λ (k : ℕ). comes m (rowsFrom w first) k (marksOf w l₀)) b ∙ comes-same m (rowsFrom w first) (rowTarget w i)
+        (switchWord w i 2) (marksOf w l₀) (λ j h. ap (λ (x : ℕ). rowOf w (x + j)) a ∙ sym (row-of w i j P h));
+    seen = record { seen = λ q j c d. subst (λ (x : List ℕ). Settled x (rowOf w j)) (sym all) (G .seen q j c d) };
   }
     where
-      whole : (r : ℕ) → r ≡ rows → comes m (λ j. rowOf w (first + j)) r (marksOf w l₀) ≡ comes m (rowTarget w i) (switchWord w i 2) (marksOf w l₀)
-      whole r e =
-          ap (λ (k : ℕ). comes m (λ j. rowOf w (first + j)) k (marksOf w l₀)) (e ∙ b)
-          ∙ comes-same m (λ j. rowOf w (first + j)) (rowTarget w i) (switchWord w i 2) (marksOf w l₀)
-            (λ j h. ap (λ (x : ℕ). rowOf w (x + j)) a ∙ sym (row-of w i j P h))
+      all : marksOf w l ≡ comes m (rowsFrom w first) rows (marksOf w l₀)
+      all = G .marks ∙ ap (λ (k : ℕ). comes m (rowsFrom w first) k (marksOf w l₀)) e
 
 -- changes of the marks, one after another
 pub did-none : (w l : List ℕ) → Does w (λ a. a) l l
 did-none w l S = record { marks = refl; seen = S }
 
-pub did-come : (w : List ℕ) (o : Starts) (size m t : ℕ) (l l′ : List ℕ) → size ≡ marksThere w → Left size m t l l′ → Does w (λ a. come m a t) l l′
-did-come w o size m t l l′ e L S =
+pub did-come : (w : List ℕ) (size m t : ℕ) (l l′ : List ℕ) → size ≡ marksThere w → Left size m t l l′
+    → Does w (λ a. come m a t) l l′
+did-come w size m t l l′ e L S =
     let L′ = subst (λ (x : ℕ). Left x m t l l′) e L in
     record {
       marks = L′ .marks;
-      seen = record { seen = λ q j a b.
-          subst (λ (x : List ℕ). Settled x (rowOf w j)) (sym (L′ .marks))
-          (settled-come m (marksOf w l) t (rowOf w j)
-          (S .seen q j a (subst (λ (x : List ℕ). j < q + word x q) (L′ .rest) b))) };
+      seen = record {
+        seen = λ q j a b.
+            subst (λ (x : List ℕ). Settled x (rowOf w j)) (sym (L′ .marks))
+            (settled-come m (marksOf w l) t (rowOf w j)
+            (S .seen q j a (subst (λ (x : List ℕ). j < q + word x q) (L′ .rest) b)));
+      };
     }
 
 pub did-both : (w : List ℕ) (F G : List ℕ → List ℕ) (l l₁ l₂ : List ℕ) → Does w F l l₁ → Does w G l₁ l₂ → Does w (λ a. G (F a)) l l₂

@@ -1,6 +1,6 @@
--- The lent scratch: the marks, and behind them a word for each row. While marks are found, the word of row q says how many rows from q on need
--- not be come to again; when they are checked, how many rows up to q have one mark.
-use Prim.Native.Nat.{ℕ, zero, suc, _+_, _-_, _≤_, _<_, min, max}
+-- The lent scratch: the marks, and behind them a word for each row. While marks are found, the word of row q says how many rows from
+-- q on need not be come to again; when they are checked, how many rows up to q have one mark.
+use Prim.Native.Nat.{ℕ, suc, _+_, _≤_, _<_, min, max}
 use mathlib.Core.Path.{_≡_}
 use mathlib.Core.List.{List}
 use lib.ListN.{length, take, drop, set}

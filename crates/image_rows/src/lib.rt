@@ -1,22 +1,23 @@
 // The rows of an image's tables, cases first and ranges behind them, with a word of the lent scratch for each. Marks are left at
 // the targets of rows, no row twice, and runs of rows with one mark are counted.
 ghost use mathlib.Core.Path.{_≡_};
-ghost use Prim.Native.Nat.{_+_, _*_, _<_, _≤_, suc, min};
+ghost use Prim.Native.Nat.{_+_, _*_, _<_, _≤_, min};
 ghost use lib.ListN.{set, take};
 ghost use lib.Dec.{eqb};
 ghost use Rattle.words.specs.Count.{allBelow};
 ghost use Rattle.lowering.specs.Words as words;
 ghost use Rattle.lowering.specs.Run as runs;
 ghost use Rattle.wellmade.specs.Marks as marks;
-ghost use Rattle.image_rows.specs.Rows as rows;
-ghost use Rattle.image_rows.specs.Scratch as scratch;
+ghost use Rattle.image_rows.specs.Rows.{Placed, Pooled, rowOf, firstRow};
+ghost use Rattle.image_rows.specs.Scratch.{marksOf, Does, Left, Noted, Stepped, Runs, Counted};
 use image_read::cases_at;
 use image_read::chains_at;
 use image_read::ranges_at;
 use image_read::switches_at;
 use image_read::word_of;
 
-// Of the image's sizes: how many places, tables, cases and ranges there are, and where chains, tables, cases and ranges start.
+// Of the image's sizes: how many places, tables, cases and ranges there are, and where chains, tables, cases (`rows`) and ranges
+// (`spans`) start.
 pub struct Starts {
     pub places: u32,
     pub tables: u32,
@@ -29,7 +30,7 @@ pub struct Starts {
 }
 
 pub fn starts_of(w: &[u32]) -> Starts
-    ensures { λ r. ⌜ rows.Placed (now (w .entry)) r ⌝ }
+    ensures { λ r. ⌜ Placed (now (w .entry)) r ⌝ }
 {
     Starts {
         places: word_of(w, 0),
@@ -66,14 +67,14 @@ pub fn marks_there(o: Starts) -> usize
 
 // Word `f` of table `i`.
 pub fn table_word(w: &[u32], o: Starts, i: u32, f: u32) -> u32
-    ensures { λ r. ⌜ (rows.Placed (now (w .entry)) o → r ≡ words.switchWord (now (w .entry)) i f) ⌝ }
+    ensures { λ r. ⌜ (Placed (now (w .entry)) o → r ≡ words.switchWord (now (w .entry)) i f) ⌝ }
 {
     word_from(w, o.switches, 4 * (i as usize) + (f as usize))
 }
 
 // Where row `q` goes.
 pub fn row_target(w: &[u32], o: Starts, q: usize) -> u32
-    ensures { λ r. ⌜ (rows.Placed (now (w .entry)) o → r ≡ rows.rowOf (now (w .entry)) q) ⌝ }
+    ensures { λ r. ⌜ (Placed (now (w .entry)) o → r ≡ rowOf (now (w .entry)) q) ⌝ }
 {
     let cases = o.cases as usize;
     if q < cases {
@@ -88,7 +89,7 @@ pub fn row_target(w: &[u32], o: Starts, q: usize) -> u32
 
 // The first row of table `i`.
 pub fn first_row(w: &[u32], o: Starts, i: u32) -> usize
-    ensures first { λ r. ⌜ (rows.Placed (now (w .entry)) o → r ≡ rows.firstRow (now (w .entry)) i) ⌝ }
+    ensures first { λ r. ⌜ (Placed (now (w .entry)) o → r ≡ firstRow (now (w .entry)) i) ⌝ }
     ensures small { λ r. ⌜ r ≤ 8589934592 ⌝ }
 {
     let first = table_word(w, o, i, 1) as usize;
@@ -110,7 +111,7 @@ pub fn mark_of(l: &[u32], size: usize, t: usize) -> u32
 
 // The first run that comes to `t` leaves its mark.
 pub fn come(m: u32, l: &mut [u32], size: usize, t: usize)
-    ensures { λ _. ⌜ scratch.Left size m t (now (l .entry)) (now (l .exit)) ⌝ }
+    ensures { λ _. ⌜ Left size m t (now (l .entry)) (now (l .exit)) ⌝ }
 {
     if size <= t {
         return;
@@ -126,7 +127,7 @@ pub fn come(m: u32, l: &mut [u32], size: usize, t: usize)
 
 // What is noted of row `k`; from now on it is at least `n`.
 fn note(l: &mut [u32], size: usize, k: usize, n: u32) -> u32
-    ensures { λ r. ⌜ scratch.Noted size k n r (now (l .entry)) (now (l .exit)) ⌝ }
+    ensures { λ r. ⌜ Noted size k n r (now (l .entry)) (now (l .exit)) ⌝ }
 {
     if l.len() <= size {
         return 0;
@@ -146,7 +147,8 @@ fn note(l: &mut [u32], size: usize, k: usize, n: u32) -> u32
 // Row `k` of `left` rows is come to if it was not seen. Tells how many rows to go on.
 fn come_row(w: &[u32], o: Starts, m: u32, l: &mut [u32], k: usize, left: u32) -> u32
     ensures forth { λ r. ⌜ (0 < left → (0 < r) × (r ≤ left)) ⌝ }
-    ensures step { λ r. ⌜ (rows.Placed (now (w .entry)) o → scratch.Stepped (now (w .entry)) m k left r (now (l .entry)) (now (l .exit))) ⌝ }
+    ensures step { λ r. let image = now (w .entry) in
+        ⌜ (Placed image o → Stepped image m k left r (now (l .entry)) (now (l .exit))) ⌝ }
 {
     let size = marks_there(o);
     let was = note(l, size, k, left);
@@ -161,10 +163,13 @@ fn come_row(w: &[u32], o: Starts, m: u32, l: &mut [u32], k: usize, left: u32) ->
     left
 }
 
-// All rows of table `i` are come to. Each row is noted as seen up to the table's last one, so that rows that tables share are not gone
-// through for each of them.
+// All rows of table `i` are come to. Each row on the way is noted as seen up to the table's last one, and rows that were seen are passed
+// over at once: for n rows and tables in all these are at most some n log n steps, however the tables share rows, since a step
+// either at least doubles what is noted of a row or halves the way that is left.
 pub fn come_rows(w: &[u32], o: Starts, m: u32, l: &mut [u32], i: u32)
-    ensures { λ _. ⌜ (rows.Placed (now (w .entry)) o → rows.Pooled (now (w .entry)) i → 0 < m → scratch.Does (now (w .entry)) (marks.comes m (runs.rowTarget (now (w .entry)) i) (words.switchWord (now (w .entry)) i 2)) (now (l .entry)) (now (l .exit))) ⌝ }
+    ensures { λ _. let image = now (w .entry) in
+        let rows = marks.comes m (runs.rowTarget image i) (words.switchWord image i 2) in
+        ⌜ (Placed image o → Pooled image i → 0 < m → Does image rows (now (l .entry)) (now (l .exit))) ⌝ }
 {
     let first = first_row(w, o, i);
     let rows = table_word(w, o, i, 2);
@@ -174,6 +179,7 @@ pub fn come_rows(w: &[u32], o: Starts, m: u32, l: &mut [u32], i: u32)
     }
 }
 
+// A word is written, if it is there.
 fn put(l: &mut [u32], at: usize, v: u32)
     ensures { λ _. ⌜ now (l .exit) ≡ set (now (l .entry)) at v ⌝ }
 {
@@ -198,7 +204,7 @@ fn run_on(run: u32, before: u32, m: u32) -> u32
 
 // The word of each row becomes the length of the run of rows with one mark that ends there.
 pub fn count_runs(w: &[u32], o: Starts, l: &mut [u32])
-    ensures { λ _. ⌜ (rows.Placed (now (w .entry)) o → scratch.Counted (now (w .entry)) (now (l .entry)) (now (l .exit))) ⌝ }
+    ensures { λ _. ⌜ (Placed (now (w .entry)) o → Counted (now (w .entry)) (now (l .entry)) (now (l .exit))) ⌝ }
 {
     let size = marks_there(o);
     let total = (o.cases as usize) + (o.ranges as usize);
@@ -217,7 +223,12 @@ pub fn count_runs(w: &[u32], o: Starts, l: &mut [u32])
 
 // Whether all rows of table `i` lead to the mark `m`, by the runs that were counted.
 pub fn rows_right(w: &[u32], o: Starts, l: &[u32], i: u32, m: u32) -> bool
-    ensures { λ r. ⌜ (rows.Placed (now (w .entry)) o → rows.Pooled (now (w .entry)) i → scratch.Runs (now (w .entry)) (now (l .entry)) → r ≡ allBelow (words.switchWord (now (w .entry)) i 2) (λ j. eqb (marks.mark (scratch.marksOf (now (w .entry)) (now (l .entry))) (runs.rowTarget (now (w .entry)) i j)) m)) ⌝ }
+    ensures { λ r. let image = now (w .entry) in
+        let found = marksOf image (now (l .entry)) in
+        ⌜ (Placed image o
+        → Pooled image i
+        → Runs image (now (l .entry))
+        → r ≡ allBelow (words.switchWord image i 2) (λ j. eqb (marks.mark found (runs.rowTarget image i j)) m)) ⌝ }
 {
     let rows = table_word(w, o, i, 2);
     if rows == 0 {

@@ -79,11 +79,11 @@ made-is : (s w : List ℕ) → wellMade s w ≡ made s w
 unfolding wellMade wordsRight made fields
 made-is s w =
     let front =
-        test.codeRight s w && test.constsRight s w && test.namesRight s w && test.tokensRight w && test.residualsRight s w
-        && test.chainsRight s w && test.stepsRight w in
+    test.codeRight s w && test.constsRight s w && test.namesRight s w && test.tokensRight w && test.residualsRight s w
+    && test.chainsRight s w && test.stepsRight w in
     let marks = marksRight w (marked w (marksThere w) (instructions w)) in
     ap (λ (x : Bool). leb sizesWords (length w) && eqb (length w) (endAt w) && x && targetsRight w && marks)
-       (moved front (test.operandsRight w) (test.switchesRight w) (test.casesRight w) (test.rangesRight w))
+    (moved front (test.operandsRight w) (test.switchesRight w) (test.casesRight w) (test.rangesRight w))
     ∙ lazily (leb sizesWords (length w)) (eqb (length w) (endAt w)) (fields s w) (test.operandsRight w) (targetsRight w) marks
 
 unfoldable pub numberBy : ℕ → List ℕ → List ℕ → ℕ

@@ -18,7 +18,7 @@ fn room() -> [u32; 8192]
     [0; 8192]
 }
 
-// The words that `bytes` hold, as many as there is room for.
+// The words that `bytes` hold, and zeros behind them.
 fn put_words(image: &mut [u32], bytes: &[u8]) {
     let mut i = 0;
     while i < image.len() {
@@ -35,13 +35,11 @@ fn checks_as(sheet: &[u8], image: &[u32], scratch: &mut [u32], number: u32) -> b
     answer & rest
 }
 
-// The same of an image of `n` words, read from `bytes`, with `y` words of scratch, where there is room for them.
-fn agrees(sheet: &[u8], bytes: &[u8], n: usize, y: usize, number: u32) -> bool {
-    let mut image = room();
+// The same of the first `n` words of `image`, with `y` words of scratch, where there is room for them.
+fn agrees(sheet: &[u8], image: &[u32], n: usize, y: usize, number: u32) -> bool {
     let mut scratch = room();
     if n <= image.len() {
         if y <= scratch.len() {
-            put_words(&mut image[..n], bytes);
             return checks_as(sheet, &image[..n], &mut scratch[..y], number);
         }
     }
@@ -56,7 +54,9 @@ fn compare_one(sheet: &[u8]) -> bool {
         let n = words::word_at(&head, 0) as usize;
         let y = words::word_at(&head, 1) as usize;
         if fill(&mut bytes, 4 * n) {
-            return agrees(sheet, &bytes, n, y, words::word_at(&head, 2));
+            let mut image = room();
+            put_words(&mut image, &bytes);
+            return agrees(sheet, &image, n, y, words::word_at(&head, 2));
         }
     }
     false
@@ -83,15 +83,24 @@ struct Counted {
     most: u32,
 }
 
-// The records of a sheet of `n` bytes; none agrees where the sheet is not there whole.
-fn of_sheet(n: usize, most: u32) -> u32
+// How many of `most` records agree, of the sheet in the first `n` bytes of `buf`; none where it is longer.
+fn of_part(buf: &[u8], n: usize, most: u32) -> u32
+    ensures { λ r. ⌜ r ≤ most ⌝ }
+{
+    if n <= buf.len() {
+        return agreeing(&buf[..n], most);
+    }
+    0
+}
+
+// The same of the next sheet, of `size` bytes; none where it is not there whole.
+fn of_sheet(size: u32, most: u32) -> u32
     ensures { λ r. ⌜ r ≤ most ⌝ }
 {
     let mut sheet = io::large_buffer();
+    let n = size as usize;
     if fill(&mut sheet, (n + 3) / 4 * 4) {
-        if n <= sheet.len() {
-            return agreeing(&sheet[..n], most);
-        }
+        return of_part(&sheet, n, most);
     }
     0
 }
@@ -101,27 +110,30 @@ fn next_sheet() -> Counted
 {
     let mut head = [0u8; 8];
     if fill(&mut head, 8) {
-        let n = words::word_at(&head, 0) as usize;
         let most = words::word_at(&head, 1);
-        let same = of_sheet(n, most);
+        let same = of_sheet(words::word_at(&head, 0), most);
         return Counted { same, most };
     }
     Counted { same: 0, most: 1 }
 }
 
-fn main() {
-    let mut head = [0u8; 4];
+// The records of all sheets.
+fn replay(sheets: u32) {
     let mut same: u64 = 0;
     let mut most: u64 = 0;
-    if fill(&mut head, 4) {
-        let sheets = words::word_at(&head, 0);
-        let mut i: u32 = 0;
-        while i < sheets {
-            let c = next_sheet();
-            same += c.same as u64;
-            most += c.most as u64;
-            i += 1;
-        }
+    let mut i: u32 = 0;
+    while i < sheets {
+        let c = next_sheet();
+        same += c.same as u64;
+        most += c.most as u64;
+        i += 1;
     }
     print_result(same, most);
+}
+
+fn main() {
+    let mut head = [0u8; 4];
+    if fill(&mut head, 4) {
+        replay(words::word_at(&head, 0));
+    }
 }

@@ -70,9 +70,9 @@ returns c =
     let f = fields two in
     λ e.
     let room =
-        four .before .before .before .targets-right .kept .1 .0
-        ∙ three .before .before .before .operands-right .kept .1 .0
-        ∙ e in
+    four .before .before .before .targets-right .kept .1 .0
+    ∙ three .before .before .before .operands-right .kept .1 .0
+    ∙ e in
     c .before .before .depths-right .ensures (tested _ _ a f (operands three e) (targets four e)) room
     ∙ depths-are _ _ a f (operands three e) (targets four e)
 

@@ -32,7 +32,8 @@ same-length c = search needs
 
 returns : tie.Need-returns
 returns c =
-    let counted = c .before .before .before .before .before in
+    let lent = c .before .before .before in
+    let counted = lent .before .before in
     let test = counted .before .before in
     let marked = test .before .before .before in
     let table = marked .before .before .before in

@@ -27,7 +27,8 @@ returns c =
     let test = opened .before .before in
     let sized = test .before .before in
     let a = sized .before .before .before .args in
-    hand-table (a .w .now) (a .o) (a .c) (a .p) (a .m) _ (a .l .now) (sized .marks-there .ensures .0) _ (test .if1 .taken) (opened .open-table .ensures)
+    hand-table (a .w .now) (a .o) (a .c) (a .p) (a .m) _ (a .l .now) (sized .marks-there .ensures .0) _ (test .if1 .taken)
+    (opened .open-table .ensures)
 
 come-requires : tie.Need-come-requires
 come-requires c κs = search needs
@@ -44,11 +45,13 @@ same-length-2 c = search needs
 returns-2 : tie.Need-returns-2
 returns-2 c =
     let second = c .before .before in
-    let first = second .before .before .before .before .before in
+    let target = second .before .before .before in
+    let first = target .before .before in
     let test = first .before .before in
     let sized = test .before .before .before .before in
     let a = sized .before .before .before .args in
-    hand-branch (a .w .now) (a .o) (a .c) (a .p) (a .m) _ (a .l .now) (sized .marks-there .ensures .0) _ _ (test .if2 .taken) (first .come .ensures) (second .come2 .ensures)
+    hand-branch (a .w .now) (a .o) (a .c) (a .p) (a .m) _ (a .l .now) (sized .marks-there .ensures .0) _ _ (test .if2 .taken)
+    (first .come .ensures) (second .come2 .ensures)
 
 cast-come-2 : tie.Need-cast-come-2
 cast-come-2 c = search needs
@@ -63,9 +66,12 @@ returns-3 : tie.Need-returns-3
 returns-3 c =
     let came = c .before .before in
     let test = came .before .before .before in
-    let sized = test .before .before .before .before .before .before in
+    let branch = test .before .before in
+    let switch = branch .before .before in
+    let sized = switch .before .before in
     let a = sized .before .before .before .args in
-    hand-jump (a .w .now) (a .o) (a .c) (a .p) (a .m) _ (a .l .now) (sized .marks-there .ensures .0) _ (test .if3 .taken) (came .come3 .ensures)
+    hand-jump (a .w .now) (a .o) (a .c) (a .p) (a .m) _ (a .l .now) (sized .marks-there .ensures .0) _ (test .if3 .taken)
+    (came .come3 .ensures)
 
 come-requires-4 : tie.Need-come-requires-4
 come-requires-4 c κs = search needs
@@ -81,7 +87,8 @@ returns-4 c =
     let switch = branch .before .before in
     let sized = switch .before .before in
     let a = sized .before .before .before .args in
-    hand-on (a .w .now) (a .o) (a .c) (a .p) (a .m) _ (a .l .now) (sized .marks-there .ensures .0) _ (switch .if1 .left) (branch .if2 .left) (test .if3 .left) (came .come4 .ensures)
+    hand-on (a .w .now) (a .o) (a .c) (a .p) (a .m) _ (a .l .now) (sized .marks-there .ensures .0) _ (switch .if1 .left)
+    (branch .if2 .left) (test .if3 .left) (came .come4 .ensures)
 
 pub hand-on-spec : {M : Type 1} → statement M
 hand-on-spec =

@@ -69,7 +69,8 @@ returns-2 c =
     let size = sized .marks-there .ensures .0 in
     λ w P R.
     leads-branch (flowAt w (a .p)) w (marksOf w (a .l .now)) (a .p) (a .m) (a .c .a) _ _ (sym (R .flow) ∙ test .if2 .taken) (R .a)
-    (place-mark w (a .o) _ _ _ (a .l .now) size (next .mark-of2 .ensures) P) (place-mark w (a .o) _ _ _ (a .l .now) size (c .mark-of3 .ensures) P)
+    (place-mark w (a .o) _ _ _ (a .l .now) size (next .mark-of2 .ensures) P)
+    (place-mark w (a .o) _ _ _ (a .l .now) size (c .mark-of3 .ensures) P)
 
 cast-mark-of-4 : tie.Need-cast-mark-of-4
 cast-mark-of-4 c = search needs
@@ -83,7 +84,9 @@ cast-result-4 c = search needs
 returns-3 : tie.Need-returns-3
 returns-3 c =
     let test = c .before .before in
-    let sized = test .before .before .before .before .before .before in
+    let branch = test .before .before in
+    let switch = branch .before .before in
+    let sized = switch .before .before in
     let a = sized .before .before .args in
     λ w P R.
     leads-jump (flowAt w (a .p)) w (marksOf w (a .l .now)) (a .p) (a .m) (a .c .a) _ (sym (R .flow) ∙ test .if3 .taken) (R .a)

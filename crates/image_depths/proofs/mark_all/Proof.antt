@@ -41,13 +41,16 @@ come-requires c κs = search needs
 loop-holds : tie.Need-loop-holds Inv-loop μ-loop
 loop-holds c =
     let came = c .before .before in
-    let zeroed = came .before .before .before .before .before in
+    let sized = came .before in
+    let zeroed = sized .before .before .before .before in
     let a = zeroed .before .before .before .before .args in
-    let same = came .come .kept .1 .0 ∙ zeroed .zero .kept .0 in
-    (omega arith, refl,
-    λ P T N R room.
-    held-start (a .w .now) (a .o) _ (length (a .l .now)) _ _ (came .before .marks-there .ensures .0) (zeroed .zero .ensures .is)
-    (came .come .ensures) P (omega (arith, room, same)))
+    let same = came .come .kept .1 .0 ∙ zeroed .zero .kept .0 in (
+      omega arith,
+      refl,
+      λ P T N R room.
+          held-start (a .w .now) (a .o) _ (length (a .l .now)) _ _ (sized .marks-there .ensures .0) (zeroed .zero .ensures .is)
+          (came .come .ensures) P (omega (arith, room, same)),
+    )
 
 pass-requires : tie.Need-pass-requires Inv-loop μ-loop
 pass-requires c κs = search needs
@@ -63,20 +66,25 @@ loop-again c =
     let passed = c .before .before .before in
     let test = passed .before .before in
     let loop = test .before in
-    let started = loop .before .before .before .before .before .before .before .before in
-    let a = started .before .before .before .before .args in
-    let v = loop .loop .inv in
-    (omega (arith, test .loop-test .taken), passed .pass .kept .1 .1 .1 .1 .0 ∙ v .1,
-    λ P T N R room.
-    held-on (a .w .now) _ _ _ _ (v .2 P T N R room)
-    (passed .pass .ensures P T (pooled-at (a .w .now) _ N R (omega (arith, test .loop-test .taken, P .places)))) (c .if1 .taken))
+    let came = loop .before .before .before in
+    let sized = came .before in
+    let zeroed = sized .before .before .before .before in
+    let a = zeroed .before .before .before .before .args in
+    let v = loop .loop .inv in (
+      omega (arith, test .loop-test .taken),
+      passed .pass .kept .1 .1 .1 .1 .0 ∙ v .1,
+      λ P T N R room.
+          held-on (a .w .now) _ _ _ _ (v .2 P T N R room)
+          (passed .pass .ensures P T (pooled-at (a .w .now) _ N R (omega (arith, test .loop-test .taken, P .places)))) (c .if1 .taken),
+    )
 
 same-length : tie.Need-same-length Inv-loop μ-loop
 same-length c =
     let passed = c .before .before .before in
     let loop = passed .before .before .before in
     let came = loop .before .before .before in
-    let zeroed = came .before .before .before .before .before in
+    let sized = came .before in
+    let zeroed = sized .before .before .before .before in
     passed .pass .kept .1 .1 .1 .1 .0 ∙ loop .loop .inv .1 ∙ came .come .kept .1 .0 ∙ zeroed .zero .kept .0
 
 returns : tie.Need-returns Inv-loop μ-loop
@@ -85,7 +93,8 @@ returns c =
     let test = passed .before .before in
     let loop = test .before in
     let came = loop .before .before .before in
-    let zeroed = came .before .before .before .before .before in
+    let sized = came .before in
+    let zeroed = sized .before .before .before .before in
     let a = zeroed .before .before .before .before .args in
     let same = came .come .kept .1 .0 ∙ zeroed .zero .kept .0 in
     λ P T N R room.
@@ -97,14 +106,16 @@ same-length-2 : tie.Need-same-length-2 Inv-loop μ-loop
 same-length-2 c =
     let loop = c .before in
     let came = loop .before .before .before in
-    let zeroed = came .before .before .before .before .before in
+    let sized = came .before in
+    let zeroed = sized .before .before .before .before in
     loop .loop .inv .1 ∙ came .come .kept .1 .0 ∙ zeroed .zero .kept .0
 
 returns-2 : tie.Need-returns-2 Inv-loop μ-loop
 returns-2 c =
     let loop = c .before in
     let came = loop .before .before .before in
-    let zeroed = came .before .before .before .before .before in
+    let sized = came .before in
+    let zeroed = sized .before .before .before .before in
     let a = zeroed .before .before .before .before .args in
     let same = came .come .kept .1 .0 ∙ zeroed .zero .kept .0 in
     let v = loop .loop .inv in

@@ -42,8 +42,10 @@ loop-less c = search needs
 
 loop-again : tie.Need-loop-again Inv-loop μ-loop
 loop-again c =
-    let loop = c .before .before .before in
-    (omega (arith, c .before .before .loop-test .taken), most-more _ _ _ _ _ (loop .loop .inv .1) (c .before .mark-of2 .ensures) (c .larger .ensures))
+    let loop = c .before .before .before in (
+      omega (arith, c .before .before .loop-test .taken),
+      most-more _ _ _ _ _ (loop .loop .inv .1) (c .before .mark-of2 .ensures) (c .larger .ensures),
+    )
 
 returns : tie.Need-returns Inv-loop μ-loop
 returns c = most-done _ _ _ _ (c .before .loop .inv .0) (c .loop-test .left) (c .before .loop .inv .1)

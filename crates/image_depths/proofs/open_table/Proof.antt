@@ -33,7 +33,8 @@ returns : tie.Need-returns
 returns c =
     let sized = c .before .before .before .before in
     let a = sized .before .before .before .args in
-    λ P Q p. opened-old (a .w .now) (a .o) (a .m) (a .i) _ _ (a .l .now) (sized .marks-there .ensures .0) (c .before .mark-of .ensures) (c .if1 .taken) P
+    λ P Q p. opened-old (a .w .now) (a .o) (a .m) (a .i) _ _ (a .l .now) (sized .marks-there .ensures .0)
+    (c .before .mark-of .ensures) (c .if1 .taken) P
 
 come-rows-requires : tie.Need-come-rows-requires
 come-rows-requires c κs = search needs
@@ -57,12 +58,13 @@ returns-2 : tie.Need-returns-2
 returns-2 c =
     let last = c .before .before in
     let default = last .before .before .before .before in
-    let rows = default .before .before .before .before .before in
+    let named = default .before .before in
+    let rows = named .before .before .before in
     let test = rows .before .before in
     let sized = test .before .before .before .before in
     let a = sized .before .before .before .args in
     opened-new (a .w .now) (a .o) (a .m) (a .i) _ _ (a .l .now) (sized .marks-there .ensures .0) (test .before .mark-of .ensures) _ _ _ _
-    (test .if1 .left) (rows .come-rows .ensures) (default .before .before .table-word .ensures) (default .come .ensures) (last .come2 .ensures)
+    (test .if1 .left) (rows .come-rows .ensures) (named .table-word .ensures) (default .come .ensures) (last .come2 .ensures)
 
 pub open-table-spec : {M : Type 1} → statement M
 open-table-spec =

@@ -24,7 +24,8 @@ returns : tie.Need-returns
 returns c =
     let sized = c .before .before in
     let a = sized .before .before .before .before .args in
-    λ P T Q. passed-none (a .w .now) (a .o) (a .p) _ _ (a .l .now) (sized .marks-there .ensures .0) (c .before .mark-of .ensures) (c .if1 .taken) P
+    λ P T Q. passed-none (a .w .now) (a .o) (a .p) _ _ (a .l .now) (sized .marks-there .ensures .0) (c .before .mark-of .ensures)
+    (c .if1 .taken) P
 
 code-at-requires : tie.Need-code-at-requires
 code-at-requires c κs = search needs

@@ -57,7 +57,8 @@ returns-2 c =
     λ P T.
     let R = code .code-at .ensures P T in
     place-by (a .w .now) (marksOf (a .w .now) (a .l .now)) (a .p) _ _ _ _
-    (place-mark (a .w .now) (a .o) (a .p) _ _ (a .l .now) (sized .marks-there .ensures .0) (test .before .mark-of .ensures) P) (test .if1 .left)
+    (place-mark (a .w .now) (a .o) (a .p) _ _ (a .l .now) (sized .marks-there .ensures .0) (test .before .mark-of .ensures) P)
+    (test .if1 .left)
     (after-read (a .w .now) (a .p) _ _ _ (c .before .before .after .ensures .0) R) (R .needs) (c .leads .ensures (a .w .now) P R)
 
 pub place-right-spec : {M : Type 1} → statement M

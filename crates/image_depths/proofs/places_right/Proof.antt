@@ -38,8 +38,10 @@ loop-less c = search needs
 
 loop-again : tie.Need-loop-again Inv-loop μ-loop
 loop-again c =
-    let v = c .before .before .before .loop .inv in
-    (omega (arith, c .before .before .loop-test .taken), λ P T. all-more _ _ (v .1 P T) (sym (c .before .place-right .ensures P T) ∙ c .if1 .taken))
+    let v = c .before .before .before .loop .inv in (
+      omega (arith, c .before .before .loop-test .taken),
+      λ P T. all-more _ _ (v .1 P T) (sym (c .before .place-right .ensures P T) ∙ c .if1 .taken),
+    )
 
 returns : tie.Need-returns Inv-loop μ-loop
 returns c =

@@ -57,7 +57,8 @@ returns-2 c =
     λ P Q R.
     table-by (a .w .now) (marksOf (a .w .now) (a .l .now)) (a .i) _ _ _ _
     (node-mark (a .w .now) (a .o) (a .i) _ _ (a .l .now) size (test .before .mark-of .ensures) P) (test .if1 .left)
-    (rows .rows-right .ensures P Q R) (c .before .table-word .ensures P) (place-mark (a .w .now) (a .o) _ _ _ (a .l .now) size (c .mark-of2 .ensures) P)
+    (rows .rows-right .ensures P Q R) (c .before .table-word .ensures P)
+    (place-mark (a .w .now) (a .o) _ _ _ (a .l .now) size (c .mark-of2 .ensures) P)
 
 pub table-right-spec : {M : Type 1} → statement M
 table-right-spec =

@@ -1,6 +1,6 @@
 -- `image_depths::tables_right` meets its contract. Invariant: the tables below i are right.
-use Prim.Native.Nat.{_≤_, _<_, _-_}
-use mathlib.Core.Path.{_≡_, sym, _∙_, subst}
+use Prim.Native.Nat.{_≤_, _-_}
+use mathlib.Core.Path.{_≡_, sym, _∙_}
 use mathlib.Core.Bool.{true}
 use native.Mathlib.Omega.{arith}
 use borrow.Author.Needs.{needs}
@@ -41,8 +41,10 @@ loop-again : tie.Need-loop-again Inv-loop μ-loop
 loop-again c =
     let v = c .before .before .before .loop .inv in
     let test = c .before .before .loop-test .taken in
-    (omega (arith, test),
-    λ P Q R. all-more _ _ (v .1 P Q R) (sym (c .before .table-right .ensures P (Q _ (omega (arith, test, P .tables))) R) ∙ c .if1 .taken))
+    let right = c .before .table-right .ensures in (
+      omega (arith, test),
+      λ P Q R. all-more _ _ (v .1 P Q R) (sym (right P (Q _ (omega (arith, test, P .tables))) R) ∙ c .if1 .taken),
+    )
 
 returns : tie.Need-returns Inv-loop μ-loop
 returns c =

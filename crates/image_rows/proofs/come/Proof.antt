@@ -19,7 +19,10 @@ slice-read-if3 : tie.Need-slice-read-if3
 slice-read-if3 c = search needs
 
 returns-3 : tie.Need-returns-3
-returns-3 c = let a = c .before .before .before .before .args in left-old (a .size) (a .m) (a .t) (a .l .now) (c .before .before .before .if1 .left) (c .if3 .taken)
+returns-3 c =
+    let inside = c .before .before .before in
+    let a = inside .before .args in
+    left-old (a .size) (a .m) (a .t) (a .l .now) (inside .if1 .left) (c .if3 .taken)
 
 mul-l : tie.Need-mul-l
 mul-l c = search needs
@@ -31,7 +34,10 @@ same-length : tie.Need-same-length
 same-length c = search needs
 
 returns-4 : tie.Need-returns-4
-returns-4 c = let a = c .before .before .before .before .args in left-new (a .size) (a .m) (a .t) (a .l .now) (c .before .before .before .if1 .left) (c .if3 .left)
+returns-4 c =
+    let inside = c .before .before .before in
+    let a = inside .before .args in
+    left-new (a .size) (a .m) (a .t) (a .l .now) (inside .if1 .left) (c .if3 .left)
 
 pub come-spec : {M : Type 1} → statement M
 come-spec =

@@ -35,10 +35,11 @@ returns c =
     let target = came .before .before in
     let noting = target .before .before .before .before in
     let sized = noting .before .before in
-    let a = sized .before .before .before .args in
-    (λ h. (omega arith, omega arith),
-    stepped-fresh (a .w .now) (a .o) (a .m) (a .k) (a .left) _ _ (a .l .now) _ _ _ (sized .marks-there .ensures .0)
-    (noting .note .ensures) (target .before .if1 .taken) (target .row-target .ensures) (came .come .ensures))
+    let a = sized .before .before .before .args in (
+      λ h. (omega arith, omega arith),
+      stepped-fresh (a .w .now) (a .o) (a .m) (a .k) (a .left) _ _ (a .l .now) _ _ _ (sized .marks-there .ensures .0)
+          (noting .note .ensures) (target .before .if1 .taken) (target .row-target .ensures) (came .come .ensures),
+    )
 
 same-length-2 : tie.Need-same-length-2
 same-length-2 c = search needs
@@ -49,10 +50,11 @@ returns-2 c =
     let sized = noting .before .before in
     let a = sized .before .before .before .args in
     let some = c .before .if1 .left in
-    let less = c .if2 .taken in
-    (λ h. (omega (arith, some), omega (arith, less)),
-    stepped-again (a .w .now) (a .o) (a .m) (a .k) (a .left) _ _ (a .l .now) _ _ (sized .marks-there .ensures .0)
-    (noting .note .ensures) some (omega (arith, less)))
+    let less = c .if2 .taken in (
+      λ h. (omega (arith, some), omega (arith, less)),
+      stepped-again (a .w .now) (a .o) (a .m) (a .k) (a .left) _ _ (a .l .now) _ _ (sized .marks-there .ensures .0)
+          (noting .note .ensures) some (omega (arith, less)),
+    )
 
 same-length-3 : tie.Need-same-length-3
 same-length-3 c = search needs
@@ -62,10 +64,11 @@ returns-3 c =
     let noting = c .before .before .before .before in
     let sized = noting .before .before in
     let a = sized .before .before .before .args in
-    let more = c .if2 .left in
-    (λ h. (h, omega arith),
-    stepped-again (a .w .now) (a .o) (a .m) (a .k) (a .left) _ _ (a .l .now) _ _ (sized .marks-there .ensures .0)
-    (noting .note .ensures) (c .before .if1 .left) (omega (arith, more)))
+    let more = c .if2 .left in (
+      λ h. (h, omega arith),
+      stepped-again (a .w .now) (a .o) (a .m) (a .k) (a .left) _ _ (a .l .now) _ _ (sized .marks-there .ensures .0)
+          (noting .note .ensures) (c .before .if1 .left) (omega (arith, more)),
+    )
 
 pub come-row-spec : {M : Type 1} → statement M
 come-row-spec =

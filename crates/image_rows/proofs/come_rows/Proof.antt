@@ -54,13 +54,16 @@ loop-less c = let forth = c .before .before .come-row .ensures .0 (omega arith) 
 loop-again : tie.Need-loop-again Inv-loop μ-loop
 loop-again c =
     let row = c .before .before .come-row in
-    let loop = c .before .before .before .before .before in
-    let a = loop .before .before .before .before .before .args in
+    let test = c .before .before .before .before in
+    let loop = test .before in
+    let first = loop .before .before in
+    let a = first .before .before .before .args in
     let v = loop .loop .inv in
-    let test = c .before .before .before .before .loop-test .taken in
-    let forth = row .ensures .0 (omega arith) in
-    (omega (arith, forth), row .kept .1 .1 .1 .0 ∙ v .1,
-    λ P p S. going-on (a .w .now) (a .m) _ _ (a .l .now) _ _ _ _ p S test (v .2 P p S) (row .ensures .1 P))
+    let forth = row .ensures .0 (omega arith) in (
+      omega (arith, forth),
+      row .kept .1 .1 .1 .0 ∙ v .1,
+      λ P p S. going-on (a .w .now) (a .m) _ _ (a .l .now) _ _ _ _ p S (test .loop-test .taken) (v .2 P p S) (row .ensures .1 P),
+    )
 
 same-length : tie.Need-same-length Inv-loop μ-loop
 same-length c = c .before .loop .inv .1
@@ -68,11 +71,12 @@ same-length c = c .before .loop .inv .1
 returns : tie.Need-returns Inv-loop μ-loop
 returns c =
     let loop = c .before in
-    let a = loop .before .before .before .before .before .args in
+    let first = loop .before .before in
+    let a = first .before .before .before .args in
     let v = loop .loop .inv in
     λ P Q p S.
     going-done (a .w .now) (a .m) _ _ (a .l .now) (a .i) _ _ (omega (arith, v .0, c .loop-test .left))
-    (loop .before .before .first-row .ensures .0 P) (loop .before .table-word .ensures P) Q (v .2 P p S)
+    (first .first-row .ensures .0 P) (loop .before .table-word .ensures P) Q (v .2 P p S)
 
 pub come-rows-spec : {M : Type 1} → statement M
 come-rows-spec =

@@ -1,5 +1,5 @@
 -- `image_rows::count_runs` meets its contract. Invariant: the runs that end at the first q rows are counted (`Counting`).
-use Prim.Native.Nat.{_≤_, _+_, _-_}
+use Prim.Native.Nat.{_≤_, _-_}
 use mathlib.Core.Path.{_≡_, refl, _∙_}
 use native.Mathlib.Omega.{arith}
 use borrow.Author.Needs.{needs}
@@ -18,7 +18,8 @@ use Rattle.image_rows.proofs.row_target.Reads as row-target-reads
 use Rattle.image_rows.proofs.run_on.Reads as run-on-reads
 
 abbrev Inv-loop : tie.InvT-loop
-Inv-loop w o l₀ size total before₀ run₀ q₀ l before run q = (q ≤ total) × (length l ≡ length l₀) × (Placed w o → Counting w l₀ q before run l)
+Inv-loop w o l₀ size total before₀ run₀ q₀ l before run q =
+    (q ≤ total) × (length l ≡ length l₀) × (Placed w o → Counting w l₀ q before run l)
 
 abbrev μ-loop : tie.MeasureT-loop
 μ-loop w o l₀ size total before₀ run₀ q₀ l before run q = total - q
@@ -37,7 +38,8 @@ add-total c = search needs
 
 loop-holds : tie.Need-loop-holds Inv-loop μ-loop
 loop-holds c =
-    let a = c .before .before .before .before .before .args in
+    let sized = c .before .before in
+    let a = sized .before .before .before .args in
     (omega arith, refl, λ P. counting-start (a .w .now) (a .l .now))
 
 row-target-requires : tie.Need-row-target-requires Inv-loop μ-loop
@@ -73,12 +75,14 @@ loop-again c =
     let sized = loop .before .before .before in
     let a = sized .before .before .before .args in
     let v = loop .loop .inv in
-    let test = target .before .loop-test .taken in
-    (omega (arith, test), putting .put .kept .0 ∙ v .1,
-    λ P.
-    counting-on (a .w .now) (a .l .now) _ _ _ _ _ _ _ _ _ (v .2 P) (omega (arith, test, P .cases, P .ranges)) (v .1)
-    (size-is (a .w .now) (a .o) _ (sized .marks-there .ensures .0) P) (target .row-target .ensures P)
-    (runs .before .mark-of .ensures) (runs .run-on .ensures .0) (runs .run-on .ensures .1) (putting .put .ensures))
+    let test = target .before .loop-test .taken in (
+      omega (arith, test),
+      putting .put .kept .0 ∙ v .1,
+      λ P.
+          counting-on (a .w .now) (a .l .now) _ _ _ _ _ _ _ _ _ (v .2 P) (omega (arith, test, P .cases, P .ranges)) (v .1)
+          (size-is (a .w .now) (a .o) _ (sized .marks-there .ensures .0) P) (target .row-target .ensures P)
+          (runs .before .mark-of .ensures) (runs .run-on .ensures .0) (runs .run-on .ensures .1) (putting .put .ensures),
+    )
 
 same-length : tie.Need-same-length Inv-loop μ-loop
 same-length c = c .before .loop .inv .1
@@ -86,7 +90,8 @@ same-length c = c .before .loop .inv .1
 returns : tie.Need-returns Inv-loop μ-loop
 returns c =
     let loop = c .before in
-    let a = loop .before .before .before .before .before .before .args in
+    let sized = loop .before .before .before in
+    let a = sized .before .before .before .args in
     let v = loop .loop .inv in
     λ P. counting-done (a .w .now) (a .o) (a .l .now) _ _ _ _ _ P refl (omega (arith, v .0, c .loop-test .left)) (v .2 P)
 

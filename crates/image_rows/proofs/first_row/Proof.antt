@@ -20,8 +20,10 @@ table-word-requires-2 c κs = search needs
 returns : tie.Need-returns
 returns c =
     let a = c .before .before .before .before .args in
-    let first = c .before .before .table-word in
-    (first-of-cases (a .w .now) (a .o) (a .i) _ _ (c .before .table-word2 .ensures) (c .if1 .taken) (first .ensures), omega (arith, first .ok))
+    let first = c .before .before .table-word in (
+      first-of-cases (a .w .now) (a .o) (a .i) _ _ (c .before .table-word2 .ensures) (c .if1 .taken) (first .ensures),
+      omega (arith, first .ok),
+    )
 
 cast-result : tie.Need-cast-result
 cast-result c = search needs
@@ -33,8 +35,10 @@ returns-2 : tie.Need-returns-2
 returns-2 c =
     let kind = c .before .before in
     let a = kind .before .before .before .args in
-    let first = kind .before .table-word in
-    (first-of-ranges (a .w .now) (a .o) (a .i) _ _ (kind .table-word2 .ensures) (c .before .if1 .left) (first .ensures), omega (arith, first .ok))
+    let first = kind .before .table-word in (
+      first-of-ranges (a .w .now) (a .o) (a .i) _ _ (kind .table-word2 .ensures) (c .before .if1 .left) (first .ensures),
+      omega (arith, first .ok),
+    )
 
 pub first-row-spec : {M : Type 1} → statement M
 first-row-spec =

@@ -14,7 +14,8 @@ word-of-requires : tie.Need-word-of-requires
 word-of-requires c κs = search needs
 
 returns-2 : tie.Need-returns-2
-returns-2 c = let a = c .before .before .before .args in mark-at (a .l .now) (a .size) (a .t) _ (c .before .if1 .left) (c .word-of .ensures)
+returns-2 c =
+    let a = c .before .before .before .args in mark-at (a .l .now) (a .size) (a .t) _ (c .before .if1 .left) (c .word-of .ensures)
 
 pub mark-of-spec : {M : Type 1} → statement M
 mark-of-spec = tie.close (tie.spec returns word-of-requires returns-2)

@@ -14,7 +14,8 @@ sub-if2 : tie.Need-sub-if2
 sub-if2 c = search needs
 
 returns-2 : tie.Need-returns-2
-returns-2 c = let a = c .before .before .args in noted-out (a .size) (a .k) (a .n) (a .l .now) (omega (arith, c .if2 .taken, c .before .if1 .left))
+returns-2 c =
+    let a = c .before .before .args in noted-out (a .size) (a .k) (a .n) (a .l .now) (omega (arith, c .if2 .taken, c .before .if1 .left))
 
 add-at : tie.Need-add-at
 add-at c = search needs
