@@ -16,7 +16,7 @@ ghost use Rattle.chains.specs.Lowers as lowering;
 use bytecode::Chain;
 use bytecode::Root;
 use bytecode::Step;
-use rules::calls::MAX_ARGS;
+use lowering::MAX_ARGS;
 use rules::chains::StepRule;
 use rules::chains::goes_on;
 use rules::chains::is_lowerable_method;

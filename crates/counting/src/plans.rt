@@ -6,6 +6,7 @@ ghost use Rattle.counting.specs.Plan as plans;
 use crate::tallies::Tally;
 use crate::tallies::evaluation;
 use crate::tallies::instructions;
+use lowering::MAX_ELEMENTS;
 use rules::calls::CallRule;
 use rules::calls::First;
 use rules::calls::call_rule;
@@ -15,9 +16,6 @@ use rules::rule;
 use sheet::child;
 use sheet::count;
 use sheet::next;
-
-// greatest count of elements of an array that lowers
-pub const MAX_ELEMENTS: u32 = 65535;
 
 // `n` siblings from node `from` on, each with `gap` instructions behind it, and `rest` besides; or a construct with a rule of its own.
 pub enum Plan {

@@ -6,6 +6,7 @@ ghost use Rattle.image_check.specs.Answer.{Answers};
 ghost use Rattle.image_check.specs.Sizes.{sizesAgree};
 use image_depths::depths_right;
 use image_fields::fields_right;
+use image_read::SIZES;
 use image_read::end_at;
 use image_spans::operands_right;
 use image_spans::targets_right;
@@ -17,7 +18,7 @@ use zeros::zero;
 fn sizes_agree(w: &[u32]) -> bool
     ensures { λ r. ⌜ r ≡ sizesAgree (now (w .entry)) ⌝ }
 {
-    (12 <= w.len()) & (w.len() == end_at(w))
+    (SIZES <= w.len()) & (w.len() == end_at(w))
 }
 
 // Whether the image `w` is well made for the sheet `s`, found in a scratch of as many words. Each test may rely on those before it.

@@ -17,6 +17,7 @@ use bytecode::counted;
 use bytecode::effects;
 use bytecode::entry;
 use bytecode::kept;
+use image_read::SIZES;
 use image_read::word_of;
 use image_rows::Starts;
 use image_rows::come;
@@ -67,7 +68,7 @@ fn on_top(w: &[u32], o: Starts, which: u32, a: u32, b: u32) -> u64
 fn code_at(w: &[u32], o: Starts, t: &[u8; 125], p: u32) -> Code
     ensures { λ r. ⌜ (Placed (now (w .entry)) o → now (t .entry) ≡ effectTable → Read (now (w .entry)) p r) ⌝ }
 {
-    let at = 12 + 4 * (p as usize);
+    let at = SIZES + 4 * (p as usize);
     let kind = word_of(w, at);
     let a = word_of(w, at + 1);
     let which = entry(t, kind, 3);

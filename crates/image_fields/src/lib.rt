@@ -1,9 +1,9 @@
 // The words of every record of an image: kinds, flags, counts, unused words, and indexes into its pools and its sheet. Each section is
 // gone through once. What the steps of a chain ask of its operands is left out.
 ghost use mathlib.Core.Path.{_≡_};
-ghost use Rattle.shape.specs.Kinds as kinds;
 ghost use Rattle.wellmade.specs.Test as tests;
 ghost use Rattle.image_fields.specs.Fields as fields;
+use image_read::SIZES;
 use image_read::cases_at;
 use image_read::chains_at;
 use image_read::consts_at;
@@ -15,15 +15,14 @@ use image_read::steps_at;
 use image_read::switches_at;
 use image_read::tokens_at;
 use image_read::word_of;
+use lowering::MAX_ARGS;
+use lowering::MAX_ELEMENTS;
+use shape::scalar;
 use sheet::local_count;
 use sheet::node_count;
 use sheet::text_count;
 
-// Greatest count of a call's arguments, of an array's elements or a chain's operands, and greatest token.
-const MAX_ARGS: u32 = 255;
-
-const MAX_ELEMENTS: u32 = 65535;
-
+// Greatest token.
 const MAX_TOKEN: u32 = 65535;
 
 // One more than any word.
@@ -118,7 +117,7 @@ fn code_right(s: &[u8], w: &[u32]) -> bool
     let n = size_of(w, 0);
     let mut p: usize = 0;
     while p < n {
-        let at = 12 + 4 * p;
+        let at = SIZES + 4 * p;
         let kind = word_of(w, at);
         let a = word_of(w, at + 1);
         let b = word_of(w, at + 2);
@@ -130,13 +129,6 @@ fn code_right(s: &[u8], w: &[u32]) -> bool
         }
     }
     true
-}
-
-// A Unicode scalar value.
-fn scalar(x: u32) -> bool
-    ensures { λ r. ⌜ r ≡ kinds.scalar x ⌝ }
-{
-    (x < 0xd800) | ((0xdfff < x) & (x < 0x11_0000))
 }
 
 // Int, Float: any 64 bits; Char; String.

@@ -5,6 +5,9 @@ ghost use Rattle.lowering.specs.Words as words;
 ghost use Rattle.wellmade.specs.Rules as rules;
 ghost use Rattle.image_read.specs.Targets as targets;
 
+// Words before the code: the twelve sizes.
+pub const SIZES: usize = 12;
+
 // Word `i` of an image, 0 past its end.
 pub fn word_of(w: &[u32], i: usize) -> u32
     ensures { λ r. ⌜ r ≡ words.word (now (w .entry)) i ⌝ }
@@ -25,7 +28,7 @@ pub fn consts_at(w: &[u32]) -> usize
     ensures at { λ r. ⌜ r ≡ words.constsAt (now (w .entry)) ⌝ }
     ensures small { λ r. ⌜ r ≤ 21474836487 ⌝ }
 {
-    12 + 5 * size_of(w, 0)
+    SIZES + 5 * size_of(w, 0)
 }
 
 pub fn names_at(w: &[u32]) -> usize

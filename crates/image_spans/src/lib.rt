@@ -16,6 +16,7 @@ ghost use Rattle.image_spans.specs.Needs.{cut, needOf, NeedsIn, NeedTree
 ghost use Rattle.image_spans.specs.Rows.{rowsBefore, Put, TargetTree};
 use bytecode::effects;
 use bytecode::entry;
+use image_read::SIZES;
 use image_read::apart;
 use image_read::chains_at;
 use image_read::size_of;
@@ -160,7 +161,7 @@ fn aims(w: &[u32], t: &[u32], e: &[u8; 125], p: u32) -> bool
     ensures { λ r. let image = now (w .entry) in
         ⌜ (now (e .entry) ≡ effectTable → TargetTree image (now (t .entry)) → p < words.instructions image → r ≡ test.aims (marks.flowAt image p) image p) ⌝ }
 {
-    let at = 12 + 4 * p as usize;
+    let at = SIZES + 4 * p as usize;
     let flow = entry(e, word_of(w, at), 4);
     let a = word_of(w, at + 1);
     if flow == 0 {

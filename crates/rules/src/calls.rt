@@ -5,6 +5,7 @@ ghost use Rattle.lowering.specs.Call as calls;
 ghost use Rattle.rules.specs.Answers as answers;
 use crate::kinds::THIS;
 use crate::kinds::VARIABLE;
+use lowering::MAX_ARGS;
 use sheet::child;
 use sheet::count;
 use sheet::field_a;
@@ -16,9 +17,6 @@ use text::is_call;
 use text::is_curry;
 use text::is_eval;
 use text::is_fn;
-
-// greatest count of arguments of a call that lowers
-pub const MAX_ARGS: u32 = 255;
 
 // Which rule lowers a call: `Fn`, `call`, generic dispatch, `eval`; or the call is kept.
 pub enum CallRule {

@@ -164,7 +164,7 @@ fn bound(t: &[u32; 130], k: u32, f: u32) -> u32
 }
 
 // A Unicode scalar value.
-fn scalar(x: u32) -> bool
+pub fn scalar(x: u32) -> bool
     ensures { λ r. ⌜ r ≡ kinds.scalar x ⌝ }
 {
     (x < 0xd800) | ((0xdfff < x) & (x < 0x11_0000))
