@@ -12,8 +12,8 @@ pub record Row : Type 0 where
   pub image : List ℕ
   pub number : ℕ
 
-abbrev pub row : List ℕ → List ℕ → ℕ → Row
-row s w n = record { sheet = s; image = w; number = n }
+abbrev pub row : ℕ → List ℕ → List ℕ → Row
+row n s w = record { sheet = s; image = w; number = n }
 
 -- with a scratch that just suffices, the check gives this number
 abbrev pub Right : Row → Type 0

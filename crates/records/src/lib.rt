@@ -3,13 +3,16 @@ ghost use Prim.Native.Nat.{_≤_};
 ghost use lib.ListN.{length, getD};
 ghost use lib.Dec.{eqb};
 ghost use mathlib.Core.Path.{_≡_};
+ghost use mathlib.Core.Bool.{true};
 ghost use Rattle.words.specs.Count.{allBelow};
 ghost use Rattle.records.specs.Left as left;
 use libc::STDIN_FILENO;
 use libc::STDOUT_FILENO;
 
 // Reads `n` bytes to the start of `buf`, and answers whether they were there.
-pub fn fill(buf: &mut [u8], n: usize) -> bool {
+pub fn fill(buf: &mut [u8], n: usize) -> bool
+    ensures { λ r. ⌜ (r ≡ true → n ≤ length (now (buf .entry))) ⌝ }
+{
     if n <= buf.len() {
         return io::read_full(STDIN_FILENO, &mut buf[..n]) == n;
     }
@@ -23,7 +26,9 @@ pub fn noise(i: usize) -> u32
     2863311530 - (i % 65536) as u32
 }
 
-pub fn put_noise(buf: &mut [u32]) {
+pub fn put_noise(buf: &mut [u32])
+    ensures { λ _. ⌜ left.Noisy (length (now (buf .entry))) (now (buf .exit)) ⌝ }
+{
     let mut i = 0;
     while i < buf.len() {
         buf[i] = noise(i);

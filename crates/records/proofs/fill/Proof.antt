@@ -1,6 +1,7 @@
--- `records::fill` is safe: the part that is read into is as long as it says.
+-- `records::fill` meets its contract: the part that is read into is as long as it says.
 use lib.Seq.{length-take-le}
 use mathlib.Core.Path.{sym}
+use mathlib.Core.Bool.{true≢false}
 use borrow.Author.Needs.{needs}
 use Rattle.records.proofs.fill.Statement.{statement}
 use Rattle.records.proofs.fill.Tie as tie
@@ -21,7 +22,7 @@ returns : tie.Need-returns
 returns c = search needs
 
 returns-2 : tie.Need-returns-2
-returns-2 c = search needs
+returns-2 c = λ e. absurd (true≢false (sym e))
 
 pub fill-spec : {M : Type 1} → statement M
 fill-spec = tie.close (tie.spec slice-relend-prefix-read-full slice-aggregate-read-full read-full-requires same-length returns returns-2)

@@ -1,19 +1,22 @@
--- `records::put_noise` is safe and ends.
+-- `records::put_noise` meets its contract. Invariant: the first i words are noise.
 use Prim.Native.Nat.{_-_, _≤_}
-use mathlib.Core.Path.{_≡_}
-use lib.ListN.{length}
+use mathlib.Core.Path.{_≡_, refl, _∙_}
+use native.Mathlib.Omega.{arith}
+use lib.ListN.{length, length-set}
+use Rattle.records.specs.Left.{Noisy}
+use Rattle.records.proofs.LeftLaws.{noisy-more}
 use borrow.Author.Needs.{needs}
 use Rattle.records.proofs.put_noise.Statement.{statement}
 use Rattle.records.proofs.put_noise.Tie as tie
 
 abbrev Inv-loop : tie.InvT-loop
-Inv-loop buf₀ i₀ buf i = (i ≤ length buf₀) × (length buf ≡ length buf₀)
+Inv-loop buf₀ i₀ buf i = (i ≤ length buf₀) × (length buf ≡ length buf₀) × Noisy i buf
 
 abbrev μ-loop : tie.MeasureT-loop
 μ-loop buf₀ i₀ buf i = length buf₀ - i
 
 loop-holds : tie.Need-loop-holds Inv-loop μ-loop
-loop-holds c = search needs
+loop-holds c = (omega arith, refl, λ k h. absurd (omega arith))
 
 noise-requires : tie.Need-noise-requires Inv-loop μ-loop
 noise-requires c κs = search needs
@@ -31,13 +34,19 @@ loop-less : tie.Need-loop-less Inv-loop μ-loop
 loop-less c = search needs
 
 loop-again : tie.Need-loop-again Inv-loop μ-loop
-loop-again c = search needs
+loop-again c =
+    let here = c .before .before in
+    let v = c .noise .result in (
+      omega arith,
+      length-set (here .loop .buf) (here .loop .i) v ∙ here .loop .inv .1,
+      noisy-more (here .loop .buf) (here .loop .i) v (omega (arith, here .loop .inv .1)) (here .loop .inv .2) (c .noise .ensures),
+    )
 
 same-length : tie.Need-same-length Inv-loop μ-loop
 same-length c = c .before .loop .inv .1
 
 returns : tie.Need-returns Inv-loop μ-loop
-returns c = search needs
+returns c = let here = c .before .loop in λ k h. here .inv .2 k (omega (arith, here .inv .0))
 
 pub put-noise-spec : {M : Type 1} → statement M
 put-noise-spec =
