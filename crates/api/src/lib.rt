@@ -37,8 +37,8 @@ pub extern "C" fn sheet_lower(
     }
 }
 
-// Whether `image`, exactly its words, is well made for `sheet`: 0, or the first that fits of the sheet's refusals 1 to 8, 11 for a scratch shorter
-// than the image, and 13.
+// Whether `image`, exactly its words, is well made for `sheet`: 0, or the first that fits of the sheet's refusals 1 to 8, 11 for a scratch
+// shorter than the image, and 13.
 #[no_mangle]
 pub extern "C" fn sheet_check_image(sheet: &[u8], image: &[u32], scratch: &mut [u32]) -> u32
     ensures { λ r. ⌜ Answers (now (sheet .entry)) (now (image .entry)) (now (scratch .entry)) r (now (scratch .exit)) ⌝ }

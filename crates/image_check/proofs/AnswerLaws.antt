@@ -66,7 +66,12 @@ number-accepts s w xs a z = by (wellMade s w) refl
     by true e = well-made s w .yields e
     by false e = absurd (not-both _ z (number-unmade s w xs (numberOf (checked s)) (a .sheet-right) (a .has-room) e))
 
-number-refuses : (s w xs : List ℕ) → Asked s w (length xs) → numberAfter (numberOf (checked s)) s w (length xs) ≡ notWellMade → WellMade s w → ⊥
+number-refuses :
+    (s w xs : List ℕ)
+    → Asked s w (length xs)
+    → numberAfter (numberOf (checked s)) s w (length xs) ≡ notWellMade
+    → WellMade s w
+    → ⊥
 number-refuses s w xs a z m =
     not-both _ (number-made s w xs (numberOf (checked s)) (a .sheet-right) (a .has-room) (well-made s w .passes m)) z
 
@@ -83,7 +88,11 @@ number-says s w xs =
       refused = number-refuses s w xs;
     }
 
-by-number : (s w xs xs′ : List ℕ) (n : ℕ) → n ≡ imageNumber s w (length xs) → xs′ ≡ scratchAfter (numberOf (checked s)) w xs → Answers s w xs n xs′
+by-number :
+    (s w xs xs′ : List ℕ) (n : ℕ)
+    → n ≡ imageNumber s w (length xs)
+    → xs′ ≡ scratchAfter (numberOf (checked s)) w xs
+    → Answers s w xs n xs′
 by-number s w xs xs′ n e f = record {
   answers = e;
   says = subst (Says s w (length xs)) (sym e) (number-says s w xs);
@@ -108,12 +117,13 @@ all-zeros xs ys xs′ e h = e .is ∙ ap zeros (sym (length-replicate {A = ℕ} 
 
 module _ (s w xs ys xs′ : List ℕ) (n : ℕ) (e : n ≡ numberOf (checked s)) (z : n ≡ 0) (h : length w ≤ length xs)
     (f : Zeroed ys xs′) (g : length xs′ ≡ length xs) where
+  zeroed : xs′ ≡ scratchAfter (numberOf (checked s)) w xs
+  zeroed = all-zeros xs ys xs′ f g ∙ scratch-zeroed s w xs _ (sym e ∙ z) h
+
   pub ends-made : wellMade s w ≡ true → Answers s w xs 0 xs′
   unfolding imageNumber
-  ends-made t =
-      by-number s w xs xs′ _ (sym (number-made s w xs _ (sym e ∙ z) h t)) (all-zeros xs ys xs′ f g ∙ scratch-zeroed s w xs _ (sym e ∙ z) h)
+  ends-made t = by-number s w xs xs′ _ (sym (number-made s w xs _ (sym e ∙ z) h t)) zeroed
 
   pub ends-unmade : wellMade s w ≡ false → Answers s w xs notWellMade xs′
   unfolding imageNumber
-  ends-unmade t =
-      by-number s w xs xs′ _ (sym (number-unmade s w xs _ (sym e ∙ z) h t)) (all-zeros xs ys xs′ f g ∙ scratch-zeroed s w xs _ (sym e ∙ z) h)
+  ends-unmade t = by-number s w xs xs′ _ (sym (number-unmade s w xs _ (sym e ∙ z) h t)) zeroed

@@ -40,8 +40,8 @@ fn well_made(s: &[u8], w: &[u32], l: &mut [u32]) -> bool
     false
 }
 
-// Answers 0 for an image that is well made; else the first that fits of the sheet's refusals 1 to 8, 11 for a scratch that has fewer words than the
-// image, and 13. The scratch is kept under 1 to 8 and 11, and zeroed under 0 and 13.
+// Answers 0 for an image that is well made; else the first that fits of the sheet's refusals 1 to 8, 11 for a scratch that has fewer words
+// than the image, and 13. The scratch is kept under 1 to 8 and 11, and zeroed under 0 and 13.
 pub fn check_image(s: &[u8], w: &[u32], x: &mut [u32]) -> u32
     ensures { λ r. ⌜ Answers (now (s .entry)) (now (w .entry)) (now (x .entry)) r (now (x .exit)) ⌝ }
 {

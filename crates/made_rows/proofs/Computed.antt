@@ -1,53 +1,31 @@
 -- The number in a form that stops at the first test that fails, so that wild sizes and counts are not gone through; equal to the number.
 use Prim.Native.Nat.{ℕ, zero, suc}
-use mathlib.Core.Path.{_≡_, refl, sym, ap, ap₂, _∙_}
+use mathlib.Core.Path.{_≡_, refl, sym, ap, _∙_}
 use mathlib.Core.Bool.{Bool, true, false, _&&_, true≢false}
 use mathlib.Core.List.{List, [], _∷_}
-use lib.Dec.{ltb, leb, eqb}
+use lib.Dec.{eqb}
 use borrow.Author.Tests.{eqb-true, le-ltb}
 use native.Mathlib.Omega.{arith}
 use lib.ListN.{length}
-use Rattle.checks.specs.Checked.{numberOf, checked}
 use Rattle.quick.specs.Quick.{quickNumber}
 use Rattle.quick.specs.QuickLaws.{quick-is}
-use Rattle.lowering.specs.Limits.{sizesWords}
 use Rattle.lowering.specs.MakeSheet.{bytesOf}
-use Rattle.lowering.specs.Words.{instructions}
 use Rattle.wellmade.specs.Limits.{notWellMade}
-use Rattle.wellmade.specs.Rules.{endAt}
-use Rattle.wellmade.specs.Marks.{marked, marksRight, marksThere}
-use Rattle.wellmade.specs.Test as test
-use Rattle.wellmade.specs.Test.{wordsRight, targetsRight, wellMade}
+use Rattle.wellmade.specs.Test.{operandsRight, targetsRight, wellMade}
+use Rattle.image_fields.specs.Fields.{fieldsRight}
+use Rattle.image_check.specs.Sizes.{sizesAgree}
 use Rattle.image_check.specs.Answer.{numberAfter, imageNumber}
+use Rattle.image_check.proofs.MadeLaws.{depthsRight, made-is}
 use Rattle.made_rows.specs.Row.{Row, Right, AllRight}
 
--- the words but for the operands of steps in chains, which are only gone through where the runs of steps are right
-fields : List ℕ → List ℕ → Bool
-fields s w =
-    test.codeRight s w
-    && test.constsRight s w
-    && test.namesRight s w
-    && test.tokensRight w
-    && test.residualsRight s w
-    && test.chainsRight s w
-    && test.stepsRight w
-    && test.switchesRight w
-    && test.casesRight w
-    && test.rangesRight w
-
 unfoldable pub made : List ℕ → List ℕ → Bool
-unfolding fields
 made s w =
-    elim (leb sizesWords (length w)) [
+    elim (sizesAgree w) [
       | true ↦
-          elim (eqb (length w) (endAt w)) [
+          elim (fieldsRight s w) [
             | true ↦
-                elim (fields s w) [
-                  | true ↦
-                      elim (test.operandsRight w) [
-                        | true ↦ elim (targetsRight w) [ true ↦ marksRight w (marked w (marksThere w) (instructions w)) | false ↦ false ]
-                        | false ↦ false
-                      ]
+                elim (operandsRight w) [
+                  | true ↦ elim (targetsRight w) [ true ↦ depthsRight w | false ↦ false ]
                   | false ↦ false
                 ]
             | false ↦ false
@@ -55,36 +33,21 @@ made s w =
       | false ↦ false
     ]
 
--- operands moved to the end
-moved : (a o s c r : Bool) → (a && o && s && c && r) ≡ elim (a && s && c && r) [ true ↦ o | false ↦ false ]
-moved false o s c r = refl
-moved true false false c r = refl
-moved true false true false r = refl
-moved true false true true false = refl
-moved true false true true true = refl
-moved true true false c r = refl
-moved true true true false r = refl
-moved true true true true false = refl
-moved true true true true true = refl
+lazily : (s w : List ℕ) → (sizesAgree w && (fieldsRight s w && operandsRight w) && targetsRight w && depthsRight w) ≡ made s w
+unfolding made
+lazily s w = by (sizesAgree w) (fieldsRight s w) (operandsRight w) (targetsRight w) (depthsRight w)
+  where
+    inner : Bool → Bool → Bool → Bool
+    inner c d e = elim c [ true ↦ elim d [ true ↦ e | false ↦ false ] | false ↦ false ]
 
-lazily : (a b c d e f : Bool) → (a && b && elim c [ true ↦ d | false ↦ false ] && e && f) ≡ elim a [ true ↦ elim b [ true ↦ elim c [ true ↦ elim d [ true ↦ elim e [ true ↦ f | false ↦ false ] | false ↦ false ] | false ↦ false ] | false ↦ false ] | false ↦ false ]
-lazily false b c d e f = refl
-lazily true false c d e f = refl
-lazily true true false d e f = refl
-lazily true true true false e f = refl
-lazily true true true true false f = refl
-lazily true true true true true f = refl
-
-made-is : (s w : List ℕ) → wellMade s w ≡ made s w
-unfolding wellMade wordsRight made fields
-made-is s w =
-    let front =
-    test.codeRight s w && test.constsRight s w && test.namesRight s w && test.tokensRight w && test.residualsRight s w
-    && test.chainsRight s w && test.stepsRight w in
-    let marks = marksRight w (marked w (marksThere w) (instructions w)) in
-    ap (λ (x : Bool). leb sizesWords (length w) && eqb (length w) (endAt w) && x && targetsRight w && marks)
-    (moved front (test.operandsRight w) (test.switchesRight w) (test.casesRight w) (test.rangesRight w))
-    ∙ lazily (leb sizesWords (length w)) (eqb (length w) (endAt w)) (fields s w) (test.operandsRight w) (targetsRight w) marks
+    by :
+        (a b c d e : Bool)
+        → (a && (b && c) && d && e) ≡ elim a [ true ↦ elim b [ true ↦ inner c d e | false ↦ false ] | false ↦ false ]
+    by false b c d e = refl
+    by true false c d e = refl
+    by true true false d e = refl
+    by true true true false e = refl
+    by true true true true e = refl
 
 unfoldable pub numberBy : ℕ → List ℕ → List ℕ → ℕ
 numberBy zero s w = elim (made s w) [ true ↦ 0 | false ↦ notWellMade ]
@@ -92,17 +55,21 @@ numberBy (suc n) s w = suc n
 
 number-by : (n : ℕ) (s w : List ℕ) → numberAfter n s w (length w) ≡ numberBy n s w
 unfolding numberAfter numberBy
-number-by zero s w = rw (le-ltb (length w) (length w) (omega arith), numberAfter) (ap (λ (t : Bool). elim t [ true ↦ 0 | false ↦ notWellMade ]) (made-is s w))
+number-by zero s w =
+    let is = made-is s w ∙ lazily s w in
+    rw (le-ltb (length w) (length w) (omega arith), numberAfter)
+    (ap (λ (t : Bool). elim t [ true ↦ 0 | false ↦ notWellMade ]) is)
 number-by (suc n) s w = refl
 
 -- all rows agree, computed
+abbrev rowAgrees : Row → Bool
+rowAgrees r = let s = bytesOf (r .sheet) in eqb (numberBy (quickNumber s) s (r .image)) (r .number)
+
 unfoldable pub agree : List Row → Bool
 agree [] = true
-agree (r ∷ rs) =
-    let s = bytesOf (r .sheet) in
-    elim (eqb (numberBy (quickNumber s) s (r .image)) (r .number)) [ true ↦ agree rs | false ↦ false ]
+agree (r ∷ rs) = elim (rowAgrees r) [ true ↦ agree rs | false ↦ false ]
 
-row-right : (r : Row) → eqb (numberBy (quickNumber (bytesOf (r .sheet))) (bytesOf (r .sheet)) (r .image)) (r .number) ≡ true → Right r
+row-right : (r : Row) → rowAgrees r ≡ true → Right r
 unfolding imageNumber
 row-right r h =
     let s = bytesOf (r .sheet) in
@@ -113,11 +80,13 @@ row-right r h =
 pub agree-right : (rs : List Row) → agree rs ≡ true → AllRight rs
 unfolding agree AllRight
 agree-right [] h = tt
-agree-right (r ∷ rs) h = by (agree-right rs) (eqb (numberBy (quickNumber s) s (r .image)) (r .number)) refl h
+agree-right (r ∷ rs) h = by (agree-right rs) (rowAgrees r) refl h
   where
-    s : List ℕ
-    s = bytesOf (r .sheet)
-
-    by : (agree rs ≡ true → AllRight rs) → (t : Bool) → eqb (numberBy (quickNumber s) s (r .image)) (r .number) ≡ t → elim t [ true ↦ agree rs | false ↦ false ] ≡ true → Right r × AllRight rs
+    by :
+        (agree rs ≡ true → AllRight rs)
+        → (t : Bool)
+        → rowAgrees r ≡ t
+        → elim t [ true ↦ agree rs | false ↦ false ] ≡ true
+        → Right r × AllRight rs
     by rest true e g = (row-right r e, rest g)
     by rest false e g = absurd (true≢false (sym g))

@@ -9,15 +9,18 @@ use Rattle.lowering.specs.MakeSheet.{bytesOf}
 use Rattle.lowering.specs.Words.{constsAt, chainsAt, switchesAt, casesAt, rangesAt, constWord, chainWord, switchWord, caseWord, rangeWord}
 use Rattle.lowering.specs.Run.{chainTakes, pops, pushes, needs, rowTarget, tableTarget, branchTarget, goesTo, next}
 use Rattle.quick.specs.Quick.{quickNumber}
-use Rattle.wellmade.specs.Rules.{namesAt, tokensAt, residualsAt, stepsAt, stepWord, endAt, receiverRule, codeTable, constTable, rootTable, stepTable, operandTable, rowsThere}
+use Rattle.wellmade.specs.Rules.{namesAt, tokensAt, residualsAt, stepsAt, stepWord, endAt, receiverRule, rowsThere}
+use Rattle.wellmade.specs.Rules.{codeTable, constTable, rootTable, stepTable, operandTable}
 use Rattle.wellmade.specs.Marks.{edges, edge, come, comes, enter, opened, handOn, passBy, marked, placeBy, tableBy, most, marksRight}
 use Rattle.wellmade.specs.Test.{fits, obeys, least, leastTarget, aims, targetsRight}
+use Rattle.image_fields.specs.Fields.{fieldsRight}
+use Rattle.image_check.specs.Sizes.{sizesAgree}
 use Rattle.made_rows.specs.Row.{AllRight}
 use Rattle.made_rows.specs.Table.{table}
 use Rattle.made_rows.proofs.Computed.{made, numberBy, agree, agree-right}
 
 computed : agree table ≡ true
-unfolding table agree numberBy made bytesOf quickNumber word allBelow scalar effect popped kept refArgc constsAt chainsAt switchesAt casesAt rangesAt constWord chainWord switchWord caseWord rangeWord chainTakes pops pushes needs rowTarget tableTarget branchTarget goesTo next namesAt tokensAt residualsAt stepsAt stepWord endAt receiverRule codeTable constTable rootTable stepTable operandTable rowsThere edges edge come comes enter opened handOn passBy marked placeBy tableBy most marksRight fits obeys least leastTarget aims targetsRight
+unfolding table agree numberBy made bytesOf quickNumber sizesAgree fieldsRight targetsRight marksRight word allBelow scalar effect popped kept refArgc constsAt chainsAt switchesAt casesAt rangesAt constWord chainWord switchWord caseWord rangeWord chainTakes pops pushes needs rowTarget tableTarget branchTarget goesTo next namesAt tokensAt residualsAt stepsAt stepWord endAt receiverRule codeTable constTable rootTable stepTable operandTable rowsThere edges edge come comes enter opened handOn passBy marked placeBy tableBy most fits obeys least leastTarget aims
 computed = refl
 
 pub rows-right : AllRight table

@@ -1,6 +1,6 @@
-// Replays image checks of the oracle. Standard input holds the count of sheets, then for each: its length in bytes, the count of its records, the
-// sheet padded with zeros to a word, and the records. A record is the image's length in words, the scratch's, the expected number, and the image.
-// Compares the number and every word of the scratch. Prints how many records were the same, and how many were not.
+// Replays image checks of the oracle. Standard input holds the count of sheets, then for each: its length in bytes, the count of its
+// records, the sheet padded with zeros to a word, and the records. A record is the image's length in words, the scratch's, the expected
+// number, and the image. Compares the number and every word of the scratch. Prints how many records were the same, and how many were not.
 ghost use Prim.Native.Nat.{_≤_};
 ghost use lib.ListN.{length};
 ghost use mathlib.Core.Path.{_≡_};

@@ -47,7 +47,10 @@ returns-3 c =
     let two = made .before .before in
     let one = two .before in
     let lent = length-take-le _ _ (two .if2 .left) in
-    ends-made _ _ _ _ _ _ (one .before .number .ensures ∙ ap numberOf (one .before .before .check .ensures)) (one .if1 .left) (two .if2 .left)
+    ends-made _ _ _ _ _ _
+    (one .before .number .ensures ∙ ap numberOf (one .before .before .check .ensures))
+    (one .if1 .left)
+    (two .if2 .left)
     (zeroed .zero .ensures)
     (same-length c)
     (sym (made .well-made .ensures lent) ∙ c .if3 .taken)
@@ -62,7 +65,10 @@ returns-4 c =
     let two = made .before .before in
     let one = two .before in
     let lent = length-take-le _ _ (two .if2 .left) in
-    ends-unmade _ _ _ _ _ _ (one .before .number .ensures ∙ ap numberOf (one .before .before .check .ensures)) (one .if1 .left) (two .if2 .left)
+    ends-unmade _ _ _ _ _ _
+    (one .before .number .ensures ∙ ap numberOf (one .before .before .check .ensures))
+    (one .if1 .left)
+    (two .if2 .left)
     (zeroed .zero .ensures)
     (same-length-2 c)
     (sym (made .well-made .ensures lent) ∙ c .if3 .left)

@@ -5,7 +5,8 @@ use lib.ListN.{length}
 use Rattle.wellmade.specs.Test.{operandsRight, targetsRight}
 use Rattle.image_fields.specs.Fields.{fieldsRight}
 use Rattle.image_check.specs.Sizes.{sizesAgree}
-use Rattle.image_check.proofs.MadeLaws.{sizes-fail, fields-fail, sized, chains, rows, operands-fail, targets-fail, depths-are, tested}
+use Rattle.image_check.proofs.MadeLaws.{sized, chains, rows, tested}
+use Rattle.image_check.proofs.MadeLaws.{sizes-fail, fields-fail, operands-fail, targets-fail, depths-are}
 use borrow.Author.Needs.{needs}
 use Rattle.image_check.proofs.well_made.Statement.{statement}
 use Rattle.image_check.proofs.well_made.Tie as tie

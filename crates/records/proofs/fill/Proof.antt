@@ -10,7 +10,9 @@ slice-relend-prefix-read-full : tie.Need-slice-relend-prefix-read-full
 slice-relend-prefix-read-full c = search needs
 
 slice-aggregate-read-full : tie.Need-slice-aggregate-read-full
-slice-aggregate-read-full c = sym (length-take-le (c .before .before .before .args .n) (c .before .before .before .args .buf .now) (c .before .if1 .taken))
+slice-aggregate-read-full c =
+    let a = c .before .before .before .args in
+    sym (length-take-le (a .n) (a .buf .now) (c .before .if1 .taken))
 
 read-full-requires : tie.Need-read-full-requires
 read-full-requires c κs = search needs

@@ -38,13 +38,25 @@ loop-less : tie.Need-loop-less Inv-loop μ-loop
 loop-less c = search needs
 
 loop-again : tie.Need-loop-again Inv-loop μ-loop
-loop-again c = (omega arith, same-more (λ i. getD (c .before .before .before .before .before .before .args .buf .now) i 0) (wordLeft (c .before .before .before .before .before .before .args .zeroed)) (c .before .before .before .before .loop .i) (c .before .before .before .before .loop .inv .1) (c .if1 .taken ∙ c .before .word-left .ensures))
+loop-again c =
+    let turn = c .before .before .before .before in
+    let a = turn .before .before .args in
+    let same = c .if1 .taken ∙ c .before .word-left .ensures in
+    (omega arith, same-more (λ i. getD (a .buf .now) i 0) (wordLeft (a .zeroed)) (turn .loop .i) (turn .loop .inv .1) same)
 
 returns : tie.Need-returns Inv-loop μ-loop
-returns c = sym (same-fails (λ i. getD (c .before .before .before .before .before .before .args .buf .now) i 0) (wordLeft (c .before .before .before .before .before .before .args .zeroed)) (length (c .before .before .before .before .before .before .args .buf .now)) (c .before .before .before .before .loop .i) (c .before .before .before .loop-test .taken) (λ e. c .if1 .left (e ∙ sym (c .before .word-left .ensures))))
+returns c =
+    let turn = c .before .before .before .before in
+    let a = turn .before .before .args in
+    sym (same-fails (λ i. getD (a .buf .now) i 0) (wordLeft (a .zeroed)) (length (a .buf .now)) (turn .loop .i)
+    (c .before .before .before .loop-test .taken)
+    (λ e. c .if1 .left (e ∙ sym (c .before .word-left .ensures))))
 
 returns-2 : tie.Need-returns-2 Inv-loop μ-loop
-returns-2 c = same-done (λ i. eqb (getD (c .before .before .before .args .buf .now) i 0) (wordLeft (c .before .before .before .args .zeroed) i)) (c .before .loop .i) (length (c .before .before .before .args .buf .now)) (omega arith) (c .before .loop .inv .1)
+returns-2 c =
+    let here = c .before in
+    let a = here .before .before .args in
+    same-done (λ i. eqb (getD (a .buf .now) i 0) (wordLeft (a .zeroed) i)) (here .loop .i) (length (a .buf .now)) (omega arith) (here .loop .inv .1)
 
 pub left-as-spec : {M : Type 1} → statement M
 left-as-spec =
