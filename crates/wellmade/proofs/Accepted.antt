@@ -7,5 +7,6 @@ use Rattle.lowering.specs.Demand3.{RunsRight, DepthReached}
 use Rattle.wellmade.specs.Test.{wellMade}
 use Rattle.wellmade.proofs.Theorem.{well-made}
 
+-- every run of an accepted image goes right, and the greatest depth is reached by one
 pub accepted-runs : (s w : List ℕ) → wellMade s w ≡ true → ((ways : ℕ → ℕ) → RunsRight w ways) × DepthReached w
 accepted-runs s w h = let m = well-made s w .yields h in (m .runs, m .depth)

@@ -1,3 +1,4 @@
+-- From the definition of a well-made image to the theorem of its test, in the order of the proof.
 pub mod Tells
 pub mod Real
 pub mod EdgeLaws

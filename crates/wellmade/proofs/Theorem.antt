@@ -1,7 +1,6 @@
 -- The test tells whether an image is well made for a sheet, both ways.
-use Prim.Native.Nat.{ℕ, zero, suc, _+_, _*_, _≤_, _<_}
-use mathlib.Core.Path.{_≡_, refl, sym, ap, _∙_, subst}
-use mathlib.Core.Bool.{Bool, true, false}
+use Prim.Native.Nat.{ℕ, _≤_}
+use mathlib.Core.Path.{_≡_}
 use mathlib.Core.List.{List}
 use native.Mathlib.Omega.{arith}
 use lib.ListN.{length}
@@ -10,13 +9,14 @@ use Rattle.lowering.specs.Words.{instructions}
 use Rattle.wellmade.specs.Rules.{endAt}
 use Rattle.wellmade.specs.WellMade.{WellMade, WordsRight}
 use Rattle.wellmade.specs.Marks.{marksThere, marked}
-use Rattle.wellmade.specs.Test.{wordsRight, targetsRight, wellMade}
+use Rattle.wellmade.specs.Test.{wellMade}
 use Rattle.wellmade.proofs.Tells.{Tells, tells-and, tells-then, tells-as, tells-le, tells-eq}
 use Rattle.wellmade.proofs.Told.{Aims, marked-start, marked-told}
 use Rattle.wellmade.proofs.Right.{Right, tells-right, right-runs, right-agree, right-depth}
 use Rattle.wellmade.proofs.Complete.{marks-right}
 use Rattle.wellmade.proofs.WordLaws.{tells-words, tells-targets, words-named}
 
+-- the theorem: the test answers true exactly where the definition holds
 pub well-made : (s w : List ℕ) → Tells (wellMade s w) (WellMade s w)
 unfolding wellMade
 well-made s w =
@@ -29,9 +29,18 @@ well-made s w =
     (λ z. tells-targets s w (z .1)))
     (λ z. tells-right w (marked w (marksThere w) (instructions w))))
     (λ z. made (z .0 .0 .0 .0) (z .0 .0 .0 .1) (z .0 .0 .1) (z .0 .1) (z .1))
-    (λ m. ((((m .enough, m .sizes), m .words), m .targets), marks-right w (m .targets) (words-named s w (m .words)) (m .agree) (m .runs) (m .depth) (marksThere w) (omega arith)))
+    (λ m.
+    let named = words-named s w (m .words) in
+    let marks = marks-right w (m .targets) named (m .agree) (m .runs) (m .depth) (marksThere w) (omega arith) in
+    ((((m .enough, m .sizes), m .words), m .targets), marks))
   where
-    made : sizesWords ≤ length w → length w ≡ endAt w → WordsRight s w → Aims w → Right w (marked w (marksThere w) (instructions w)) → WellMade s w
+    made :
+        sizesWords ≤ length w
+        → length w ≡ endAt w
+        → WordsRight s w
+        → Aims w
+        → Right w (marked w (marksThere w) (instructions w))
+        → WellMade s w
     made a e W A R =
         let l = marked w (marksThere w) (instructions w) in
         let N = words-named s w W in

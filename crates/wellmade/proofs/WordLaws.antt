@@ -1,28 +1,33 @@
 -- The tests of words and of targets tell the clauses about them.
-use Prim.Native.Nat.{ℕ, zero, suc, _+_, _*_, _/_, _%_, _≤_, _<_, min}
-use mathlib.Core.Path.{_≡_, refl, sym, ap, _∙_, subst}
+use Prim.Native.Nat.{ℕ, zero, suc, _+_, _*_, _/_, _%_, _≤_, _<_}
+use mathlib.Core.Path.{_≡_, refl, sym, subst}
 use mathlib.Core.Bool.{Bool, true, false, _&&_, _||_, not}
 use mathlib.Core.List.{List, [], _∷_}
 use native.Mathlib.Omega.{arith}
 use native.Mathlib.Nat.{add-zero}
-use borrow.Author.Tests.{ltb-true, ltb-false, lt-ltb, le-ltb, leb-true, eqb-true, eqb-false, eq-eqb, ne-eqb}
+use borrow.Author.Tests.{ltb-true, ltb-false, lt-ltb, le-ltb, eqb-true, eqb-false, eq-eqb, ne-eqb}
 use lib.Dec.{leb, ltb, eqb}
 use lib.ListN.{length, getD}
 use Rattle.words.specs.Count.{allBelow}
 use Rattle.words.specs.CountLaws.{all-at, all-of}
 use Rattle.shape.specs.Kinds as Kinds
-use Rattle.bytecode.specs.Effect.{effect, effects, Flow, on, jump, branch, table}
-use Rattle.lowering.specs.Words.{word, instructions, codeAt, constsAt, chainsAt, switchesAt, casesAt, rangesAt, kindAt, aAt, bAt, chainWord, switchWord, caseWord, rangeWord}
+use Rattle.bytecode.specs.Effect.{effect, Flow, on, jump, branch, table}
+use Rattle.lowering.specs.Words.{word, instructions, codeAt, constsAt, chainsAt, switchesAt, casesAt, rangesAt, kindAt, aAt, bAt, chainWord}
+use Rattle.lowering.specs.Words.{switchWord, caseWord, rangeWord}
 use Rattle.lowering.specs.Run.{next, goesTo, branchTarget, rowTarget, tableTarget}
-use Rattle.wellmade.specs.Rules.{constants, names, tokens, residuals, chains, steps, tables, cases, ranges, namesAt, tokensAt, residualsAt, stepsAt, endAt, Rule, free, unused, below, upTo, between, scalar, packed, within, Fits, Obeys, codeTable, codeRules, constRules, nameRules, tokenRules, residualRules, chainRules, stepRules, operandRules, rowsThere, tableRules, caseRules, rangeRules}
+use Rattle.wellmade.specs.Rules.{constants, names, tokens, residuals, chains, steps, tables, cases, ranges, namesAt, tokensAt}
+use Rattle.wellmade.specs.Rules.{residualsAt, stepsAt, Rule, free, unused, below, upTo, between, scalar, packed, within, Fits, Obeys}
+use Rattle.wellmade.specs.Rules.{codeTable, codeRules, constRules, nameRules, tokenRules, residualRules, chainRules, stepRules}
+use Rattle.wellmade.specs.Rules.{operandRules, rowsThere, tableRules, caseRules, rangeRules}
 use Rattle.wellmade.specs.WellMade.{WordsRight}
 use Rattle.wellmade.specs.Marks.{flowAt}
 use Rattle.wellmade.specs.Test.{fits, obeys, wordsRight, least, leastTarget, aims, targetsRight}
 use Rattle.wellmade.proofs.Tells.{Tells, tells-and, tells-all, tells-as, tells-always, tells-le, tells-lt, tells-eq, tells-true}
-use Rattle.wellmade.proofs.EdgeLaws.{next-by, row-all}
+use Rattle.wellmade.proofs.EdgeLaws.{row-all}
 use Rattle.wellmade.proofs.Told.{Aims}
 use Rattle.wellmade.proofs.Right.{TablesNamed}
 
+-- one word by its rule
 tells-fits : (r : Rule) (x : ℕ) → Tells (fits r x) (Fits r x)
 unfolding fits Fits
 tells-fits free x = tells-always tt
@@ -34,14 +39,18 @@ tells-fits scalar x = tells-true (Kinds.scalar x)
 tells-fits (packed a k) x = tells-and (tells-le a (x % 256)) (tells-lt (x / 256) k)
 tells-fits (within a n) x = tells-le (a + x) n
 
+-- one record by its rules
 tells-obeys : (rs : List Rule) (w : List ℕ) (at : ℕ) → Tells (obeys rs w at) (Obeys rs w at)
 unfolding obeys
 tells-obeys rs w at = tells-all (length rs) (λ f. tells-fits (getD rs f free) (word w (at + f)))
 
 -- one section, with a rule list for each of its records
-each : (n : ℕ) (rules : ℕ → List Rule) (w : List ℕ) (at : ℕ → ℕ) → Tells (allBelow n (λ i. obeys (rules i) w (at i))) ((i : ℕ) → i < n → Obeys (rules i) w (at i))
+each :
+    (n : ℕ) (rules : ℕ → List Rule) (w : List ℕ) (at : ℕ → ℕ)
+    → Tells (allBelow n (λ i. obeys (rules i) w (at i))) ((i : ℕ) → i < n → Obeys (rules i) w (at i))
 each n rules w at = tells-all n (λ i. tells-obeys (rules i) w (at i))
 
+-- all sections
 pub tells-words : (s w : List ℕ) → Tells (wordsRight s w) (WordsRight s w)
 unfolding wordsRight
 tells-words s w =
@@ -54,7 +63,10 @@ tells-words s w =
     (each (residuals w) (λ i. residualRules s) w (λ i. residualsAt w + i)))
     (each (chains w) (λ i. chainRules s w i) w (λ i. chainsAt w + 6 * i)))
     (each (steps w) (λ j. stepRules w j) w (λ j. stepsAt w + 6 * j)))
-    (tells-all (chains w) (λ i. each (chainWord w i 4) (λ k. operandRules w i (chainWord w i 3 + k)) w (λ k. stepsAt w + 6 * (chainWord w i 3 + k)))))
+    (tells-all (chains w)
+    (λ i.
+    each (chainWord w i 4) (λ k. operandRules w i (chainWord w i 3 + k)) w
+    (λ k. stepsAt w + 6 * (chainWord w i 3 + k)))))
     (each (tables w) (λ i. tableRules w i) w (λ i. switchesAt w + 4 * i)))
     (each (cases w) (λ i. caseRules w) w (λ i. casesAt w + 2 * i)))
     (each (ranges w) (λ i. rangeRules w) w (λ i. rangesAt w + 6 * i)))
@@ -71,7 +83,13 @@ tells-words s w =
       cased = h .0 .1;
       ranged = h .1;
     })
-    (λ r. ((((((((((r .code, r .consts), r .named), r .tokened), r .residual), r .chained), r .stepped), r .operands), r .tabled), r .cased), r .ranged))
+    (λ r. (
+      (
+        ((((((((r .code, r .consts), r .named), r .tokened), r .residual), r .chained), r .stepped), r .operands), r .tabled),
+        r .cased,
+      ),
+      r .ranged,
+    ))
 
 -- of the kinds only 15 goes by a table
 goesByTable : Flow → Bool
@@ -87,9 +105,10 @@ only-15 = refl
 pub is-15 : (k : ℕ) → k < 25 → effect k .flow ≡ table → k ≡ 15
 unfolding goesByTable
 is-15 k h e =
-    eqb-true k 15
-    (subst (λ (F : Flow). (not (goesByTable F) || eqb k 15) ≡ true) e (all-at (λ k. not (goesByTable (effect k .flow)) || eqb k 15) 25 k only-15 h))
+    let there = all-at (λ k. not (goesByTable (effect k .flow)) || eqb k 15) 25 k only-15 h in
+    eqb-true k 15 (subst (λ (F : Flow). (not (goesByTable F) || eqb k 15) ≡ true) e there)
 
+-- each Switch names a table that is there
 pub words-named : (s w : List ℕ) → WordsRight s w → TablesNamed w
 unfolding codeTable Fits
 words-named s w W p h e = go (kindAt w p) (is-15 (kindAt w p) (omega (arith, kind)) e) (W .code p h)
@@ -100,6 +119,7 @@ words-named s w W p h e = go (kindAt w p) (is-15 (kindAt w p) (omega (arith, kin
     go : (k : ℕ) → k ≡ 15 → Obeys (between 1 24 ∷ getD (codeTable s w (bAt w p)) k []) w (codeAt + 4 * p) → aAt w p < tables w
     go k q o = (subst (λ (j : ℕ). Obeys (between 1 24 ∷ getD (codeTable s w (bAt w p)) j []) w (codeAt + 4 * p)) q o) 1 (omega arith)
 
+-- the target of a row, by the kind of its table
 row-of-cases : (w : List ℕ) (i r : ℕ) → switchWord w i 0 ≡ 0 → rowTarget w i r ≡ caseWord w (switchWord w i 1 + r) 0
 unfolding rowTarget
 row-of-cases w i r e = rw (eq-eqb (switchWord w i 0) 0 e, rowTarget)
@@ -108,6 +128,7 @@ row-of-ranges : (w : List ℕ) (i r : ℕ) → (switchWord w i 0 ≡ 0 → ⊥) 
 unfolding rowTarget
 row-of-ranges w i r e = rw (ne-eqb (switchWord w i 0) 0 e, rowTarget)
 
+-- how many rows there are, by the kind of the table
 there-cases : (w : List ℕ) (k : ℕ) → k ≡ 0 → rowsThere w k ≡ cases w
 unfolding rowsThere
 there-cases w k e = rw (eq-eqb k 0 e, rowsThere)
@@ -116,6 +137,7 @@ there-ranges : (w : List ℕ) (k : ℕ) → (k ≡ 0 → ⊥) → rowsThere w k 
 unfolding rowsThere
 there-ranges w k e = rw (ne-eqb k 0 e, rowsThere)
 
+-- the targets of a table: its rows, then its default
 row-there : (w : List ℕ) (i r : ℕ) → r < switchWord w i 2 → tableTarget w i r ≡ rowTarget w i r
 unfolding tableTarget
 row-there w i r h = rw (lt-ltb r (switchWord w i 2) h, tableTarget)
@@ -135,13 +157,19 @@ row-inside s w W i h r b = by (eqb (switchWord w i 0) 0) refl
     by : (t : Bool) → eqb (switchWord w i 0) 0 ≡ t → rowTarget w i r ≤ instructions w
     by true e =
         let z = eqb-true (switchWord w i 0) 0 e in
-        rw (row-of-cases w i r z) (W .cased (switchWord w i 1 + r) (omega (arith, run, there-cases w (switchWord w i 0) z)) 0 (omega arith))
+        let there = there-cases w (switchWord w i 0) z in
+        rw (row-of-cases w i r z) (W .cased (switchWord w i 1 + r) (omega (arith, run, there)) 0 (omega arith))
     by false e =
         let z = eqb-false (switchWord w i 0) 0 e in
-        rw (row-of-ranges w i r z) (W .ranged (switchWord w i 1 + r) (omega (arith, run, there-ranges w (switchWord w i 0) z)) 5 (omega arith))
+        let there = there-ranges w (switchWord w i 0) z in
+        rw (row-of-ranges w i r z) (W .ranged (switchWord w i 1 + r) (omega (arith, run, there)) 5 (omega arith))
 
 -- a fact of every row and of the default is one of every target
-targets-by : (P : ℕ → Type 0) (w : List ℕ) (i : ℕ) → ((r : ℕ) → r < switchWord w i 2 → P (rowTarget w i r)) → P (switchWord w i 3) → (r : ℕ) → P (tableTarget w i r)
+targets-by :
+    (P : ℕ → Type 0) (w : List ℕ) (i : ℕ)
+    → ((r : ℕ) → r < switchWord w i 2 → P (rowTarget w i r))
+    → P (switchWord w i 3)
+    → (r : ℕ) → P (tableTarget w i r)
 targets-by P w i rows default = row-all P w i (λ r b. by r b (ltb r (switchWord w i 2)) refl)
   where
     by : (r : ℕ) → r < suc (switchWord w i 2) → (t : Bool) → ltb r (switchWord w i 2) ≡ t → P (tableTarget w i r)
@@ -173,6 +201,7 @@ module _ (s w : List ℕ) (W : WordsRight s w) (p : ℕ) (h : p < instructions w
   AimsBy : Flow → Type 0
   AimsBy F = (way : ℕ) → (p < goesTo F w way p) × (goesTo F w way p ≤ instructions w)
 
+  -- the test of the target of a branch
   tells-branch : Tells (ltb p (aAt w p) && leb (aAt w p) (instructions w)) (AimsBy branch)
   unfolding AimsBy goesTo branchTarget
   tells-branch =
@@ -180,6 +209,7 @@ module _ (s w : List ℕ) (W : WordsRight s w) (p : ℕ) (h : p < instructions w
       (λ g. elim [ zero ↦ (omega arith, omega arith) | suc way ↦ g ])
       (λ g. g 1)
 
+  -- a table that p names has its targets inside
   inside : flowAt w p ≡ table → (r : ℕ) → tableTarget w (aAt w p) r ≤ instructions w
   unfolding Fits switchWord
   inside e =
@@ -187,6 +217,7 @@ module _ (s w : List ℕ) (W : WordsRight s w) (p : ℕ) (h : p < instructions w
       let b = words-named s w W p h e in
       targets-by (λ t. t ≤ instructions w) w i (row-inside s w W i b) (W .tabled i b 3 (omega arith))
 
+  -- the test of the targets of p, by its flow
   tells-aims : (F : Flow) → flowAt w p ≡ F → Tells (aims F w p) (AimsBy F)
   unfolding aims AimsBy goesTo leastTarget
   tells-aims on e = tells-always (λ way. (omega arith, omega arith))
@@ -204,10 +235,12 @@ module _ (s w : List ℕ) (W : WordsRight s w) (p : ℕ) (h : p < instructions w
       (subst (λ (t : ℕ). p < t) (default-there w i) (g (switchWord w i 2) .0))
       (λ r b. subst (λ (t : ℕ). p < t) (row-there w i r b) (g r .0)))
 
+  -- the same said of runs
   tells-there : Tells (aims (flowAt w p) w p) ((way : ℕ) → (p < next w way p) × (next w way p ≤ instructions w))
   unfolding next AimsBy
   tells-there = tells-aims (flowAt w p) refl
 
+-- the test of all targets
 pub tells-targets : (s w : List ℕ) → WordsRight s w → Tells (targetsRight w) (Aims w)
 unfolding targetsRight
 tells-targets s w W = record {
