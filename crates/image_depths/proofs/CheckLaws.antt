@@ -20,10 +20,12 @@ use Rattle.image_depths.specs.Passing.{leads, placesRight, tablesRight, 
 use Rattle.image_depths.proofs.MarkLaws.{table-row, table-default}
 use Rattle.image_depths.proofs.DeepLaws.{deep-false}
 
+-- a test that stops at the first false is the joined one
 and-lazy : (a b : Bool) → elim a [ true ↦ b | false ↦ false ] ≡ (a && b)
 and-lazy true b = refl
 and-lazy false b = refl
 
+-- where the edges lead, by the number of the flow
 pub leads-table : (F : Flow) (w l : List ℕ) (p m a t x : ℕ) → flowNumber F ≡ 3 → a ≡ aAt w p → t ≡ tableNode w a → x ≡ mark l t
     → eqb x m ≡ leads F w l p m
 unfolding flowNumber leads allBelow edges edge
@@ -57,10 +59,12 @@ leads-on jump w l p m x a b c h = absurd (c refl)
 leads-on branch w l p m x a b c h = absurd (b refl)
 leads-on table w l p m x a b c h = absurd (a refl)
 
+-- one place: without a mark there is nothing to test
 pub place-none : (w l : List ℕ) (p m : ℕ) → m ≡ mark l p → m ≡ 0 → true ≡ placeBy (mark l p) w l p
 unfolding placeBy
 place-none w l p m e z = ap (λ (x : ℕ). placeBy x w l p) (sym (sym e ∙ z))
 
+-- one place with a mark
 pub place-by : (w l : List ℕ) (p m n k : ℕ) (r : Bool) → m ≡ mark l p → (m ≡ 0 → ⊥) → n ≡ after w p (m - 1) → k ≡ needs w p
     → r ≡ leads (flowAt w p) w l p (n + 1) → (leb k (m - 1) && r) ≡ placeBy (mark l p) w l p
 unfolding placeBy leads
@@ -100,10 +104,12 @@ tables-done w l n i e a b h =
 abbrev rowsTo : List ℕ → List ℕ → ℕ → ℕ → ℕ → Bool
 rowsTo w l i m r = eqb (mark l (tableTarget w i r)) m
 
+-- without a mark there is nothing to test
 pub table-none : (w l : List ℕ) (i m : ℕ) → m ≡ mark l (tableNode w i) → m ≡ 0 → true ≡ tableBy (mark l (tableNode w i)) w l i
 unfolding tableBy
 table-none w l i m e z = ap (λ (x : ℕ). tableBy x w l i) (sym (sym e ∙ z))
 
+-- with a mark every target must have it
 table-some : (w l : List ℕ) (i m : ℕ) → m ≡ mark l (tableNode w i) → (m ≡ 0 → ⊥)
     → allBelow (suc (switchWord w i 2)) (rowsTo w l i m) ≡ tableBy (mark l (tableNode w i)) w l i
 unfolding tableBy
@@ -111,6 +117,7 @@ table-some w l i m e z =
     let s : m ≡ suc (m - 1) = omega (arith, z) in
     ap (λ (x : ℕ). allBelow (suc (switchWord w i 2)) (rowsTo w l i x)) s ∙ ap (λ (x : ℕ). tableBy x w l i) (sym s ∙ e)
 
+-- the rows by their own test, then the default
 pub table-by : (w l : List ℕ) (i m d x : ℕ) (r : Bool) → m ≡ mark l (tableNode w i) → (m ≡ 0 → ⊥)
     → r ≡ allBelow (switchWord w i 2) (λ j. eqb (mark l (rowTarget w i j)) m) → d ≡ switchWord w i 3 → x ≡ mark l d
     → (r && eqb x m) ≡ tableBy (mark l (tableNode w i)) w l i
@@ -137,6 +144,7 @@ most-more l i x y z e g h =
 pub most-done : (l : List ℕ) (i n x : ℕ) → i ≤ n → n ≤ i → x ≡ most l i → x ≡ most l n
 most-done l i n x a b e = let s : i ≡ n = omega arith in e ∙ ap (most l) s
 
+-- the four tests joined
 pub marks-by : (w l : List ℕ) (n g : ℕ) (a b : Bool) (x y : ℕ) → n ≡ instructions w → g ≡ greatestDepth w → a ≡ placesRight w l
     → b ≡ tablesRight w l → x ≡ mark l n → y ≡ most l n → (a && b && eqb x 2 && eqb y (g + 1)) ≡ marksRight w l
 unfolding marksRight placesRight tablesRight
@@ -144,15 +152,17 @@ marks-by w l n g a b x y e f h k p q =
     let s : g + 1 ≡ suc (greatestDepth w) = omega (arith, f) in
     ap₂ _&&_ (ap₂ _&&_ (ap₂ _&&_ h k) (ap (λ (z : ℕ). eqb z 2) (p ∙ ap (mark l) e))) (ap₂ eqb (q ∙ ap (most l) e) s)
 
--- the whole test
+-- the whole test: the scratch has room for the marks and for a word of each row
 pub room : (w : List ℕ) → Checked w → marksThere w + cases w + ranges w ≤ length w
 unfolding endAt rangesAt casesAt switchesAt chainsAt constsAt
 room w K = omega (arith, K .sizes)
 
+-- the pass went to the end: its marks are tested
 pub marked-right : (w : List ℕ) (l l′ : List ℕ) (t r : Bool) → MarkedAll w l t → t ≡ true → Counted w l l′
     → r ≡ marksRight w (marksOf w l′) → r ≡ marksRight w (marked w (marksThere w) (instructions w))
 marked-right w l l′ t r M e C h = h ∙ ap (marksRight w) (C .marks ∙ M .done e)
 
+-- the pass stopped at a mark without room: the image is not well made
 pub marked-wrong : (w : List ℕ) (l : List ℕ) (t : Bool) → Checked w → instructions w ≤ 4294967295 → MarkedAll w l t → t ≡ false
     → false ≡ marksRight w (marked w (marksThere w) (instructions w))
 marked-wrong w l t K b M e = sym (deep-false w (K .aims) (K .named) b (M .deep e))

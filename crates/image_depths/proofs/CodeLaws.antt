@@ -18,6 +18,7 @@ use Rattle.image_depths.specs.Passing.{Read}
 
 module _ (w : List ℕ) (o : Starts) (i n k : ℕ) (operands : n ≡ word w (o .chains + (6 * i + 5)))
     (root : k ≡ word w (o .chains + 6 * i)) where
+  -- the words of chain i that were read
   operands-is : Placed w o → n ≡ chainWord w i 5
   unfolding chainWord
   operands-is P =
@@ -30,10 +31,12 @@ module _ (w : List ℕ) (o : Starts) (i n k : ℕ) (operands : n ≡ word w (o .
       let same : o .chains + 6 * i ≡ chainsAt w + 6 * i + 0 = omega (arith, P .chains) in
       root ∙ ap (word w) same
 
+  -- a chain from the stack takes one more than its operands
   pub takes-more : k ≡ 3 → Placed w o → n + 1 ≡ chainTakes w i
   unfolding chainTakes
   takes-more z P = rw (eq-eqb (chainWord w i 0) 3 (sym (root-is P) ∙ z), chainTakes) (ap (λ (m : ℕ). m + 1) (operands-is P))
 
+  -- any other takes its operands
   pub takes-same : (k ≡ 3 → ⊥) → Placed w o → n ≡ chainTakes w i
   unfolding chainTakes
   takes-same z P = rw (ne-eqb (chainWord w i 0) 3 (λ e. z (root-is P ∙ e)), chainTakes) (omega (arith, operands-is P))
@@ -53,6 +56,7 @@ counted-other which a b n m h = by (eqb which 1) refl (eqb which 2) refl (eqb wh
         let z = eqb-false which 3 g in
         sym (counted-none which a b n x y z h) ∙ counted-none which a b m x y z h
 
+-- what the table of effects gives is what an instruction pops
 pops-is : (w : List ℕ) (p : ℕ)
     → entry (kindAt w p) 0 + counted (entry (kindAt w p) 3) (aAt w p) (bAt w p) (chainTakes w (aAt w p)) ≡ pops w p
 unfolding pops
@@ -60,6 +64,7 @@ pops-is w p =
     let k = kindAt w p in
     rw (entry-pops k, entry-count k, counted-is (effect k .count) (aAt w p) (bAt w p) (chainTakes w (aAt w p)))
 
+-- and what it needs
 needs-is : (w : List ℕ) (p : ℕ) → pops w p + entry (kindAt w p) 2 + kept (entry (kindAt w p) 3) (aAt w p) ≡ needs w p
 unfolding needs
 needs-is w p =

@@ -16,10 +16,12 @@ use Rattle.wellmade.proofs.Right.{Right, TablesNamed, tells-right, right-next}
 use Rattle.bytecode.proofs.TableLaws.{pushes-one}
 use Rattle.image_depths.specs.Passing.{DeepAt}
 
+-- no instruction pushes more than one
 pushes-small : (w : List ℕ) (p : ℕ) → pushes w p ≤ 1
 unfolding pushes
 pushes-small w p = pushes-one (kindAt w p)
 
+-- a step raises the depth by no more than the place
 small-step : (w : List ℕ) → Aims w → (way : ℕ) (st : State) → st .depth ≤ st .place → stepOn w way st .depth ≤ stepOn w way st .place
 unfolding step
 small-step w A way st h = by (ltb (st .place) (instructions w)) refl
@@ -30,6 +32,7 @@ small-step w A way st h = by (ltb (st .place) (instructions w)) refl
         rw (goes-on w way st i) (omega (arith, h, A (st .place) i way .0, pushes-small w (st .place)))
     by false e = rw (stays w way st e) h
 
+-- so does a run
 small-run : (w : List ℕ) → Aims w → (ways : ℕ → ℕ) (n : ℕ) → run w ways n .depth ≤ run w ways n .place
 unfolding run
 small-run w A ways zero = omega arith
@@ -39,6 +42,7 @@ small-run w A ways (suc n) = small-step w A (ways n) (run w ways n) (small-run w
 pub real-small : (w : List ℕ) → Aims w → (t d : ℕ) → Real w t d → d ≤ t
 real-small w A t d x = subst (λ (st : State). st .depth ≤ st .place) (x .there) (small-run w A (x .ways) (x .count))
 
+-- later places lose no mark
 marked-keeps : (w : List ℕ) (size p k j d : ℕ) → mark (marked w size p) j ≡ suc d → mark (marked w size (p + k)) j ≡ suc d
 unfolding marked
 marked-keeps w size p zero j d h = let e : p ≡ p + zero = omega arith in subst (λ (n : ℕ). mark (marked w size n) j ≡ suc d) e h
@@ -47,6 +51,7 @@ marked-keeps w size p (suc k) j d h =
     subst (λ (n : ℕ). mark (marked w size n) j ≡ suc d) e
     (by-keeps (mark (marked w size (p + k)) (p + k)) w (p + k) (marked w size (p + k)) j d (marked-keeps w size p k j d h))
 
+-- a mark too large for a word: the marks do not agree
 pub deep-false : (w : List ℕ) → Aims w → TablesNamed w → instructions w ≤ 4294967295 → DeepAt w
     → marksRight w (marked w (marksThere w) (instructions w)) ≡ false
 deep-false w A N b D = by (marksRight w l) refl

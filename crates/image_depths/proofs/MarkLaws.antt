@@ -12,7 +12,7 @@ use Rattle.zeros.specs.Zeros.{zeros}
 use Rattle.bytecode.specs.Effect.{Flow, on, jump, branch, table}
 use Rattle.bytecode.specs.Table.{flowNumber}
 use Rattle.lowering.specs.Words.{instructions, aAt, switchWord}
-use Rattle.lowering.specs.Run.{pops, pushes, rowTarget, tableTarget, branchTarget}
+use Rattle.lowering.specs.Run.{pops, rowTarget, tableTarget, branchTarget}
 use Rattle.wellmade.specs.Marks.{mark, marksThere, tableNode, flowAt, after, edge, edges}
 use Rattle.wellmade.specs.Marks.{come, comes, enter, opened, handOn, passBy, marked}
 use Rattle.wellmade.proofs.ComeLaws.{come-new, come-old}
@@ -39,6 +39,7 @@ pub table-default : (w : List ℕ) (i : ℕ) → tableTarget w i (switchWord w i
 unfolding tableTarget
 table-default w i = rw (le-ltb (switchWord w i 2) (switchWord w i 2) (omega arith), tableTarget)
 
+-- a table without a mark: its rows and its default are come to
 enter-new : (w : List ℕ) (i m : ℕ) (l : List ℕ) → mark l (tableNode w i) ≡ 0
     → come m (comes m (rowTarget w i) (switchWord w i 2) l) (switchWord w i 3) ≡ enter w i m l
 unfolding enter comes
@@ -48,6 +49,7 @@ enter-new w i m l z =
     (ap (λ (x : List ℕ). come m x (switchWord w i 3)) (comes-same m (rowTarget w i) (tableTarget w i) n l (λ r h. sym (table-row w i r h)))
     ∙ ap (come m (comes m (tableTarget w i) n l)) (sym (table-default w i)))
 
+-- a table with a mark: nothing changes
 enter-old : (w : List ℕ) (i m : ℕ) (l : List ℕ) → (mark l (tableNode w i) ≡ 0 → ⊥) → enter w i m l ≡ l
 unfolding enter
 enter-old w i m l z = rw (ne-eqb (mark l (tableNode w i)) 0 z, enter)
@@ -161,11 +163,13 @@ module _ (w : List ℕ) (o : Starts) (c : Code) (p m size : ℕ) (l : List ℕ) 
 pub after-read : (w : List ℕ) (p : ℕ) (c : Code) (d n : ℕ) → n ≡ d - c .pops + c .pushes → Read w p c → n ≡ after w p d
 after-read w p c d n e R = e ∙ ap (λ (x : ℕ). d - x + c .pushes) (R .pops) ∙ ap (λ (x : ℕ). d - pops w p + x) (R .pushes)
 
+-- the mark of a place, as it was read
 pub place-mark : (w : List ℕ) (o : Starts) (p size m : ℕ) (l : List ℕ) → size ≡ o .places + 1 + o .tables → m ≡ mark (take size l) p
     → Placed w o → m ≡ mark (marksOf w l) p
 place-mark w o p size m l s e P = e ∙ ap (λ (n : ℕ). mark (take n l) p) (size-is w o size s P)
 
 module _ (w : List ℕ) (o : Starts) (p size m : ℕ) (l : List ℕ) (s : size ≡ o .places + 1 + o .tables) (e : m ≡ mark (take size l) p) where
+  -- no run comes here: nothing is handed on
   pub passed-none : m ≡ 0 → Placed w o → Passed w p l l true
   unfolding passBy
   passed-none z P = record {
@@ -174,6 +178,7 @@ module _ (w : List ℕ) (o : Starts) (p size m : ℕ) (l : List ℕ) (s : size �
     deep = λ h. absurd (true≢false h);
   }
 
+  -- the mark to hand on has no room in a word
   pub passed-deep : (c : Code) (n : ℕ) (l′ : List ℕ) → (m ≡ 0 → ⊥) → n ≡ (m - 1) - c .pops + c .pushes → 4294967295 < n + 1
       → Placed w o → Read w p c → Passed w p l l′ false
   passed-deep c n l′ z g h P R =
@@ -187,6 +192,7 @@ module _ (w : List ℕ) (o : Starts) (p size m : ℕ) (l : List ℕ) (s : size �
         };
       }
 
+  -- the mark is handed on
   pub passed-on : (c : Code) (n : ℕ) (l′ : List ℕ) → (m ≡ 0 → ⊥) → n ≡ (m - 1) - c .pops + c .pushes
       → (Placed w o → Read w p c → PooledAt w p → 0 < n + 1 → Does w (handOn (flowAt w p) w p (n + 1)) l l′)
       → Placed w o → Read w p c → PooledAt w p → Passed w p l l′ true
@@ -207,6 +213,7 @@ pub record Held (w : List ℕ) (p : ℕ) (l : List ℕ) : Type 0 where
   pub marks : marksOf w l ≡ marked w (marksThere w) p
   pub seen : Seen w l
 
+-- a scratch of zeros has no mark
 zeros-at : (n j : ℕ) → getD (zeros n) j 0 ≡ 0
 zeros-at zero j = refl
 zeros-at (suc n) zero = refl
@@ -217,6 +224,7 @@ take-zeros zero n h = refl
 take-zeros (suc m) zero h = absurd (omega arith)
 take-zeros (suc m) (suc n) h = ap {B = List ℕ} (λ l. 0 ∷ l) (take-zeros m n (omega arith))
 
+-- place 0 has the first mark
 pub held-start : (w : List ℕ) (o : Starts) (size n : ℕ) (l l′ : List ℕ) → size ≡ o .places + 1 + o .tables → l ≡ zeros n
     → Left size 1 0 l l′ → Placed w o → marksThere w ≤ n → Held w 0 l′
 unfolding marked
@@ -234,6 +242,7 @@ held-start w o size n l l′ s e L P room =
     none : Seen w l
     none = record { seen = λ q j a b. absurd (omega (arith, nothing q)) }
 
+-- one more place is passed
 pub held-on : (w : List ℕ) (p : ℕ) (l l′ : List ℕ) (r : Bool) → Held w p l → Passed w p l l′ r → r ≡ true → Held w (p + 1) l′
 unfolding marked
 held-on w p l l′ r H T t =
@@ -243,9 +252,11 @@ held-on w p l l′ r H T t =
       seen = D .seen;
     }
 
+-- the rows of the table that p names are there
 pub pooled-at : (w : List ℕ) (p : ℕ) → TablesNamed w → RowsPooled w → p < instructions w → PooledAt w p
 pooled-at w p N R h f = R (aAt w p) (N p h f)
 
+-- the pass stopped
 pub held-deep : (w : List ℕ) (p : ℕ) (l l′ l″ : List ℕ) (r : Bool) → p < instructions w → Held w p l → Passed w p l l′ r → r ≡ false
     → MarkedAll w l″ false
 held-deep w p l l′ l″ r b H T t = record {
@@ -253,6 +264,7 @@ held-deep w p l l′ l″ r b H T t = record {
   deep = λ z. record { place = p; inside = b; deep = subst (λ (x : List ℕ). Deep w x p) (H .marks) (T .deep t) };
 }
 
+-- the pass went to the end
 pub held-done : (w : List ℕ) (p : ℕ) (l : List ℕ) → p ≡ instructions w → Held w p l → MarkedAll w l true
 held-done w p l e H = record {
   done = λ z. H .marks ∙ ap (marked w (marksThere w)) e;
