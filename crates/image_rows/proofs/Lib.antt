@@ -1,3 +1,4 @@
+-- Laws of rows: reading them, what the scratch holds of them, and runs of rows with one mark.
 pub mod ReadLaws
 pub mod ScratchLaws
 pub mod SeenLaws

@@ -13,9 +13,11 @@ use Rattle.wellmade.specs.Rules.{cases, ranges, rowsThere}
 use Rattle.image_rows.specs.declared.Starts.{Starts}
 use Rattle.image_rows.specs.Rows.{Placed, rowOf, firstRow, Pooled}
 
+-- behind the last word nothing but 0 is read
 pub word-past : (w : List ℕ) (i : ℕ) → length w ≤ i → 0 ≡ word w i
 word-past w i h = sym (List·getD-eq-default w 0 h)
 
+-- word f of table i
 pub switch-at : (w : List ℕ) (o : Starts) (i f x : ℕ) → x ≡ word w (o .switches + (4 * i + f)) → Placed w o → x ≡ switchWord w i f
 unfolding switchWord
 switch-at w o i f x e P =
@@ -35,6 +37,7 @@ is-none : (w : List ℕ) (q : ℕ) → cases w ≤ q → ranges w ≤ q - cases 
 unfolding rowOf
 is-none w q a b = rw (le-ltb q (cases w) a, le-ltb (q - cases w) (ranges w) b, rowOf)
 
+-- the same for the word that was read
 pub row-case : (w : List ℕ) (o : Starts) (q x : ℕ) → q < o .cases → x ≡ word w (o .rows + 2 * q) → Placed w o → x ≡ rowOf w q
 row-case w o q x h e P =
     let same : o .rows + 2 * q ≡ casesAt w + 2 * q = omega (arith, P .rows) in
@@ -82,6 +85,7 @@ target-range w i r e =
     let same : rangesAt w + 6 * (switchWord w i 1 + r) + 5 ≡ rangesAt w + (6 * (switchWord w i 1 + r) + 5) = omega arith in
     rw (e, rowTarget) (ap (word w) same)
 
+-- row r of table i is row r of the list from its first one on
 pub row-of : (w : List ℕ) (i r : ℕ) → Pooled w i → r < switchWord w i 2 → rowTarget w i r ≡ rowOf w (firstRow w i + r)
 unfolding rowsThere firstRow
 row-of w i r P h = by (eqb (switchWord w i 0) 0) refl
@@ -100,6 +104,7 @@ row-of w i r P h = by (eqb (switchWord w i 0) 0) refl
         target-range w i r e ∙ ap (word w) same
         ∙ sym (is-range w q (omega arith) (omega (arith, P, pool))) ∙ ap (λ (x : ℕ). rowOf w (x + r)) (sym first)
 
+-- they end inside the list
 pub pooled-inside : (w : List ℕ) (i : ℕ) → Pooled w i → firstRow w i + switchWord w i 2 ≤ cases w + ranges w
 unfolding rowsThere firstRow
 pooled-inside w i P = by (eqb (switchWord w i 0) 0) refl

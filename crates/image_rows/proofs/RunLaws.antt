@@ -21,20 +21,24 @@ use Rattle.image_rows.specs.Scratch.{marksOf, noted, rowMark, Runs, Coun
 use Rattle.image_rows.proofs.ReadLaws.{row-of, pooled-inside}
 use Rattle.image_rows.proofs.ScratchLaws.{size-is}
 
+-- two tests with the same answers
 both : (a b : Bool) → (a ≡ true → b ≡ true) → (b ≡ true → a ≡ true) → a ≡ b
 both true b t s = sym (t refl)
 both false true t s = s refl
 both false false t s = refl
 
 module _ (f : ℕ → ℕ) where
+  -- a row with the mark before it makes the run longer
   run-same : (q : ℕ) → f q ≡ markBefore f q → runBefore f (suc q) ≡ suc (runBefore f q)
   unfolding runBefore
   run-same q e = rw (eq-eqb (f q) (markBefore f q) e, runBefore)
 
+  -- any other row starts one
   run-other : (q : ℕ) → (f q ≡ markBefore f q → ⊥) → runBefore f (suc q) ≡ 1
   unfolding runBefore
   run-other q e = rw (ne-eqb (f q) (markBefore f q) e, runBefore)
 
+  -- a row is in a run
   run-some : (q : ℕ) → 1 ≤ runBefore f (suc q)
   run-some q = by (eqb (f q) (markBefore f q)) refl
     where
@@ -104,6 +108,7 @@ pub record Counting (w l₀ : List ℕ) (q before run : ℕ) (l : List ℕ) : Ty
   pub runs : marksThere w + cases w + ranges w ≤ length l₀ → (j : ℕ) → j < q
       → noted w l j ≡ min (runBefore (rowMark w l₀) (suc j)) 4294967295
 
+-- no row is passed
 pub counting-start : (w l : List ℕ) → Counting w l 0 0 0 l
 unfolding markBefore runBefore
 counting-start w l = record { marks = refl; last = refl; long = refl; runs = λ h j b. absurd (omega arith) }
@@ -112,11 +117,13 @@ module _ (w l₀ : List ℕ) (q before run t m run′ size : ℕ) (l l′ : List
     (C : Counting w l₀ q before run l) (inside : q < cases w + ranges w) (long : length l ≡ length l₀) (s : size ≡ marksThere w)
     (target : t ≡ rowOf w q) (there : m ≡ mark (take size l) t)
     (same : m ≡ before → run′ ≡ min (run + 1) 4294967295) (other : (m ≡ before → ⊥) → run′ ≡ 1) (put : l′ ≡ set l (size + q) run′) where
+  -- the mark of row q
   mark-is : m ≡ rowMark w l₀ q
   mark-is =
       there ∙ ap (mark (take size l)) target ∙ ap (λ (n : ℕ). mark (take n l) (rowOf w q)) s
       ∙ ap (λ (a : List ℕ). mark a (rowOf w q)) (C .marks)
 
+  -- the run that ends at row q
   run-is : run′ ≡ min (runBefore (rowMark w l₀) (suc q)) 4294967295
   run-is = by (eqb m before) refl
     where
@@ -128,10 +135,12 @@ module _ (w l₀ : List ℕ) (q before run t m run′ size : ℕ) (l l′ : List
           let z = eqb-false m before e in
           omega (arith, other z, run-other (rowMark w l₀) q (λ g. z (mark-is ∙ g ∙ sym (C .last))))
 
+  -- only the word of row q changes
   rest-is : drop (marksThere w) l′ ≡ set (drop (marksThere w) l) q run′
   rest-is =
       ap (drop (marksThere w)) (put ∙ ap (λ (n : ℕ). set l (n + q) run′) s) ∙ drop-set-add (marksThere w) l q run′
 
+  -- the words of rows up to q
   noted-at : marksThere w + cases w + ranges w ≤ length l₀ → (j : ℕ) → j < q + 1 → (b : Bool) → eqb j q ≡ b
       → noted w l′ j ≡ min (runBefore (rowMark w l₀) (suc j)) 4294967295
   noted-at room j h true e =
@@ -144,6 +153,7 @@ module _ (w l₀ : List ℕ) (q before run t m run′ size : ℕ) (l l′ : List
       ap (λ (x : List ℕ). word x j) rest-is ∙ getD-set-other (drop (marksThere w) l) q j run′ 0 z
       ∙ C .runs room j (omega (arith, z))
 
+  -- one more row is passed
   pub counting-on : Counting w l₀ (q + 1) m run′ l′
   unfolding markBefore
   counting-on = record {
@@ -153,6 +163,7 @@ module _ (w l₀ : List ℕ) (q before run t m run′ size : ℕ) (l l′ : List
     runs = λ room j h. noted-at room j h (eqb j q) refl;
   }
 
+-- all rows are passed
 pub counting-done : (w : List ℕ) (o : Starts) (l₀ : List ℕ) (q total before run : ℕ) (l : List ℕ) → Placed w o
     → total ≡ o .cases + o .ranges → q ≡ total → Counting w l₀ q before run l → Counted w l₀ l
 counting-done w o l₀ q total before run l P e d C = record {
@@ -164,12 +175,13 @@ counting-done w o l₀ q total before run l P e d C = record {
   };
 }
 
--- the rows of a table
+-- the rows of a table: none
 pub rows-none : (w l : List ℕ) (i m rows : ℕ) → rows ≡ switchWord w i 2 → rows ≡ 0
     → true ≡ allBelow (switchWord w i 2) (λ j. eqb (mark (marksOf w l) (rowTarget w i j)) m)
 unfolding allBelow
 rows-none w l i m rows e z = ap (λ (n : ℕ). allBelow n (λ j. eqb (mark (marksOf w l) (rowTarget w i j)) m)) (sym z ∙ e)
 
+-- by the mark of the last row and the run that ends there
 pub rows-some : (w : List ℕ) (o : Starts) (l : List ℕ) (i m rows first size last t x y : ℕ)
     → (Placed w o → rows ≡ switchWord w i 2) → (rows ≡ 0 → ⊥) → rows ≤ 4294967295 → size ≡ o .places + 1 + o .tables
     → (Placed w o → first ≡ firstRow w i) → last ≡ first + rows - 1 → (Placed w o → t ≡ rowOf w last)

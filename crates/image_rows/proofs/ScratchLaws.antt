@@ -12,6 +12,7 @@ use Rattle.image_rows.specs.declared.Starts.{Starts}
 use Rattle.image_rows.specs.Rows.{Placed, rowOf}
 use Rattle.image_rows.specs.Scratch.{marksOf, Left, Noted, Stepped}
 
+-- how many marks there are
 pub size-is : (w : List ℕ) (o : Starts) (size : ℕ) → size ≡ o .places + 1 + o .tables → Placed w o → size ≡ marksThere w
 size-is w o size e P = omega (arith, P .places, P .tables)
 

@@ -29,6 +29,7 @@ settled-come m l u t S h z = by (mark l t) refl
 settled-comes : (m : ℕ) (f : ℕ → ℕ) (k : ℕ) (l : List ℕ) (t : ℕ) → Settled l t → Settled (comes m f k l) t
 settled-comes m f k l t S = comes-keep (λ x. Settled x t) m f k (λ r b x T. settled-come m x (f r) t T) l S
 
+-- a place that was come to is settled
 settled-there : (m : ℕ) (l : List ℕ) (t : ℕ) → 0 < m → Settled (come m l t) t
 settled-there m l t p h z = by (mark l t) refl
   where
@@ -38,6 +39,7 @@ settled-there m l t p h z = by (mark l t) refl
         omega (arith, ap (λ (x : List ℕ). mark x t) (come-new m l t e))
     by (suc d) e = omega (arith, come-keeps m l t t d e)
 
+-- all rows are settled once all were come to
 settled-rows : (m : ℕ) (f : ℕ → ℕ) (k : ℕ) (l : List ℕ) → 0 < m → (r : ℕ) → r < k → Settled (comes m f k l) (f r)
 unfolding comes
 settled-rows m f zero l p r h = absurd (omega arith)
@@ -49,6 +51,7 @@ settled-rows m f (suc k) l p r h = by (settled-rows m f k l p) (ltb r k) refl
         let same : k ≡ r = omega (arith, ltb-false r k e) in
         subst (λ (j : ℕ). Settled (come m (comes m f k l) (f k)) (f j)) same (settled-there m (comes m f k l) (f k) p)
 
+-- coming to a settled place changes nothing
 come-settled : (m : ℕ) (l : List ℕ) (t : ℕ) → Settled l t → come m l t ≡ l
 come-settled m l t S = by (ltb t (length l)) refl
   where
@@ -56,10 +59,12 @@ come-settled m l t S = by (ltb t (length l)) refl
     by true e = come-old m l t (S (ltb-true t (length l) e))
     by false e = come-past m l t (ltb-false t (length l) e)
 
+-- one more row
 comes-more : (m : ℕ) (f : ℕ → ℕ) (k : ℕ) (l : List ℕ) → comes m f (k + 1) l ≡ come m (comes m f k l) (f k)
 unfolding comes
 comes-more m f k l = rw add-one refl
 
+-- rows that are settled may be passed over
 comes-skip : (m : ℕ) (f : ℕ → ℕ) (k n : ℕ) (l : List ℕ) → ((r : ℕ) → k ≤ r → r < k + n → Settled (comes m f k l) (f r))
     → comes m f (k + n) l ≡ comes m f k l
 unfolding comes
@@ -70,12 +75,14 @@ comes-skip m f k (suc n) l S =
     ∙ ap (λ (x : List ℕ). come m x (f (k + n))) (comes-skip m f k n l (λ r a b. S r a (omega arith)))
     ∙ come-settled m (comes m f k l) (f (k + n)) (S (k + n) (omega arith) (omega arith))
 
+-- rows with the same targets
 pub comes-same : (m : ℕ) (f g : ℕ → ℕ) (k : ℕ) (l : List ℕ) → ((r : ℕ) → r < k → f r ≡ g r) → comes m f k l ≡ comes m g k l
 unfolding comes
 comes-same m f g zero l h = refl
 comes-same m f g (suc k) l h =
     ap (λ (x : List ℕ). come m x (f k)) (comes-same m f g k l (λ r b. h r (omega arith))) ∙ ap (come m (comes m g k l)) (h k (omega arith))
 
+-- what is read where v was stored is at most v
 set-most : (l : List ℕ) (k v : ℕ) → getD (set l k v) k 0 ≤ v
 set-most l k v = by (ltb k (length l)) refl
   where
@@ -96,6 +103,7 @@ pub record Going (w : List ℕ) (m first rows : ℕ) (l₀ : List ℕ) (r : ℕ)
   pub seen : (q j : ℕ) → q ≤ j → j < q + noted w l q → Settled (comes m (rowsFrom w first) rows (marksOf w l₀)) (rowOf w j)
 
 module _ (w : List ℕ) (m first rows : ℕ) (l₀ : List ℕ) where
+  -- no row is passed
   pub going-start : Seen w l₀ → Going w m first rows l₀ 0 l₀
   unfolding comes
   going-start S = record {
@@ -110,6 +118,7 @@ module _ (w : List ℕ) (m first rows : ℕ) (l₀ : List ℕ) where
     was : noted w l (first + r) ≡ noted w l₀ (first + r)
     was = G .ahead (first + r) (omega arith)
 
+    -- a row, seen before or not: the marks
     step-marks : (b : Bool) → eqb (noted w l (first + r)) 0 ≡ b
         → (0 < s) × (marksOf w l′ ≡ comes m (rowsFrom w first) (r + s) (marksOf w l₀))
     step-marks true e =
@@ -130,16 +139,19 @@ module _ (w : List ℕ) (m first rows : ℕ) (l₀ : List ℕ) where
               (S .seen (first + r) (first + j) (omega arith) (omega (arith, t .0, was))))),
         )
 
+    -- only the word of this row changes
     noted-else : (q : ℕ) → (q ≡ first + r → ⊥) → noted w l′ q ≡ noted w l q
     noted-else q n =
         ap (λ (x : List ℕ). word x q) (T .rest)
         ∙ getD-set-other (drop (marksThere w) l) (first + r) q (max (noted w l (first + r)) (rows - r)) 0 n
 
+    -- and it is at most the greater of the two
     noted-here : noted w l′ (first + r) ≤ max (noted w l (first + r)) (rows - r)
     noted-here =
         subst (λ (x : List ℕ). word x (first + r) ≤ max (noted w l (first + r)) (rows - r)) (sym (T .rest))
         (set-most (drop (marksThere w) l) (first + r) (max (noted w l (first + r)) (rows - r)))
 
+    -- what it tells holds once all rows are passed
     settled-here : (j : ℕ) → first + r ≤ j → j < first + r + noted w l′ (first + r)
         → Settled (comes m (rowsFrom w first) rows (marksOf w l₀)) (rowOf w j)
     settled-here j a b = by (ltb j (first + rows)) refl
@@ -155,6 +167,7 @@ module _ (w : List ℕ) (m first rows : ℕ) (l₀ : List ℕ) where
             settled-comes m (rowsFrom w first) rows (marksOf w l₀) (rowOf w j)
             (S .seen (first + r) j a (omega (arith, noted-here, was)))
 
+    -- what all words of rows tell
     step-seen : (q j : ℕ) → q ≤ j → j < q + noted w l′ q → Settled (comes m (rowsFrom w first) rows (marksOf w l₀)) (rowOf w j)
     step-seen q j a b = by (eqb q (first + r)) refl
       where
@@ -164,6 +177,7 @@ module _ (w : List ℕ) (m first rows : ℕ) (l₀ : List ℕ) where
             settled-here j (omega arith) (subst (λ (i : ℕ). j < i + noted w l′ i) same b)
         by false e = G .seen q j a (subst (λ (x : ℕ). j < q + x) (noted-else q (eqb-false q (first + r) e)) b)
 
+    -- s more rows are passed
     pub going-on : Going w m first rows l₀ (r + s) l′
     going-on =
         let t = step-marks (eqb (noted w l (first + r)) 0) refl in
@@ -173,6 +187,7 @@ module _ (w : List ℕ) (m first rows : ℕ) (l₀ : List ℕ) where
           seen = step-seen;
         }
 
+  -- all rows are passed
   pub going-done : (i r : ℕ) (l : List ℕ) → r ≡ rows → first ≡ firstRow w i → rows ≡ switchWord w i 2 → Pooled w i
       → Going w m first rows l₀ r l → Did w (comes m (rowTarget w i) (switchWord w i 2)) l₀ l
   going-done i r l e a b P G = record {
