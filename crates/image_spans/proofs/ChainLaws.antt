@@ -34,6 +34,7 @@ up-to-cut a n h = by (leb a n) refl
 abbrev obeysBy : List ℕ → ℕ → ℕ → ℕ → Bool
 obeysBy w j n kind = obeys (getD (operandTable w j n) kind []) w (stepsAt w + 6 * j)
 
+-- the need of a step is met just where its rule holds
 step-fits : (w : List ℕ) (j n : ℕ) → n ≤ 65535 → leb (stepNeed w j) n ≡ obeysBy w j n (stepWord w j 0)
 unfolding stepNeed needOf operandTable obeys fits allBelow stepWord
 step-fits w j n h = by (stepWord w j 0)
@@ -46,6 +47,7 @@ step-fits w j n h = by (stepWord w j 0)
         let three = suc (suc (suc k)) in
         rw (ne-eqb three 0 (λ e. omega arith), ne-eqb three 2 (λ e. omega arith), needOf) (le-leb 0 n (omega arith))
 
+-- the leaves of a run, one by one
 pub run-leaves : (t : List ℕ) (size a n x : ℕ) → leavesUpTo t size a (a + n) x ≡ allBelow n (λ k. leb (leaf t size (a + k)) x)
 unfolding leavesUpTo
 run-leaves t size a n x = let e : a + n - a ≡ n = omega arith in rw e refl

@@ -1,5 +1,5 @@
 -- What the flow of an instruction, by its number, asks of the targets.
-use Prim.Native.Nat.{ℕ, _≤_, _<_}
+use Prim.Native.Nat.{ℕ, _<_}
 use mathlib.Core.Path.{_≡_, refl, sym, ap, _∙_}
 use mathlib.Core.Bool.{Bool, true, _&&_}
 use mathlib.Core.List.{List}
@@ -13,6 +13,7 @@ use Rattle.wellmade.specs.Rules.{tables}
 use Rattle.wellmade.specs.Test.{leastTarget, aims}
 use Rattle.image_spans.specs.Rows.{TargetTree}
 
+-- number 3 is the flow by a table
 by-table : (F : Flow) → flowNumber F ≡ 3 → F ≡ table
 unfolding flowNumber
 by-table on e = absurd (omega arith)
@@ -22,6 +23,7 @@ by-table table e = refl
 
 -- the answers of the instruction at p, by the number f of its flow and its word a
 module _ (w : List ℕ) (p f : ℕ) (number : f ≡ flowNumber (flowAt w p)) where
+  -- to the next: nothing is asked
   pub aims-on : f ≡ 0 → true ≡ aims (flowAt w p) w p
   unfolding flowNumber aims
   aims-on z = by (flowAt w p) (sym number ∙ z)
@@ -32,6 +34,7 @@ module _ (w : List ℕ) (p f : ℕ) (number : f ≡ flowNumber (flowAt w p)) whe
       by branch e = absurd (omega arith)
       by table e = absurd (omega arith)
 
+  -- a jump or a branch: a is the target
   pub aims-at : (a n : ℕ) → (f ≡ 0 → ⊥) → (f ≡ 3 → ⊥) → a ≡ aAt w p → n ≡ instructions w → (ltb p a && leb a n) ≡ aims (flowAt w p) w p
   unfolding flowNumber aims
   aims-at a n z t ea en = rw (ea, en) (by (flowAt w p) (λ e. z (number ∙ e)) (λ e. t (number ∙ e)))
@@ -42,6 +45,7 @@ module _ (w : List ℕ) (p f : ℕ) (number : f ≡ flowNumber (flowAt w p)) whe
       by branch z t = refl
       by table z t = absurd (t refl)
 
+  -- a Switch: the answer of table a
   pub aims-by :
       {t : List ℕ} (a : ℕ) (r : Bool)
       → f ≡ 3

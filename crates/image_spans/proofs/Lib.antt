@@ -1,3 +1,4 @@
+-- Laws of the two tests over runs: operands of chains, and targets of tables.
 pub mod AllLaws
 pub mod NeedLaws
 pub mod ChainLaws

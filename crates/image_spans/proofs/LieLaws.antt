@@ -36,6 +36,7 @@ module _ (s w : List ℕ) (i : ℕ) where
   rules : List Rule → List Rule
   rules root = upTo 3 ∷ root ++ (free ∷ within (chainWord w i 3) (steps w) ∷ upTo maxElements ∷ [])
 
+  -- both follow from the rules, with any two for the root
   rooted : (a b : Rule) → obeys (rules (a ∷ b ∷ [])) w (chainsAt w + 6 * i) ≡ true → Lies
   unfolding Lies rules fits chainWord
   rooted a b o =
@@ -44,6 +45,7 @@ module _ (s w : List ℕ) (i : ℕ) where
         leb-true (chainWord w i 5) maxElements (word-fits (rules (a ∷ b ∷ [])) w at 5 o (omega arith)),
       )
 
+  -- the root by its number
   chain-lies : (root : ℕ) → root ≤ 3 → obeys (rules (getD (rootTable s w) root [])) w (chainsAt w + 6 * i) ≡ true → Lies
   unfolding rootTable
   chain-lies zero h o = rooted _ _ o
@@ -52,6 +54,7 @@ module _ (s w : List ℕ) (i : ℕ) where
   chain-lies (suc (suc (suc zero))) h o = rooted _ _ o
   chain-lies (suc (suc (suc (suc k)))) h o = absurd (omega arith)
 
+-- all chains
 pub chains-lie : (s w : List ℕ) → chainsRight s w ≡ true → ChainsLie w
 unfolding Lies rules fits chainWord
 chains-lie s w right = record { runs = λ i h. lies i h .0; operands = λ i h. lies i h .1 }
@@ -66,12 +69,14 @@ chains-lie s w right = record { runs = λ i h. lies i h .0; operands = λ i h. l
 abbrev ruled : List ℕ → List ℕ → ℕ → ℕ → List Rule
 ruled s w p kind = between 1 24 ∷ getD (codeTable s w (bAt w p)) kind []
 
+-- a Switch names a table that is there
 table-named : (s w : List ℕ) (p kind : ℕ) → kind ≡ 15 → obeys (ruled s w p kind) w (codeAt + 4 * p) ≡ true → aAt w p < tables w
 unfolding fits codeTable
 table-named s w p kind e o =
     let there = subst (λ (k : ℕ). obeys (ruled s w p k) w (codeAt + 4 * p) ≡ true) e o in
     ltb-true (aAt w p) (tables w) (word-fits (ruled s w p 15) w (codeAt + 4 * p) 1 there (omega arith))
 
+-- all tables, and all that name one
 pub rows-lie : (s w : List ℕ) → codeRight s w ≡ true → switchesRight w ≡ true → RowsLie w
 unfolding fits switchWord
 rows-lie s w code switches = record { runs = runs; named = named }

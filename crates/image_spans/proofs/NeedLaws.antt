@@ -15,6 +15,7 @@ use Rattle.spans.specs.Tree.{leaf, Built}
 use Rattle.image_spans.specs.Premises.{Sized, ChainsLie}
 use Rattle.image_spans.specs.Needs.{cut, needOf, stepNeed, NeedsIn, NeedTree}
 
+-- the need of a step by its kind: an index, a method, any other
 pub need-index : (kind a b c r : ℕ) → kind ≡ 0 → r ≡ cut (a + 1) → r ≡ needOf kind a b c
 unfolding needOf
 need-index kind a b c r z e = rw (eq-eqb kind 0 z, needOf) e
@@ -40,6 +41,7 @@ pub step-need :
 unfolding stepNeed stepWord
 step-need w j at r a b c d e q ha hb hc hd = rw (q, ha, hb, hc, hd, e, add-zero) refl
 
+-- no step is put
 pub needs-none : (w l : List ℕ) → NeedsIn w l 0
 needs-none w l = record { need = λ j h. absurd (omega arith) }
 
@@ -71,6 +73,7 @@ pub needs-fit : {w l : List ℕ} → Sized w l → 2 * steps w ≤ length l
 unfolding endAt rangesAt casesAt switchesAt
 needs-fit s = omega (arith, s .ends, s .room)
 
+-- the tree over the needs of all steps
 pub need-tree : {w l t : List ℕ} → NeedsIn w l (steps w) → Built l t (steps w) → ChainsLie w → NeedTree w t
 need-tree p b lie = record {
   tree = b .tree;

@@ -21,18 +21,22 @@ pub record At (w : List ℕ) (kind j from : ℕ) : Type 0 where
   pub there : from ≡ targetsAt w kind + apart kind * j
   pub small : from ≤ 128849018867 + 6 * j
 
+-- the first row
 pub at-first : (w : List ℕ) (kind from : ℕ) → from ≡ targetsAt w kind → from ≤ 128849018867 → At w kind 0 from
 at-first w kind from e h = record { there = e ∙ simp (mul-zero, add-zero); small = omega arith }
 
+-- the next row, n words on
 pub at-next : {w : List ℕ} {kind j from : ℕ} (n : ℕ) → n ≡ apart kind → n ≤ 6 → At w kind j from → At w kind (j + 1) (from + n)
 at-next {w} {kind} {j} {from} n e h a = record {
   there = let product : apart kind * (j + 1) ≡ apart kind * j + apart kind = simp (mul-add, mul-one) in omega (arith, a .there);
   small = omega (arith, a .small);
 }
 
+-- no row is put
 pub put-none : (w l : List ℕ) (kind at : ℕ) → Put w kind at 0 l l
 put-none w l kind at = record { put = λ j h. absurd (omega arith); before = λ k h. refl }
 
+-- one more row is put
 pub put-more :
     {w l₀ l : List ℕ} {kind at j from : ℕ} (v : ℕ)
     → at + j < length l
@@ -57,6 +61,7 @@ put-more {w} {l₀} {l} {kind} {at} {j} {from} v room a e p = record {
         let other = eqb-false k j i in
         getD-set-other l (at + j) (at + k) (turned v) 0 (λ s. other (omega arith)) ∙ p .put k (omega arith)
 
+-- all rows are put
 pub put-done : {w l₀ l : List ℕ} {kind at j : ℕ} (n : ℕ) → j ≤ n → n ≤ j → Put w kind at j l₀ l → Put w kind at n l₀ l
 put-done {w} {l₀} {l} {kind} {at} {j} n h g p = subst (λ (k : ℕ). Put w kind at k l₀ l) (omega arith) p
 

@@ -43,6 +43,7 @@ and-assoc : (a b c : Bool) → ((a && b) && c) ≡ (a && (b && c))
 and-assoc true b c = refl
 and-assoc false b c = refl
 
+-- p is below the least just where it is below the default and each row
 below-least : (f : ℕ → ℕ) (d k p : ℕ) → ltb p (least f d k) ≡ (ltb p d && allBelow k (λ r. ltb p (f r)))
 unfolding least
 below-least f d zero p = rw (all-none (λ r. ltb p (f r))) (sym (and-true (ltb p d)))
@@ -52,6 +53,7 @@ below-least f d (suc k) p =
     ∙ and-assoc (ltb p d) (allBelow k (λ r. ltb p (f r))) (ltb p (f k))
     ∙ ap (λ (b : Bool). ltb p d && b) (sym (all-suc (λ r. ltb p (f r)) k))
 
+-- cases come first among the leaves, ranges behind them
 pub before-first : (kind n : ℕ) → kind ≡ 0 → 0 ≡ rowsBefore kind n
 unfolding rowsBefore
 before-first kind n z = rw (eq-eqb kind 0 z, rowsBefore) refl
@@ -65,6 +67,7 @@ abbrev firstLeaf : List ℕ → ℕ → ℕ
 firstLeaf w i = rowsBefore (switchWord w i 0) (cases w) + switchWord w i 1
 
 module _ {w t : List ℕ} (T : TargetTree w t) (i : ℕ) (h : i < tables w) where
+  -- the rows of a table lie among the leaves
   rows-inside : firstLeaf w i + switchWord w i 2 ≤ rowCount w
   unfolding rowsBefore rowsThere
   rows-inside = by (eqb (switchWord w i 0) 0) refl
@@ -73,6 +76,7 @@ module _ {w t : List ℕ} (T : TargetTree w t) (i : ℕ) (h : i < tables w) wher
       by true e = rw (e, rowsBefore) (omega (arith, rw (e, rowsThere) at (T .lie .runs i h)))
       by false e = rw (e, rowsBefore) (omega (arith, rw (e, rowsThere) at (T .lie .runs i h)))
 
+  -- leaf of row r
   row-leaf : (r : ℕ) → r < switchWord w i 2 → leaf t (rowCount w) (firstLeaf w i + r) ≡ turned (rowTarget w i r)
   unfolding rowsBefore rowsThere
   row-leaf r b = by (eqb (switchWord w i 0) 0) refl
