@@ -17,6 +17,7 @@ use Rattle.image_fields.specs.Fields.{any, boundsBy, codeBounds, refFits
 use Rattle.image_fields.proofs.FitLaws.{code-none}
 use Rattle.image_fields.proofs.ObeysLaws.{and-true, and-false, obeys-4, obeys-none}
 
+-- instruction p obeys its rules
 abbrev pub instructionRight : List ℕ → List ℕ → ℕ → Bool
 instructionRight s w p = obeys (codeRules s w p) w (codeAt + 4 * p)
 
@@ -61,6 +62,7 @@ module _ (s w : List ℕ) (b : ℕ) where
       (getD (codeTable s w b) k [] ≡ only r)
       × ((a c : ℕ) → codeFits (codeBounds s w) (tokens w) k a b c ≡ (ltb a n && (eqb b 0 && eqb c 0)))
 
+  -- from a rule for a that says the same as the bound n
   only-row : {k : ℕ} (r : Rule) (n : ℕ) → Only r n k → ((a : ℕ) → a < any → ltb a n ≡ fits r a) → Row k
   unfolding fits
   only-row r n o law = record {
@@ -134,6 +136,7 @@ module _ (s w : List ℕ) (b : ℕ) where
     same = λ a c h. ap (λ (t : Bool). t && (leb b 1 && eqb c 0)) (leb·suc-suc a maxArgs) ∙ and-right (leb a maxArgs) (leb b 1) (eqb c 0);
   }
 
+  -- every kind has its row
   rows : Each Row 1 25
   unfolding codeTable codeBounds boundsBy codeFits restFits
   rows =
@@ -175,6 +178,7 @@ module _ (s w : List ℕ) (at a b c : ℕ) (small : a < any)
   abbrev Same : ℕ → Type 0
   Same k = codeFits (codeBounds s w) (tokens w) k a b c ≡ obeys (between 1 24 ∷ getD (codeTable s w b) k []) w at
 
+  -- kind 0 and kinds above 24 have no rules
   kind-zero : 0 ≡ word w at → Same 0
   unfolding codeBounds boundsBy codeFits codeTable fits
   kind-zero e₀ =
@@ -187,6 +191,7 @@ module _ (s w : List ℕ) (at a b c : ℕ) (small : a < any)
       let none : fits (between 1 24) k ≡ false = ap (λ (t : Bool). leb 1 k && t) (lt-leb k 24 h) ∙ and-false (leb 1 k) in
       sym (code-none (codeBounds s w) (tokens w) k b c a h) ∙ obeys-none w at e₀ (between 1 24) (getD (codeTable s w b) k []) none
 
+  -- a kind with rules
   kind-row : (k : ℕ) → 1 ≤ k → k ≤ 24 → k ≡ word w at → Row s w b k → Same k
   unfolding fits
   kind-row k l h e₀ R =
@@ -196,6 +201,7 @@ module _ (s w : List ℕ) (at a b c : ℕ) (small : a < any)
       ∙ obeys-4 w at e₀ (between 1 24) (R .r₁) (R .r₂) (R .r₃) e₁ e₂ e₃
       ∙ ap (λ (rs : List Rule). obeys (between 1 24 ∷ rs) w at) (sym (R .row))
 
+  -- every kind
   kind-any : (k : ℕ) → k ≡ word w at → Same k
   kind-any zero e₀ = kind-zero e₀
   kind-any (suc j) e₀ = by (ltb 24 (suc j)) refl
@@ -206,6 +212,7 @@ module _ (s w : List ℕ) (at a b c : ℕ) (small : a < any)
           let h = ltb-false 24 (suc j) e in
           kind-row (suc j) (omega arith) h e₀ (each-at (rows s w b) (suc j) (omega arith) (omega arith))
 
+-- the answer for instruction p, over the words that were read
 pub code-right : (s w : List ℕ) (p : ℕ) {bounds : List ℕ} {tokens′ k a b c : ℕ} {r : Bool}
     → r ≡ codeFits bounds tokens′ k a b c → bounds ≡ codeBounds s w → tokens′ ≡ tokens w
     → k ≡ word w (12 + 4 * p) → a ≡ word w (12 + 4 * p + 1) → b ≡ word w (12 + 4 * p + 2) → c ≡ word w (12 + 4 * p + 3)

@@ -12,6 +12,7 @@ use Rattle.wellmade.specs.Test.{codeRight, constsRight, namesRight, tokensRight
 use Rattle.wellmade.specs.Test.{chainsRight, stepsRight, switchesRight, casesRight, rangesRight}
 use Rattle.image_fields.specs.Fields.{fieldsRight, boundsBy, codeBounds, refFits, restFits, codeFits}
 
+-- the bounds by the sizes that were read
 pub bounds-read : (s w : List ℕ) {consts locals names′ tables′ chains′ residuals′ : ℕ} → consts ≡ constants w → locals ≡ localCount s
     → names′ ≡ names w → tables′ ≡ tables w → chains′ ≡ chains w → residuals′ ≡ residuals w
     → boundsBy consts locals names′ tables′ chains′ residuals′ ≡ codeBounds s w
@@ -19,6 +20,7 @@ unfolding codeBounds
 bounds-read s w c l n t h e = cc
 
 module _ (t : List ℕ) (b c : ℕ) where
+  -- c of CallRef, by the receiver in b
   pub ref-none : 2 < b / 256 → false ≡ refFits t b c
   unfolding refFits
   ref-none h = rw (lt-ltb 2 (b / 256) h, refFits) refl
@@ -28,6 +30,7 @@ module _ (t : List ℕ) (b c : ℕ) where
   ref-some h = rw (le-ltb 2 (b / 256) h, refFits) refl
 
 module _ (t : List ℕ) (tokens k b c : ℕ) where
+  -- b and c, by the kind
   pub rest-call : k ≡ 12 → (ltb (b / 256) 2 && leb c tokens) ≡ restFits t tokens k b c
   unfolding restFits
   rest-call e = rw (eq-eqb k 12 e, restFits) refl
@@ -44,6 +47,7 @@ module _ (t : List ℕ) (tokens k b c : ℕ) where
   unfolding restFits
   rest-else h g f = rw (ne-eqb k 12 h, ne-eqb k 13 g, ne-eqb k 17 f, restFits) refl
 
+  -- all three words
   pub code-none : (a : ℕ) → 24 < k → false ≡ codeFits t tokens k a b c
   unfolding codeFits
   code-none a h = rw (lt-ltb 24 k h, codeFits) refl

@@ -53,6 +53,7 @@ unfolding constFits
 const-past texts k a b h =
     rw (ne-eqb k 3 (λ e. omega arith), ne-eqb k 4 (λ e. omega arith), ne-eqb k 5 (λ e. omega arith), ne-eqb k 6 (λ e. omega arith)) refl
 
+-- the answer by the kind is that of the rules
 const-by : (s w : List ℕ) (at k a b : ℕ) → k ≡ word w at → a ≡ word w (at + 1) → b ≡ word w (at + 2)
     → constFits (textCount s) k a b ≡ obeys (between 3 6 ∷ getD (constTable s) k []) w at
 unfolding constFits constTable fits
@@ -68,6 +69,7 @@ const-by s w at (suc (suc (suc (suc (suc (suc (suc k))))))) a b e₀ e₁ e₂ =
     const-past (textCount s) k7 a b (omega arith)
     ∙ obeys-none w at e₀ (between 3 6) [] (ap (λ (x : Bool). leb 3 k7 && x) (lt-leb k7 6 (omega arith)) ∙ and-false (leb 3 k7))
 
+-- the answer for record i; so in each section below
 pub const-right : (s w : List ℕ) (i : ℕ) {first texts k a b : ℕ} {r : Bool} → r ≡ constFits texts k a b
     → texts ≡ textCount s → first ≡ constsAt w
     → k ≡ word w (first + 3 * i) → a ≡ word w (first + 3 * i + 1) → b ≡ word w (first + 3 * i + 2)
@@ -114,6 +116,7 @@ root-past locals names k x y h =
 module _ (s w : List ℕ) (at x y first count operands : ℕ)
     (e₁ : x ≡ word w (at + 1)) (e₂ : y ≡ word w (at + 2)) (e₃ : first ≡ word w (at + 3))
     (e₄ : count ≡ word w (at + 4)) (e₅ : operands ≡ word w (at + 5)) where
+  -- with rules for the two words behind the root
   by-rules : {k : ℕ} → k ≡ word w at → (r₁ r₂ : Rule)
       → (leb k 3 && fits r₁ x && fits r₂ y && leb (first + count) (steps w) && leb operands maxElements)
       ≡ obeys (upTo 3 ∷ r₁ ∷ r₂ ∷ free ∷ within first (steps w) ∷ upTo maxElements ∷ []) w at
@@ -121,6 +124,7 @@ module _ (s w : List ℕ) (at x y first count operands : ℕ)
   by-rules e₀ r₁ r₂ =
       simp and-true at (obeys-6 w at e₀ (upTo 3) r₁ r₂ free (within first (steps w)) (upTo maxElements) e₁ e₂ e₃ e₄ e₅)
 
+  -- the answer by the root is that of the rules
   chain-by : (k : ℕ) → k ≡ word w at
       → (rootFits (localCount s) (names w) k x y && runFits first count (steps w) && leb operands maxElements)
       ≡ obeys (upTo 3 ∷ getD (rootTable s w) k [] ++ (free ∷ within first (steps w) ∷ upTo maxElements ∷ [])) w at
@@ -151,6 +155,7 @@ unfolding stepFits
 step-past names k a b c d e h =
     rw (ne-eqb k 0 (λ e. omega arith), ne-eqb k 1 (λ e. omega arith), ne-eqb k 2 (λ e. omega arith)) refl
 
+-- the answer by the kind is that of the rules
 step-by : (w : List ℕ) (at k a b c d e : ℕ) → k ≡ word w at
     → a ≡ word w (at + 1) → b ≡ word w (at + 2) → c ≡ word w (at + 3) → d ≡ word w (at + 4) → e ≡ word w (at + 5)
     → stepFits (names w) k a b c d e ≡ obeys (upTo 2 ∷ getD (stepTable w) k []) w at
@@ -180,6 +185,7 @@ rows-past : (cases ranges k first rows : ℕ) → 1 < k → rowsFit cases ranges
 unfolding rowsFit
 rows-past cases ranges k first rows h = rw (ne-eqb k 0 (λ e. omega arith), ne-eqb k 1 (λ e. omega arith)) refl
 
+-- the answer by the kind is that of the rules
 table-by : (w : List ℕ) (at k first rows default : ℕ) → k ≡ word w at
     → first ≡ word w (at + 1) → rows ≡ word w (at + 2) → default ≡ word w (at + 3)
     → (rowsFit (cases w) (ranges w) k first rows && leb default (instructions w))
