@@ -21,7 +21,8 @@ use Rattle.lowering.specs.Pools.{constOf}
 use Rattle.lowering.specs.Flatten.{StepRule, operandOf, links, dotRule, stepRule}
 use Rattle.lowering.specs.Nodes.{Valid, Right, node-own, children, child-valid}
 use Rattle.lowering.specs.ChainNodes.{Link, operand-valid, links-valid}
-use Rattle.lowering.specs.Expression.{Rule, boolean, unit, constant, interpolated, array, variable, this, fnCall, chain, and, or, coalesce, residual, rules, rule}
+use Rattle.lowering.specs.Expression.{Rule, boolean, unit, constant, interpolated, array, variable, this, fnCall, chain, and, or, coalesce}
+use Rattle.lowering.specs.Expression.{residual, rules, rule}
 use Rattle.lowering.proofs.LinkedExpression.{least, rule-count}
 use Rattle.made.proofs.Listed.{ConstOk, int, float, char, string, AllIn}
 use Rattle.made.proofs.GivesCall.{CallFacts}
@@ -44,6 +45,7 @@ ruleKind or k = true
 ruleKind coalesce k = true
 ruleKind residual k = true
 
+-- each kind has the rule of its kind
 rule-kinds : allBelow 26 (λ k. ruleKind (getD rules k residual) k) ≡ true
 unfolding allBelow ruleKind rules
 rule-kinds = refl
@@ -55,6 +57,7 @@ stepKind StepRule.property k = eqb k propertyKind
 stepKind StepRule.method k = eqb k methodCallKind
 stepKind StepRule.none k = true
 
+-- the same for a Dot, and for any link
 dot-kinds : (k : ℕ) → stepKind (dotRule k) k ≡ true
 unfolding dotRule stepKind
 dot-kinds k = by (eqb k propertyKind) (eqb k methodCallKind) refl refl
@@ -74,6 +77,7 @@ step-kinds s c = by (eqb (kind s c) indexKind) refl
 
 -- a node by itself
 module _ (s : List ℕ) (C : Right s) (M : numbersOk s ≡ true) (j : ℕ) (v : Valid s j) where
+  -- what the check says of the node
   within : withinBounds (kind s j) (count s j) (fieldA s j) (fieldB s j) (fieldC s j) ≡ true
   unfolding selfOk fieldsOk
   within = let k = simp and-eq-true-iff at (node-own s C j v) in k .0 .0 .0
@@ -107,6 +111,7 @@ module _ (s : List ℕ) (C : Right s) (M : numbersOk s ≡ true) (j : ℕ) (v : 
   unfolding withinBounds
   c-bound k e = let h = simp and-eq-true-iff at within in subst (λ (n : ℕ). fieldC s j ≤ bound n 4) e (omega (arith, leb-true))
 
+  -- a kind that names a text names one that is there
   named : (k : ℕ) → kind s j ≡ k → namesText k ≡ true → fieldA s j < textCount s
   unfolding numberAmong exist
   named k e h =
@@ -122,10 +127,12 @@ module _ (s : List ℕ) (C : Right s) (M : numbersOk s ≡ true) (j : ℕ) (v : 
       let y = and-eq-true-iff (ltb (fieldB s j) (textCount s)) (ltb (fieldC s j) (textCount s)) .0 others in
       (named 11 e refl, ltb-true (fieldB s j) (textCount s) (y .0), ltb-true (fieldC s j) (textCount s) (y .1))
 
+  -- a Char is a Unicode scalar
   char-scalar : kind s j ≡ 5 → scalar (fieldA s j) ≡ true
   unfolding ownRule
   char-scalar e = rw (eq-eqb (kind s j) 5 e) at (simp and-eq-true-iff at own .0)
 
+  -- the constant of a node is right
   pub const-at : (k : ℕ) → kind s j ≡ k → 3 ≤ k → k ≤ 6 → ConstOk s (constOf s j)
   unfolding bound namesText
   const-at zero e a b = absurd (omega arith)
@@ -139,6 +146,7 @@ module _ (s : List ℕ) (C : Right s) (M : numbersOk s ≡ true) (j : ℕ) (v : 
 
 -- a node and its children
 module _ (s : List ℕ) (C : Right s) (M : numbersOk s ≡ true) where
+  -- a call
   call-facts : (j : ℕ) → Valid s j → kind s j ≡ 13 → CallFacts s j
   unfolding bound namesText
   call-facts j v e = record {
@@ -150,6 +158,7 @@ module _ (s : List ℕ) (C : Right s) (M : numbersOk s ≡ true) where
     first = λ one f. named s C M (child j) (child-valid s C j v one) 9 f refl;
   }
 
+  -- the step of a link
   step-facts : (x : ℕ) → Valid s x → (r : StepRule) → stepKind r (kind s x) ≡ true → StepFacts s x r
   unfolding stepKind namesText
   step-facts x v StepRule.index e = v
@@ -157,11 +166,13 @@ module _ (s : List ℕ) (C : Right s) (M : numbersOk s ≡ true) where
   step-facts x v StepRule.method e = (named s C M x v 12 (eqb-true (kind s x) methodCallKind e) refl, children s C x v)
   step-facts x v StepRule.none e = tt
 
+  -- all links of a chain
   links-facts : (cs : List ℕ) → All (Link s) cs → AllIn (LinkFacts s) cs
   links-facts [] h = tt
   links-facts (c ∷ cs) h =
       (step-facts (operandOf s c) (operand-valid s C c (h .0)) (stepRule s c) (step-kinds s c), links-facts cs (h .1))
 
+  -- a chain
   chain-facts : (j : ℕ) → Valid s j → 2 ≤ count s j → ChainFacts s j
   unfolding namesText
   chain-facts j v two =
@@ -192,6 +203,7 @@ module _ (s : List ℕ) (C : Right s) (M : numbersOk s ≡ true) where
   rule-says j v coalesce n e = children s C j v .each (count s j - 1) (omega arith)
   rule-says j v residual n e = tt
 
+  -- every node of a checked sheet
   pub node-facts : (j : ℕ) → Valid s j → NodeFacts s j
   node-facts j v = record {
     row = children s C j v;

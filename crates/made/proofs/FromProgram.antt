@@ -22,7 +22,8 @@ use Rattle.lowering.specs.Code.{Ins}
 use Rattle.lowering.specs.Pools as Pools
 use Rattle.lowering.specs.Program.{Program}
 use Rattle.lowering.specs.Image.{constWords, nameWords, sizes, words}
-use Rattle.lowering.specs.Words.{word, instructions, codeAt, constsAt, chainsAt, switchesAt, casesAt, rangesAt, kindAt, constWord, chainWord, switchWord, caseWord, rangeWord}
+use Rattle.lowering.specs.Words.{word, instructions, codeAt, constsAt, chainsAt, switchesAt, casesAt, rangesAt, kindAt, constWord}
+use Rattle.lowering.specs.Words.{chainWord, switchWord, caseWord, rangeWord}
 use Rattle.lowering.proofs.Widths.{op-width, chain-width, step-width}
 use Rattle.lowering.proofs.Whole.{noSwitch, WellTyped, AllReached}
 use Rattle.lowering.proofs.Effect.{noChain}
@@ -30,10 +31,14 @@ use Rattle.lowering.proofs.Tables.{TablesFit, tableOf, rowsOf}
 use Rattle.lowering.proofs.Decode.{noIns, ins-word, kind-at, b-at, const-word, chain-word, switch-word, case-word, range-word}
 use Rattle.lowering.proofs.RunsRight.{goes-there, runs-agree, runs-right}
 use Rattle.lowering.proofs.DepthReached.{depth-reached}
-use Rattle.wellmade.specs.Rules.{constants, names, tokens, residuals, chains, steps, tables, cases, ranges, namesAt, tokensAt, residualsAt, stepsAt, stepWord, endAt, Rule, between, upTo, below, Fits, Obeys, codeTable, codeRules, constTable, constRules, nameRules, tokenRules, residualRules, chainRules, stepTable, stepRules, operandTable, operandRules, rowsThere, tableRules, caseRules, rangeRules}
+use Rattle.wellmade.specs.Rules.{constants, names, tokens, residuals, chains, steps, tables, cases, ranges, namesAt, tokensAt, residualsAt}
+use Rattle.wellmade.specs.Rules.{stepsAt, stepWord, endAt, Rule, between, upTo, below, Fits, Obeys, codeTable, codeRules, constTable}
+use Rattle.wellmade.specs.Rules.{constRules, nameRules, tokenRules, residualRules, chainRules, stepTable, stepRules, operandTable}
+use Rattle.wellmade.specs.Rules.{operandRules, rowsThere, tableRules, caseRules, rangeRules}
 use Rattle.wellmade.specs.WellMade.{WellMade, WordsRight}
 use Rattle.made.proofs.Sections.{end-is, name-word, token-word, residual-word, step-word}
-use Rattle.made.proofs.Listed.{countsFor, OpOk, ConstOk, NameOk, TokenOk, StepOk, StepIn, noStep, ChainOk, TableOk, CaseOk, RangeOk, all-in-at, Listed}
+use Rattle.made.proofs.Listed.{countsFor, OpOk, ConstOk, NameOk, TokenOk, StepOk, StepIn, noStep, ChainOk, TableOk, CaseOk, RangeOk}
+use Rattle.made.proofs.Listed.{all-in-at, Listed}
 use Rattle.made.proofs.ListedLaws.{row-nil, row-more, row-obeys, rulesOfChain, op-row, const-row, chain-row, step-row, in-row}
 
 -- what a lookup past the end gives
@@ -68,6 +73,7 @@ module _ (s : List ℕ) (r : Program) (L : Listed s r) where
   abbrev w : List ℕ
   w = words r
 
+  -- each section of the words obeys its rules
   code-right : (p : ℕ) → p < instructions w → Obeys (codeRules s w p) w (codeAt + 4 * p)
   unfolding words sizes
   code-right p h =
@@ -155,6 +161,7 @@ module _ (s : List ℕ) (r : Program) (L : Listed s r) where
       (λ f g. step-word r noStep j f h (omega (arith, step-width t)))
       (step-row w t (all-in-at (StepOk (length (r .pools .names))) (r .pools .steps) noStep (L .pools .steps) j h)))
 
+  -- each step of a chain has its operands in it
   operands-right : (i : ℕ) → i < chains w → (k : ℕ) → k < chainWord w i 4
       → Obeys (operandRules w i (chainWord w i 3 + k)) w (stepsAt w + 6 * (chainWord w i 3 + k))
   unfolding words sizes stepWord
@@ -176,6 +183,7 @@ module _ (s : List ℕ) (r : Program) (L : Listed s r) where
       (in-row w j n t (step-word r noStep j 2 inside (omega arith))
       (subst (λ (m : ℕ). StepIn m t) (sym (chain-tail i 2 h (omega arith))) among)))
 
+  -- how many rows there are, by the kind of the table
   rows-there : (k : ℕ) → rowsThere w k ≡ rowsOf r (eqb k 0)
   unfolding rowsThere words sizes
   rows-there k = by (eqb k 0) refl
@@ -210,6 +218,7 @@ module _ (s : List ℕ) (r : Program) (L : Listed s r) where
       row-obeys (rangeRules w) (rangeWords (getD (r .ranges) i noRange)) w (rangesAt w + 6 * i) (λ f g. range-word r noRange i f h g)
       (row-more tt (row-more tt (row-more tt (row-more tt (row-more (ok .0) (row-more (ok .1) (row-nil [])))))))
 
+  -- all sections
   words-right : TablesFit r → WordsRight s w
   words-right F = record {
     code = code-right;
@@ -225,10 +234,12 @@ module _ (s : List ℕ) (r : Program) (L : Listed s r) where
     ranged = range-right;
   }
 
+  -- the sizes are there
   enough : sizesWords ≤ length w
   unfolding endAt rangesAt casesAt switchesAt chainsAt constsAt
   enough = omega (arith, end-is r)
 
+  -- the whole: words from the records, runs from the types, the depth from what is reached
   pub made-from : TablesFit r → WellTyped r → AllReached r → WellMade s w
   unfolding words sizes
   made-from F T A = record {

@@ -16,7 +16,9 @@ use Rattle.bytecode.specs.declared.Root.the-variants as Roots
 use Rattle.bytecode.specs.declared.Step.{Step}
 use Rattle.bytecode.specs.declared.Step.the-variants.{Index, Property, Method}
 use Rattle.bytecode.specs.declared.Op.{Op}
-use Rattle.bytecode.specs.declared.Op.the-variants.{Const, Unit, Bool, LoadLocal, LoadNamed, LoadThis, Pop, Jump, JumpIfTrue, JumpIfFalse, SkipIfNotUnit, Call, CallRef, Rotate, Switch, MakeFnPtr, CallFnPtr, InterpolateStart, InterpolateAppend, InterpolateEnd, MakeArray, CheckSize, Chain, EvalAst}
+use Rattle.bytecode.specs.declared.Op.the-variants.{Const, Unit, Bool, LoadLocal, LoadNamed, LoadThis, Pop, Jump, JumpIfTrue, JumpIfFalse}
+use Rattle.bytecode.specs.declared.Op.the-variants.{SkipIfNotUnit, Call, CallRef, Rotate, Switch, MakeFnPtr, CallFnPtr, InterpolateStart}
+use Rattle.bytecode.specs.declared.Op.the-variants.{InterpolateAppend, InterpolateEnd, MakeArray, CheckSize, Chain, EvalAst}
 use Rattle.lowering.specs.Code.{Ins, Code, ins}
 use Rattle.lowering.specs.Pools.{Pools, firstWhere, added, emits}
 use Rattle.lowering.specs.Out.{Out, Rec, andThen, emitAt}
@@ -48,6 +50,7 @@ all-map P Q (x ∷ xs) f h = (f x (h .0), all-map P Q xs f (h .1))
 
 -- ---- pools only grow, and what names an entry stays right
 
+-- q has at least the entries of p
 pub record More (p q : Pools) : Type 0 where
   pub consts : length (p .consts) ≤ length (q .consts)
   pub names : length (p .names) ≤ length (q .names)
@@ -68,6 +71,7 @@ more-trans {p} {q} {r} g h = record {
 }
 
 module _ (s : List ℕ) (T : ℕ) (p q : Pools) (m : More p q) where
+  -- what names an entry of p names one of q
   pub receiver-more : (r : Receiver) → ReceiverOk (countsFor s T p) r → ReceiverOk (countsFor s T q) r
   receiver-more (Receivers.Local slot) h = h
   receiver-more (Receivers.Named i) h = omega (arith, m .names, h)
@@ -118,6 +122,7 @@ module _ (m n : ℕ) (h : m ≤ n) where
   pub steps-more : (xs : List Step) → AllIn (StepOk m) xs → AllIn (StepOk n) xs
   steps-more xs g = all-map (StepOk m) (StepOk n) xs step-more g
 
+-- chains stay right where the steps are the same
 pub chains-more : (s : List ℕ) (p q : Pools) → length (p .names) ≤ length (q .names) → p .steps ≡ q .steps
     → AllIn (ChainOk s p) (p .chains) → AllIn (ChainOk s q) (p .chains)
 chains-more s p q m e h =
@@ -131,11 +136,13 @@ chains-more s p q m e h =
 
 -- ---- code c from pools p to pools q
 
+-- from good pools: good pools, none dropped, and code that names what is there
 pub record Gives (s : List ℕ) (T : ℕ) (p : Pools) (c : Code) (q : Pools) : Type 0 where
   pub good : PoolsOk s q
   pub more : More p q
   pub code : CodeOk s T q c
 
+-- the same of what a construct gives
 abbrev pub GivesOut : List ℕ → ℕ → Pools → Out → Type 0
 GivesOut s T p o = Gives s T p (o .code) (o .pools)
 
@@ -156,9 +163,11 @@ good-emits {s} {p} n g = record {
 }
 
 module _ {s : List ℕ} {T : ℕ} where
+  -- no code
   pub gives-none : {p : Pools} → PoolsOk s p → Gives s T p [] p
   gives-none {p} g = record { good = g; more = more-refl p; code = tt }
 
+  -- code behind code
   pub gives-seq : {p q r : Pools} {c c′ : Code} → Gives s T p c q → Gives s T q c′ r → Gives s T p (c ++ c′) r
   gives-seq {p} {q} {r} {c} {c′} g h = record {
     good = h .good;
@@ -175,9 +184,11 @@ module _ {s : List ℕ} {T : ℕ} where
   pub gives-code : {p q : Pools} {c c′ : Code} → Gives s T p c q → (CodeOk s T q c → CodeOk s T q c′) → Gives s T p c′ q
   gives-code g f = record { good = g .good; more = g .more; code = f (g .code) }
 
+  -- one instruction
   gives-one : {p : Pools} (i : Ins) → PoolsOk s p → OpOk (countsFor s T p) (i .op) → Gives s T p (i ∷ []) p
   gives-one {p} i g h = record { good = g; more = more-refl p; code = (h, tt) }
 
+  -- n instructions are counted
   pub gives-emits : {p q : Pools} {c : Code} (n : ℕ) → Gives s T p c q → Gives s T p c (emits n q)
   unfolding emits
   gives-emits {p} {q} {c} n g = record {
@@ -207,6 +218,7 @@ module _ {s : List ℕ} {T : ℕ} where
 
 -- ---- an entry that is looked for is there after it is added
 
+-- x is looked for by a test and added where it is not found
 pub record Added {A : Type 0} (P : A → Type 0) (test : A → Truth.Bool) (x : A) (xs : List A) : Type 0 where
   pub good : AllIn P (added test x xs)
   pub more : length xs ≤ length (added test x xs)

@@ -25,7 +25,8 @@ use Rattle.lowering.specs.Coalesce.{skipped, coalesce}
 use Rattle.lowering.specs.Nodes.{Valid, Row, row-first, row-rest}
 use Rattle.lowering.proofs.LinkedArray.{array-lowers, array-stays}
 use Rattle.made.proofs.Listed.{countsFor, OpOk, AllIn, PoolsOk, CodeOk}
-use Rattle.made.proofs.Gives.{all-append, More, more-refl, more-trans, code-more, GivesOut, GivesAll, gives-none, gives-seq, gives-emits, gives-ins, gives-then}
+use Rattle.made.proofs.Gives.{all-append, More, more-refl, more-trans, code-more, GivesOut, GivesAll, gives-none, gives-seq}
+use Rattle.made.proofs.Gives.{gives-emits, gives-ins, gives-then}
 use Rattle.made.proofs.GivesLeaf.{residual-gives}
 
 -- code of several parts, before their jumps are there
@@ -38,6 +39,7 @@ module _ (s : List ℕ) (T : ℕ) (q : Pools) where
   code-append : (c c′ : Code) → CodeOk s T q c → CodeOk s T q c′ → CodeOk s T q (c ++ c′)
   code-append = all-append (λ (i : Ins). OpOk (countsFor s T q) (i .op))
 
+  -- the parts with their jumps are right where the parts are
   decided-ok : (jump : Op) (d : ℕ) (fs : List Fragment) → OpOk (countsFor s T q) jump → AllIn (λ (f : Fragment). CodeOk s T q (f .code)) fs
       → CodeOk s T q (decided jump d fs)
   unfolding decided
@@ -58,6 +60,7 @@ module _ (s : List ℕ) (T : ℕ) (q : Pools) where
   jump-ok (suc n) t = tt
 
 module _ (s : List ℕ) (T : ℕ) (rec : Rec) (L : GivesAll s T rec) where
+  -- siblings, one after another
   pub operands-give : (n j b d : ℕ) (p : Pools) → Row s n j → PoolsOk s p → GivesOut s T p (operands s rec n j b d p)
   unfolding operands
   operands-give zero j b d p r G = gives-none G
@@ -66,6 +69,7 @@ module _ (s : List ℕ) (T : ℕ) (rec : Rec) (L : GivesAll s T rec) where
       let g = L .gives j b d p (row-first r) G in
       gives-seq g (operands-give n (next s j) (b + length (o .code)) (suc d) (o .pools) (row-rest r) (g .good))
 
+  -- the elements of an array from i on, each with its check of size
   elements-give : (n i j b d : ℕ) (p : Pools) → i + n ≤ maxElements → Row s n j → PoolsOk s p → GivesOut s T p (elements s rec n i j b d p)
   unfolding elements
   elements-give zero i j b d p m r G = gives-none G
@@ -89,6 +93,7 @@ module _ (s : List ℕ) (T : ℕ) (rec : Rec) (L : GivesAll s T rec) where
           (elements-give (count s j) 0 (child j) b d p (omega arith) r G) few)
       by false h = rw (array-stays s rec j b d p h) (residual-gives s T p G j d v)
 
+  -- the segments of a string
   segments-give : (n j b d : ℕ) (p : Pools) → Row s n j → PoolsOk s p → GivesOut s T p (segments s rec n j b d p)
   unfolding segments
   segments-give zero j b d p r G = gives-none G
@@ -107,6 +112,7 @@ module _ (s : List ℕ) (T : ℕ) (rec : Rec) (L : GivesAll s T rec) where
       let g = segments-give (count s j) (child j) (b + 1) (suc d) (emits 1 p) r (h .good) in
       gives-then (out (start ∷ q .code) (q .pools)) (ins Ops.InterpolateEnd (suc d) noPos) (gives-seq h g) tt
 
+  -- operands, with a gap for a jump behind each
   fragments-give : (gap n j b d : ℕ) (p : Pools) → Row s n j → PoolsOk s p
       → Parts s T p (fragments s rec gap n j b d p .parts) (fragments s rec gap n j b d p .pools)
   unfolding fragments

@@ -28,7 +28,8 @@ use Rattle.lowering.specs.Call.{First, CallRule}
 use Rattle.lowering.specs.Nodes.{Valid, Row, row-first, row-others}
 use Rattle.lowering.proofs.SoundCall.{lowerable-count}
 use Rattle.made.proofs.Listed.{countsFor, ReceiverOk, PoolsOk, CodeOk}
-use Rattle.made.proofs.Gives.{chains-more, receiver-more, Gives, GivesOut, GivesAll, gives-none, gives-seq, gives-behind, gives-code, gives-emits, gives-ins, gives-then}
+use Rattle.made.proofs.Gives.{chains-more, receiver-more, Gives, GivesOut, GivesAll, gives-none, gives-seq, gives-behind, gives-code}
+use Rattle.made.proofs.Gives.{gives-emits, gives-ins, gives-then}
 use Rattle.made.proofs.GivesPools.{name-pushed, name-there, token-pushed, token-there}
 use Rattle.made.proofs.GivesLeaf.{slot-there, residual-gives}
 use Rattle.made.proofs.GivesBranch.{operands-give}
@@ -42,6 +43,7 @@ pub record CallFacts (s : List ℕ) (j : ℕ) : Type 0 where
   pub operator : fieldC s j ≤ 65535
   pub first : 1 ≤ count s j → kind s (child j) ≡ variableKind → fieldA s (child j) < textCount s
 
+-- setting the flag `defeated` changes no pool
 defeat-gives : (s : List ℕ) (T : ℕ) (p : Pools) → PoolsOk s p → Gives s T p [] (defeat p)
 unfolding defeat
 defeat-gives s T p G = record {
@@ -57,6 +59,7 @@ defeat-gives s T p G = record {
   code = tt;
 }
 
+-- the Rotate that puts the receiver under the others
 rotate-ok : (s : List ℕ) (T : ℕ) (q : Pools) (others d : ℕ) → others ≤ maxArgs → CodeOk s T q (Call.rotate others d)
 unfolding Call.rotate
 rotate-ok s T q others d h = by (eqb others 0) refl
@@ -65,6 +68,7 @@ rotate-ok s T q others d h = by (eqb others 0) refl
     by true e = rw (e, Call.rotate) tt
     by false e = rw (e, Call.rotate) (h, tt)
 
+-- counting instructions drops no name
 named-emits : (i : ℕ) (q : Pools) (n : ℕ) → i < length (q .names) → i < length (emits n q .names)
 unfolding emits
 named-emits i q n h = h
@@ -80,6 +84,7 @@ module _ (s : List ℕ) (j : ℕ) where
   RuleOk CallRule.eval = Prim.Unit {0}
   RuleOk CallRule.residual = Prim.Unit {0}
 
+  -- how many arguments `Fn` and `call` have
   ptr-count : Call.isFnPtr s j ≡ true → count s j ≡ 1
   unfolding Call.isFnPtr
   ptr-count h = eqb-true (count s j) 1 (and-eq-true-iff (isFn (Call.callee s j)) (eqb (count s j) 1) .0 h .1)
@@ -90,6 +95,7 @@ module _ (s : List ℕ) (j : ℕ) where
       let both = and-eq-true-iff (isCall (Call.callee s j) && leb 1 (count s j)) (leb (count s j) (maxArgs + 1)) .0 h in
       leb-true (count s j) (maxArgs + 1) (both .1)
 
+  -- the rule of the node
   rule-ok : RuleOk (Call.callRule s j)
   unfolding Call.callRule
   rule-ok = by (Call.isFnPtr s j) (Call.isFnPtrCall s j) (Call.isLowerableCall s j) (isEval (Call.callee s j)) refl refl refl refl
@@ -128,6 +134,7 @@ module _ (s : List ℕ) (j : ℕ) where
         by false true e f = rw (e, f, Call.firstOf) (variable-ok a (eqb-true (kind s (child j)) variableKind f))
         by false false e f = rw (e, f, Call.firstOf) tt
 
+    -- the first argument of the node
     receiver-ok : FirstOk (Call.receiver s j)
     unfolding Call.receiver
     receiver-ok = by (eqb (fieldC s j) 0 && eqb (fieldB s j) 0 && leb 1 (count s j)) refl
@@ -165,10 +172,12 @@ module _ (s : List ℕ) (T : ℕ) (rec : Rec) (L : GivesAll s T rec) (j : ℕ) (
       (gives-behind g pushed)
       (name-there s T (o .pools) (g .good) n (F .named, k), few, k, omega (arith, h, pushed .more .tokens))
 
+  -- the arguments behind the first
   others-give : (b d : ℕ) (p : Pools) → PoolsOk s p → GivesOut s T p (Call.otherArgs s rec j b d p)
   unfolding Call.otherArgs
   others-give b d p G = operands-give s T rec L (count s j - 1) (next s (child j)) b d p (row-others s (count s j) (child j) (F .args)) G
 
+  -- a receiver in a local, by this, by name
   callLocal-gives : (slot b d : ℕ) (p : Pools) → slot < localCount s → 1 ≤ count s j → PoolsOk s p
       → GivesOut s T p (Call.callLocal s rec slot j b d p)
   unfolding Call.callLocal
@@ -202,6 +211,7 @@ module _ (s : List ℕ) (T : ℕ) (rec : Rec) (L : GivesAll s T rec) (j : ℕ) (
       callRef-gives (Receivers.Named i) (d + count s j) p (andThen o last) a (named-emits i q (length last) there)
       (gives-emits (length last) (gives-seq pushed (gives-seq g rest)))
 
+  -- a call by token, where there is one
   callToken-gives : (d : ℕ) (p : Pools) (o : Out) → (fieldC s j ≡ 0 → ⊥) → GivesOut s T p o → GivesOut s T p (Call.callToken s j d o)
   unfolding Call.callToken
   callToken-gives d p o z g =
@@ -211,6 +221,7 @@ module _ (s : List ℕ) (T : ℕ) (rec : Rec) (L : GivesAll s T rec) (j : ℕ) (
       let there = token-there s T (o .pools) (g .good) t (low, F .operator) in
       callAs-gives (suc (tokenAt t (o .pools))) 0 d p (out (o .code) (pushToken t (o .pools))) (omega arith) there (gives-behind g pushed)
 
+  -- all arguments as values
   callValues-gives : (b d : ℕ) (p : Pools) → PoolsOk s p → GivesOut s T p (Call.callValues s rec j b d p)
   unfolding Call.callValues Call.storesToken
   callValues-gives b d p G =
@@ -224,6 +235,7 @@ module _ (s : List ℕ) (T : ℕ) (rec : Rec) (L : GivesAll s T rec) (j : ℕ) (
           rw (e, Call.callValues, q) (callToken-gives d p o (eqb-false (fieldC s j) 0 z) g)
       by o q g false e = rw (e, Call.callValues, q) (callAs-gives 0 (fieldB s j) d p o (F .capture) (omega arith) g)
 
+  -- by the first argument
   lowerCall-gives : (f : First) (b d : ℕ) (p : Pools) → FirstOk s j f → PoolsOk s p → GivesOut s T p (Call.lowerCallBy f s rec j b d p)
   unfolding Call.lowerCallBy
   lowerCall-gives (First.local slot) b d p h G = callLocal-gives slot b d p (h .1) (h .0) G
@@ -234,6 +246,7 @@ module _ (s : List ℕ) (T : ℕ) (rec : Rec) (L : GivesAll s T rec) (j : ℕ) (
 -- ---- any call
 
 module _ (s : List ℕ) (T : ℕ) (rec : Rec) (L : GivesAll s T rec) (j : ℕ) (F : CallFacts s j) where
+  -- by the rule
   fnCallBy-gives : (r : CallRule) (b d : ℕ) (p : Pools) → RuleOk s j r → PoolsOk s p → GivesOut s T p (Call.fnCallBy r s rec j b d p)
   unfolding Call.fnCallBy Call.makeFnPtr Call.callFnPtr
   fnCallBy-gives CallRule.fnPtr b d p h G =
@@ -250,6 +263,7 @@ module _ (s : List ℕ) (T : ℕ) (rec : Rec) (L : GivesAll s T rec) (j : ℕ) (
       gives-seq g (residual-gives s T (defeat p) (g .good) j d (F .valid))
   fnCallBy-gives CallRule.residual b d p h G = residual-gives s T p G j d (F .valid)
 
+  -- the node
   pub fnCall-gives : (b d : ℕ) (p : Pools) → PoolsOk s p → GivesOut s T p (Call.fnCall s rec j b d p)
   unfolding Call.fnCall
   fnCall-gives b d p G = fnCallBy-gives (Call.callRule s j) b d p (rule-ok s j) G

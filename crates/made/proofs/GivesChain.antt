@@ -29,12 +29,14 @@ use Rattle.lowering.specs.Flatten.{StepRule, restOf, goesOn, operandOf, links, 
 use Rattle.lowering.specs.Kinds.{variableKind, thisKind}
 use Rattle.lowering.specs.Slots.{resolve}
 use Rattle.lowering.specs.Chain.{variableRoot, rootOf, rootPools, onStack, rootCode, closeChain, chainOf, chain}
-use Rattle.lowering.specs.Steps.{Stepped, stepped, failed, indexStep, propertyStep, isLowerableMethod, methodAfter, methodStep, stepBy, Walked, walked, stopped, onto, steps}
+use Rattle.lowering.specs.Steps.{Stepped, stepped, failed, indexStep, propertyStep, isLowerableMethod, methodAfter, methodStep, stepBy}
+use Rattle.lowering.specs.Steps.{Walked, walked, stopped, onto, steps}
 use Rattle.lowering.specs.Nodes.{Valid, Row}
 use Rattle.lowering.proofs.ChainPool.{chain-holds}
 use Rattle.lowering.proofs.LinkedChain.{chain-flat, chain-stays}
 use Rattle.made.proofs.Listed.{NameOk, RootOk, StepOk, StepIn, AllIn, PoolsOk}
-use Rattle.made.proofs.Gives.{more-trans, root-more, step-more, steps-more, Gives, GivesOut, GivesAll, gives-none, gives-seq, gives-behind, gives-ins}
+use Rattle.made.proofs.Gives.{more-trans, root-more, step-more, steps-more, Gives, GivesOut, GivesAll, gives-none, gives-seq}
+use Rattle.made.proofs.Gives.{gives-behind, gives-ins}
 use Rattle.made.proofs.GivesPools.{name-pushed, name-there, chain-pushed}
 use Rattle.made.proofs.GivesLeaf.{slot-there, residual-gives}
 use Rattle.made.proofs.GivesBranch.{operands-give}
@@ -46,9 +48,11 @@ StepFacts s x StepRule.property = (fieldA s x < textCount s) × (fieldB s x < te
 StepFacts s x StepRule.method = (fieldA s x < textCount s) × Row s (count s x) (child x)
 StepFacts s x StepRule.none = Prim.Unit {0}
 
+-- the same of link c
 abbrev pub LinkFacts : List ℕ → ℕ → Type 0
 LinkFacts s c = StepFacts s (operandOf s c) (stepRule s c)
 
+-- more operands do no harm
 step-in-more : (n m : ℕ) → n ≤ m → (t : Step) → StepIn n t → StepIn m t
 step-in-more n m h (Index operand flags pos bracket) g = omega arith
 step-in-more n m h (Property i getter setter flags pos) g = tt
@@ -77,6 +81,7 @@ abbrev WalkedOk : List ℕ → ℕ → Pools → ℕ → ℕ → Walked → Type
 WalkedOk s T p n left (walked code xs m q) = WalkGives s T p n left code xs m q
 WalkedOk s T p n left (stopped q) = Gives s T p [] q
 
+-- a step in front of the others
 onto-ok : (s : List ℕ) (T : ℕ) (p : Pools) (n left : ℕ) (code : Code) (x : Step) (k : ℕ) (q : Pools) → StepGives s T p n code x k q
     → (v : Walked) → WalkedOk s T q (n + k) left v → WalkedOk s T p n (suc left) (onto code x v)
 unfolding onto
@@ -90,6 +95,7 @@ onto-ok s T p n left code x k q g (walked rest xs m r) h = record {
 onto-ok s T p n left code x k q g (stopped r) h = record { good = h .good; more = more-trans (g .gives .more) (h .more); code = tt }
 
 module _ (s : List ℕ) (T : ℕ) (rec : Rec) (L : GivesAll s T rec) where
+  -- the step of a link: Index, Property, method
   index-ok : (c n b d : ℕ) (p : Pools) → Valid s (operandOf s c) → PoolsOk s p → SteppedOk s T p n (indexStep s rec c n b d p)
   unfolding indexStep
   index-ok c n b d p v G =
@@ -117,6 +123,7 @@ module _ (s : List ℕ) (T : ℕ) (rec : Rec) (L : GivesAll s T rec) where
         few = omega arith;
       }
 
+  -- the method behind its arguments
   after-ok : (c n : ℕ) (p : Pools) (o : Out) → fieldA s (operandOf s c) < textCount s → count s (operandOf s c) ≤ maxArgs → GivesOut s T p o
       → SteppedOk s T p n (methodAfter s c (operandOf s c) n o)
   unfolding methodAfter
@@ -129,6 +136,7 @@ module _ (s : List ℕ) (T : ℕ) (rec : Rec) (L : GivesAll s T rec) where
         few = h;
       }
 
+  -- a method that is lowered has few arguments
   method-few : (x : ℕ) → isLowerableMethod s x ≡ true → count s x ≤ maxArgs
   unfolding isLowerableMethod
   method-few x h =
@@ -147,6 +155,7 @@ module _ (s : List ℕ) (T : ℕ) (rec : Rec) (L : GivesAll s T rec) where
           rw (e, methodStep) (after-ok c n p (operands s rec (count s x) (child x) b d p) (f .0) (method-few x e) g)
       by false e = rw (e, methodStep) (gives-none G)
 
+  -- by the rule of the step
   step-ok : (c n b d : ℕ) (p : Pools) (r : StepRule) → StepFacts s (operandOf s c) r → PoolsOk s p
       → SteppedOk s T p n (stepBy r s rec c n b d p)
   unfolding stepBy
@@ -165,6 +174,7 @@ module _ (s : List ℕ) (T : ℕ) (rec : Rec) (L : GivesAll s T rec) where
       onto-ok s T p n (length cs) code x k q g rest (more k (b + length code) (d + k) q (g .gives .good))
   go-on c cs n b d p (failed q) g more = g
 
+  -- all links
   steps-ok : (cs : List ℕ) (n b d : ℕ) (p : Pools) → AllIn (LinkFacts s) cs → PoolsOk s p
       → WalkedOk s T p n (length cs) (steps s rec cs n b d p)
   unfolding steps
@@ -173,12 +183,14 @@ module _ (s : List ℕ) (T : ℕ) (rec : Rec) (L : GivesAll s T rec) where
       go-on c cs n b d p (stepBy (stepRule s c) s rec c n b d p) (step-ok c n b d p (stepRule s c) (F .0) G)
       (λ k b′ d′ q H. steps-ok cs (n + k) b′ d′ q (F .1) H)
 
+-- what the check says of a chain
 pub record ChainFacts (s : List ℕ) (j : ℕ) : Type 0 where
   pub valid : Valid s j
   pub base : Valid s (child j)
   pub named : kind s (child j) ≡ variableKind → fieldA s (child j) < textCount s
   pub links : AllIn (LinkFacts s) (links maxDepth s j)
 
+-- a chain has at most as many links as the depth
 links-few : (n : ℕ) (s : List ℕ) (c : ℕ) → length (links n s c) ≤ n
 unfolding links
 links-few zero s c = omega arith
@@ -193,6 +205,7 @@ module _ (s : List ℕ) (T : ℕ) (rec : Rec) (L : GivesAll s T rec) (j : ℕ) (
   abbrev RootReady : Pools → Type 0
   RootReady p = Gives s T p [] (rootPools s (child j) p) × RootOk s (length (rootPools s (child j) p .names)) (rootOf s (child j) p)
 
+  -- the root of the node
   root-ready : (p : Pools) → PoolsOk s p → RootReady p
   unfolding rootPools rootOf variableRoot
   root-ready p G =
@@ -213,6 +226,7 @@ module _ (s : List ℕ) (T : ℕ) (rec : Rec) (L : GivesAll s T rec) (j : ℕ) (
       by false true r e f g = rw (e, f, rootPools, rootOf) (gives-none G, tt)
       by false false r e f g = rw (e, f, rootPools, rootOf) (gives-none G, tt)
 
+  -- the code of the root
   root-code : (root : Root) (b d : ℕ) (p : Pools) → PoolsOk s p → GivesOut s T p (rootCode rec root (child j) b d p)
   unfolding rootCode
   root-code (Roots.Local slot i) b d p G = gives-none G
@@ -234,6 +248,7 @@ module _ (s : List ℕ) (T : ℕ) (rec : Rec) (L : GivesAll s T rec) (j : ℕ) (
       let last = ins (Ops.Chain (chainAt root xs n (o .pools))) (d + n + onStack root) (position s j) in
       gives-seq (gives-seq (W .gives) g) (gives-seq c (gives-ins last (c .good) (chain-holds root xs n (o .pools) .within)))
 
+  -- behind the steps, if none failed
   chainOf-gives : (root : Root) (b d left : ℕ) (p : Pools) (v : Walked) → left ≤ maxDepth → RootOk s (length (p .names)) root
       → WalkedOk s T p 0 left v → GivesOut s T p (chainOf s rec root j b d v)
   unfolding chainOf
@@ -241,6 +256,7 @@ module _ (s : List ℕ) (T : ℕ) (rec : Rec) (L : GivesAll s T rec) (j : ℕ) (
   chainOf-gives root b d left p (stopped q) few R W =
       gives-seq W (residual-gives s T q (W .good) j d (F .valid))
 
+  -- the node
   pub chain-gives : (b d : ℕ) (p : Pools) → PoolsOk s p → GivesOut s T p (chain s rec j b d p)
   chain-gives b d p G = by (flattens s (links maxDepth s j)) refl
     where

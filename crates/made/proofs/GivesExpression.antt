@@ -8,7 +8,8 @@ use Rattle.sheet.specs.Walk.{skip}
 use Rattle.lowering.specs.Pools.{Pools, noPools, constOf}
 use Rattle.lowering.specs.Out.{Rec}
 use Rattle.lowering.specs.Nodes.{Valid, Row, row-less}
-use Rattle.lowering.specs.Expression.{Rule, boolean, unit, constant, interpolated, array, variable, this, fnCall, chain, and, or, coalesce, residual, rule, byRule, expression}
+use Rattle.lowering.specs.Expression.{Rule, boolean, unit, constant, interpolated, array, variable, this, fnCall, chain, and, or, coalesce}
+use Rattle.lowering.specs.Expression.{residual, rule, byRule, expression}
 use Rattle.made.proofs.Listed.{ConstOk, PoolsOk}
 use Rattle.made.proofs.Gives.{GivesOut, GivesAll}
 use Rattle.made.proofs.GivesLeaf.{residual-gives, boolean-gives, unit-gives, this-gives, constant-gives, variable-gives}
@@ -32,11 +33,13 @@ RuleFacts s j or = Prim.Unit {0}
 RuleFacts s j coalesce = Valid s (skip s (count s j - 1) (child j))
 RuleFacts s j residual = Prim.Unit {0}
 
+-- what the check says of a node
 pub record NodeFacts (s : List ℕ) (j : ℕ) : Type 0 where
   pub row : Row s (count s j) (child j)
   pub rule-facts : RuleFacts s j (rule s j)
 
 module _ (s : List ℕ) (T : ℕ) (N : (j : ℕ) → Valid s j → NodeFacts s j) where
+  -- one level, by the rule of the node
   by-rule : (rec : Rec) → GivesAll s T rec → (j b d : ℕ) (p : Pools) → Valid s j → PoolsOk s p → (r : Rule) → RuleFacts s j r
       → GivesOut s T p (byRule r s rec j b d p)
   unfolding byRule
@@ -54,6 +57,7 @@ module _ (s : List ℕ) (T : ℕ) (N : (j : ℕ) → Valid s j → NodeFacts s j
   by-rule rec L j b d p v G coalesce F = coalesce-gives s T rec L j b d p (row-less (omega arith) (N j v .row)) F G
   by-rule rec L j b d p v G residual F = residual-gives s T p G j d v
 
+  -- every number of levels
   pub expression-gives : (levels : ℕ) → GivesAll s T (expression levels s)
   unfolding expression
   expression-gives zero = record { gives = λ j b d p v G. residual-gives s T p G j d v }
@@ -61,6 +65,7 @@ module _ (s : List ℕ) (T : ℕ) (N : (j : ℕ) → Valid s j → NodeFacts s j
     gives = λ j b d p v G. by-rule (expression levels s) (expression-gives levels) j b d p v G (rule s j) (N j v .rule-facts);
   }
 
+-- the empty pools are good
 pub no-pools : (s : List ℕ) → PoolsOk s noPools
 unfolding noPools
 no-pools s = record { consts = tt; names = tt; tokens = tt; residuals = tt; chains = tt; steps = tt }

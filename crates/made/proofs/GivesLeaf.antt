@@ -31,6 +31,7 @@ some-same a b e = cc
 not-some : (k : ℕ) → _≡_ {A = Option ℕ} none (some k) → ⊥
 not-some k e = let z : _≡_ {A = ℕ} 0 1 = cc in omega arith
 
+-- a name that is found has a slot below n
 below-slot : (n : ℕ) (s bytes : List ℕ) (k : ℕ) → resolveBelow n s bytes ≡ some k → k < n
 unfolding resolveBelow
 below-slot zero s bytes k e = absurd (not-some k e)

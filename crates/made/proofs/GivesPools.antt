@@ -13,13 +13,15 @@ use Rattle.bytecode.specs.declared.Root.{Root}
 use Rattle.bytecode.specs.declared.Step.{Step}
 use Rattle.bytecode.specs.declared.Chain as ChainRecord
 use Rattle.lowering.specs.Limits.{maxElements}
-use Rattle.lowering.specs.Pools.{Pools, Const, Name, sameConst, constAt, pushConst, sameName, nameAt, pushName, tokenAt, pushToken, pushResidual, chainAt, newChain, pushChain}
+use Rattle.lowering.specs.Pools.{Pools, Const, Name, sameConst, constAt, pushConst, sameName, nameAt, pushName, tokenAt, pushToken}
+use Rattle.lowering.specs.Pools.{pushResidual, chainAt, newChain, pushChain}
 use Rattle.lowering.specs.Nodes.{Valid}
 use Rattle.lowering.proofs.ChainPool.{push-new, push-old}
 use Rattle.made.proofs.Listed.{ConstOk, NameOk, TokenOk, RootOk, StepOk, StepIn, noStep, ChainOk, AllIn, all-in-at, PoolsOk}
 use Rattle.made.proofs.Gives.{Gives, all-append, all-more, all-map, steps-more, chains-more, gives-none, added-right}
 
 module _ (s : List ℕ) (T : ℕ) (p : Pools) (G : PoolsOk s p) where
+  -- what is pushed is right, and what is looked for is there: constants, names, tokens, residuals
   pub const-pushed : (c : Const) → ConstOk s c → Gives s T p [] (pushConst s c p)
   unfolding pushConst
   const-pushed c h =
@@ -115,6 +117,7 @@ module _ (s : List ℕ) (T : ℕ) (p : Pools) (G : PoolsOk s p) (root : Root) (x
         subst (StepIn (c .operands)) (sym (List·getD-append (p .steps) xs noStep (c .first + i) (omega (arith, h .run)))) (h .inside i b);
   }
 
+  -- the new one is right
   new-chain : ChainOk s (newChain root xs n p) new
   unfolding newChain
   new-chain = record {
@@ -124,6 +127,7 @@ module _ (s : List ℕ) (T : ℕ) (p : Pools) (G : PoolsOk s p) (root : Root) (x
     inside = λ i b. subst (StepIn n) (sym (getD-append-add (p .steps) xs i noStep)) (all-in-at (StepIn n) xs noStep I i b);
   }
 
+  -- and all pools
   new-gives : Gives s T p [] (newChain root xs n p)
   unfolding newChain
   new-gives =
@@ -141,6 +145,7 @@ module _ (s : List ℕ) (T : ℕ) (p : Pools) (G : PoolsOk s p) (root : Root) (x
         code = tt;
       }
 
+  -- the same where a chain like it is there already
   pub chain-pushed : Gives s T p [] (pushChain root xs n p)
   chain-pushed = by (eqb (chainAt root xs n p) (length (p .chains))) refl
     where

@@ -16,17 +16,20 @@ use Rattle.lowering.specs.Pools.{Pools, noPools, emits, constOf, pushConst}
 use Rattle.lowering.specs.Out.{Rec}
 use Rattle.lowering.specs.Nodes.{Valid}
 use Rattle.lowering.specs.SwitchSheet.{blockCount, defaultBlock, subject, guardOf, bodyOf, casesOf, caseBlocks, rangesOf}
-use Rattle.lowering.specs.Arms.{Try, End, taken, declined, idle, Entry, toBody, toChain, toFallback, Guard, never, always, tried, guardKind, tryAt, triesOf, entryFrom, endEmits, Arm, armsExtent, armChains, distinct, dropEnd, dropEntry, dropIdleJump}
+use Rattle.lowering.specs.Arms.{Try, End, taken, declined, idle, Entry, toBody, toChain, toFallback, Guard, never, always, tried, guardKind}
+use Rattle.lowering.specs.Arms.{tryAt, triesOf, entryFrom, endEmits, Arm, armsExtent, armChains, distinct, dropEnd, dropEntry, dropIdleJump}
 use Rattle.lowering.specs.Bodies.{Body, wanted, layBodies, bodyAt}
 use Rattle.lowering.specs.SwitchLayout.{layCases, caseArmsOf, layRanges, layout}
-use Rattle.lowering.specs.SwitchCode.{overSubject, overValue, defaultAt, endAt, fallbackAt, triesCode, endCode, entryCode, armsCode, rangesCode, bodiesCode, bodiesFall, defaultCode, lastEmits, switchCode}
+use Rattle.lowering.specs.SwitchCode.{overSubject, overValue, defaultAt, endAt, fallbackAt, triesCode, endCode, entryCode, armsCode}
+use Rattle.lowering.specs.SwitchCode.{rangesCode, bodiesCode, bodiesFall, defaultCode, lastEmits, switchCode}
 use Rattle.lowering.specs.SwitchTables.{casePools, rangeTable}
 use Rattle.lowering.proofs.Lowered.{tries-never, tries-always, tries-tried, bodies-lay, bodies-skip, drop-here, drop-later}
 use Rattle.lowering.proofs.SwitchPlaces.{endingCode}
 use Rattle.lowering.proofs.SwitchEntries.{distinct-only}
 use Rattle.lowering.proofs.SwitchBlocks.{Blocks, split-blocks}
 use Rattle.made.proofs.Listed.{countsFor, OpOk, ConstOk, PoolsOk, CodeOk}
-use Rattle.made.proofs.Gives.{all-append, all-left, all-right, Gives, GivesAll, gives-none, gives-seq, gives-behind, gives-code, gives-emits, gives-ins}
+use Rattle.made.proofs.Gives.{all-append, all-left, all-right, Gives, GivesAll, gives-none, gives-seq, gives-behind, gives-code}
+use Rattle.made.proofs.Gives.{gives-emits, gives-ins}
 use Rattle.made.proofs.GivesPools.{const-pushed}
 use Rattle.made.proofs.GivesExpression.{no-pools}
 
@@ -37,6 +40,7 @@ module _ (s : List ℕ) (T : ℕ) (q : Pools) where
   Right i = OpOk (countsFor s T q) (i .op)
 
   module _ (bodies : List Body) (fallback : ℕ) where
+    -- the end of a guard chain is right, whatever it is
     end-ok : (e : End) → CodeOk s T q (endCode bodies fallback e)
     unfolding endCode
     end-ok (taken k) = (tt, tt)
@@ -55,6 +59,7 @@ module _ (s : List ℕ) (T : ℕ) (q : Pools) where
     abbrev ArmsOk : List Arm → Type 0
     ArmsOk arms = CodeOk s T q (armsCode bodies fallback arms)
 
+    -- the jump that goes nowhere is dropped
     drop-ok : (arms : List Arm) → ArmsOk arms → ArmsOk (dropIdleJump arms)
     unfolding armsCode dropIdleJump
     drop-ok [] h = h
@@ -78,6 +83,7 @@ module _ (s : List ℕ) (T : ℕ) (q : Pools) where
     case-arms-ok [] arms h = h
     case-arms-ok (e ∷ es) arms h = drop-ok arms h
 
+  -- the last body falls through to the end
   fall-ok : (end : ℕ) (xs : List Body) → CodeOk s T q (bodiesCode end xs) → CodeOk s T q (bodiesFall end xs)
   unfolding bodiesCode bodiesFall
   fall-ok end [] h = h
@@ -99,6 +105,7 @@ module _ (s : List ℕ) (T : ℕ) (q : Pools) where
 abbrev Known : List ℕ → List (List ℕ) → Type 0
 Known s ls = (l : List ℕ) → List·Memᴰ l ls → (k : ℕ) → List·Memᴰ k l → k < blockCount s
 
+-- for Cases; for ranges
 case-lists : (s : List ℕ) → Blocks s → Known s (distinct (map (caseBlocks s) (casesOf s)))
 case-lists s B l m k n =
     let row = Memᴰ·of-map (caseBlocks s) (casesOf s) (distinct-only (map (caseBlocks s) (casesOf s)) l m) in
@@ -119,6 +126,7 @@ module _ (s : List ℕ) (T : ℕ) (rec : Rec) (L : GivesAll s T rec) (guards : (
   abbrev TriesGive : List ℕ → ℕ → Pools → Type 0
   TriesGive ks b p = Gives s T p (triesCode bodies (triesOf s rec ks b p .tries)) (triesOf s rec ks b p .pools)
 
+  -- the guards of some blocks
   tries-give : (ks : List ℕ) (b : ℕ) (p : Pools) → ((k : ℕ) → List·Memᴰ k ks → k < blockCount s) → PoolsOk s p → TriesGive ks b p
   unfolding triesOf triesCode tryAt
   tries-give [] b p v G = gives-none G
@@ -134,6 +142,7 @@ module _ (s : List ℕ) (T : ℕ) (rec : Rec) (L : GivesAll s T rec) (guards : (
           let jump = gives-ins {T = T} (ins (Ops.JumpIfTrue (bodyAt k bodies)) overValue (position s (guardOf s k))) (g .good) tt in
           rw (tries-tried s rec k ks b p h) (gives-seq g (gives-seq jump (f _ _ (jump .good))))
 
+  -- a guard chain with its entry
   entry-gives : (b : ℕ) (p q : Pools) (ts : List Try) (e : End) → Gives s T p (triesCode bodies ts) q
       → Gives s T p (entryCode bodies fallback (entryFrom b ts e)) (emits (endEmits (entryFrom b ts e)) q)
   unfolding entryFrom entryCode endEmits triesCode
@@ -143,6 +152,7 @@ module _ (s : List ℕ) (T : ℕ) (rec : Rec) (L : GivesAll s T rec) (guards : (
   entry-gives b p q (t ∷ ts) e g =
       gives-emits 1 (gives-seq g (gives-code (gives-none (g .good)) (λ z. end-ok s T q bodies fallback e)))
 
+  -- all guard chains
   arms-give : (ls : List (List ℕ)) (b : ℕ) (p : Pools) → Known s ls → PoolsOk s p
       → Gives s T p (armsCode bodies fallback (armChains s rec ls b p .arms)) (armChains s rec ls b p .pools)
   unfolding armChains armsCode
@@ -166,6 +176,7 @@ module _ (s : List ℕ) (T : ℕ) (rec : Rec) (L : GivesAll s T rec) (arms : Lis
   abbrev BodiesGive : ℕ → ℕ → ℕ → Pools → Type 0
   BodiesGive n k b p = Gives s T p (bodiesCode end (layBodies s rec arms def n k b p .bodies)) (layBodies s rec arms def n k b p .pools)
 
+  -- the bodies of blocks
   bodies-give : (n k b : ℕ) (p : Pools) → ((i : ℕ) → i < n + k → Valid s (bodyOf s i)) → PoolsOk s p → BodiesGive n k b p
   unfolding layBodies bodiesCode
   bodies-give zero k b p v G = gives-none G
@@ -184,6 +195,7 @@ module _ (s : List ℕ) (T : ℕ) (rec : Rec) (L : GivesAll s T rec) (arms : Lis
 
 module _ (s : List ℕ) (T : ℕ) (rec : Rec) (L : GivesAll s T rec) (B : Blocks s) (sub : Valid s subject)
     (guards : (k : ℕ) → k < blockCount s → Valid s (guardOf s k)) (bodies : (k : ℕ) → k < blockCount s → Valid s (bodyOf s k)) where
+  -- code and pools of the switch
   pub switch-gives : (def : ℕ) → 1 + length (rangeTable (defaultAt def (layout s rec)) (layout s rec .splits)) ≤ T
       → Gives s T noPools (switchCode def (layout s rec)) (emits (lastEmits def) (layout s rec .pools))
   unfolding layout layCases switchCode
@@ -211,6 +223,7 @@ module _ (s : List ℕ) (T : ℕ) (rec : Rec) (L : GivesAll s T rec) (B : Blocks
 
 -- ---- the constants of the Cases
 
+-- each is added right
 pub case-pools-give : (s : List ℕ) (T : ℕ) (cs : List ℕ) (p : Pools) → ((c : ℕ) → List·Memᴰ c cs → ConstOk s (constOf s (child c)))
     → PoolsOk s p → Gives s T p [] (casePools s cs p)
 unfolding casePools

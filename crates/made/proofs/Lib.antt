@@ -1,3 +1,4 @@
+-- From what the check of a sheet says of its nodes to the theorem that every lowered image is well made.
 pub mod Sections
 pub mod Listed
 pub mod ListedLaws

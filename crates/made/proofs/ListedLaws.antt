@@ -13,16 +13,20 @@ use Rattle.bytecode.specs.declared.Step.{Step}
 use Rattle.bytecode.specs.declared.Step.the-variants.{Index, Property, Method}
 use Rattle.bytecode.specs.declared.Chain as ChainRecord
 use Rattle.bytecode.specs.declared.Op.{Op}
-use Rattle.bytecode.specs.declared.Op.the-variants.{Const, Unit, Bool, LoadLocal, LoadNamed, LoadThis, Pop, Jump, JumpIfTrue, JumpIfFalse, SkipIfNotUnit, Call, CallRef, Rotate, Switch, MakeFnPtr, CallFnPtr, InterpolateStart, InterpolateAppend, InterpolateEnd, MakeArray, CheckSize, Chain, EvalAst}
+use Rattle.bytecode.specs.declared.Op.the-variants.{Const, Unit, Bool, LoadLocal, LoadNamed, LoadThis, Pop, Jump, JumpIfTrue, JumpIfFalse}
+use Rattle.bytecode.specs.declared.Op.the-variants.{SkipIfNotUnit, Call, CallRef, Rotate, Switch, MakeFnPtr, CallFnPtr, InterpolateStart}
+use Rattle.bytecode.specs.declared.Op.the-variants.{InterpolateAppend, InterpolateEnd, MakeArray, CheckSize, Chain, EvalAst}
 use Rattle.bytecode.specs.Op.{opWords, receiverKind, receiverWord}
 use Rattle.bytecode.specs.Chain.{rootWords, stepWords, chainWords}
 use Rattle.lowering.specs.Limits.{maxElements}
 use Rattle.lowering.specs.Pools as Pools
 use Rattle.lowering.specs.Image.{constWords}
 use Rattle.lowering.specs.Words.{word}
-use Rattle.wellmade.specs.Rules.{Rule, free, unused, upTo, between, packed, within, Fits, Obeys, constants, names, tokens, residuals, chains, steps, tables, codeTable, receiverRule, constTable, rootTable, stepTable, operandTable, stepWord}
+use Rattle.wellmade.specs.Rules.{Rule, free, unused, upTo, between, packed, within, Fits, Obeys, constants, names, tokens, residuals}
+use Rattle.wellmade.specs.Rules.{chains, steps, tables, codeTable, receiverRule, constTable, rootTable, stepTable, operandTable, stepWord}
 use Rattle.made.proofs.Listed.{Counts, ReceiverOk, OpOk, ConstOk, int, float, char, string, RootOk, StepOk, StepIn}
 
+-- the counts that the words say
 abbrev pub countsIn : List ℕ → List ℕ → Counts
 countsIn s w = record {
   consts = constants w;
@@ -39,6 +43,7 @@ pub record Row (rs : List Rule) (ws : List ℕ) : Type 0 where
   pub short : length rs ≤ length ws
   pub right : (f : ℕ) → f < length rs → Fits (getD rs f free) (getD ws f 0)
 
+-- no rule; a rule and its word in front
 pub row-nil : (ws : List ℕ) → Row [] ws
 row-nil ws = record { short = omega arith; right = λ f h. absurd (omega arith) }
 
@@ -49,6 +54,7 @@ row-more {r} {rs} {x} {ws} h t = record { short = omega (arith, t .short); right
     by zero g = h
     by (suc f) g = t .right f (omega arith)
 
+-- where the words stand in w, they obey there
 pub row-obeys : (rs : List Rule) (ws w : List ℕ) (at : ℕ) → ((f : ℕ) → f < length ws → word w (at + f) ≡ getD ws f 0)
     → Row rs ws → Obeys rs w at
 row-obeys rs ws w at e t f h = subst (Fits (getD rs f free)) (sym (e f (omega (arith, t .short)))) (t .right f h)
@@ -70,15 +76,18 @@ kind k a b = (a, b)
 alone : {r : Rule} (k x : ℕ) → 1 ≤ k → k ≤ 24 → Fits r x → Row (between 1 24 ∷ r ∷ unused ∷ unused ∷ []) (k ∷ x ∷ 0 ∷ 0 ∷ [])
 alone k x a b h = row-more (kind k a b) (row-more h (row-more nil (row-more nil (row-nil []))))
 
+-- kind and b of an instruction
 abbrev kindOf : Op → ℕ
 kindOf op = getD (opWords op) 0 0
 
 abbrev bOf : Op → ℕ
 bOf op = getD (opWords op) 2 0
 
+-- the receiver is read back from b
 receiver-of : (argc k : ℕ) → argc < 256 → (argc + 256 * k) / 256 ≡ k
 receiver-of argc k h = omega arith
 
+-- c of CallRef, by the receiver
 receiver-fits : (s w : List ℕ) (argc : ℕ) (r : Receiver) → argc < 256 → ReceiverOk (countsIn s w) r
     → Fits (receiverRule s w ((argc + 256 * receiverKind r) / 256)) (receiverWord r)
 unfolding receiverKind receiverWord receiverRule Fits
@@ -96,6 +105,7 @@ fits-packed : (least kinds argc k : ℕ) → least ≤ argc → argc < 256 → k
 unfolding Fits
 fits-packed least kinds argc k a b c = (omega arith, omega arith)
 
+-- an instruction
 pub op-row : (s w : List ℕ) (op : Op) → OpOk (countsIn s w) op
     → Row (between 1 24 ∷ getD (codeTable s w (bOf op)) (kindOf op) []) (opWords op)
 unfolding opWords codeTable Fits
@@ -137,6 +147,7 @@ unfolding constWords Fits
 const-by s c k e a b t =
     row-more (omega arith, omega arith) (subst (λ (n : ℕ). Row (getD (constTable s) n []) (c .a ∷ c .b ∷ [])) (sym e) t)
 
+-- a constant
 pub const-row : (s : List ℕ) (c : Pools.Const) → ConstOk s c → Row (between 3 6 ∷ getD (constTable s) (c .kind) []) (constWords c)
 unfolding constTable Fits
 const-row s c (int e) = const-by s c 3 e (omega arith) (omega arith) (row-more tt (row-more tt (row-nil [])))
@@ -149,6 +160,7 @@ const-row s c (string e a b) = const-by s c 6 e (omega arith) (omega arith) (row
 abbrev pub rulesOfChain : List ℕ → List ℕ → ℕ → ℕ → List Rule
 rulesOfChain s w kind k = upTo 3 ∷ getD (rootTable s w) kind [] ++ (free ∷ within k (steps w) ∷ upTo maxElements ∷ [])
 
+-- a chain
 pub chain-row : (s w : List ℕ) (c : ChainRecord.Chain) (k : ℕ) → k ≡ c .first → RootOk s (names w) (c .root)
     → c .first + c .steps ≤ steps w → c .operands ≤ maxElements
     → Row (rulesOfChain s w (getD (rootWords (c .root)) 0 0) k) (chainWords c)
@@ -165,6 +177,7 @@ chain-row s w c k e h a b = by (c .root) h
     by (Roots.This pos) g = row-more (omega arith) (row-more refl (row-more tt tail))
     by Roots.Temporary g = row-more (omega arith) (row-more refl (row-more refl tail))
 
+-- a step by itself
 pub step-row : (w : List ℕ) (t : Step) → StepOk (names w) t → Row (upTo 2 ∷ getD (stepTable w) (getD (stepWords t) 0 0) []) (stepWords t)
 unfolding stepTable stepWords Fits
 step-row w (Index operand flags pos bracket) h =
@@ -174,6 +187,7 @@ step-row w (Property name getter setter flags pos) h =
 step-row w (Method name argc operand flags pos) h =
     row-more (omega arith) (row-more (h .0) (row-more (h .1) (row-more tt (row-more (h .2) (row-more tt (row-nil []))))))
 
+-- a step with the operands of its chain
 pub in-row : (w : List ℕ) (j n : ℕ) (t : Step) → stepWord w j 2 ≡ getD (stepWords t) 2 0 → StepIn n t
     → Row (getD (operandTable w j n) (getD (stepWords t) 0 0) []) (stepWords t)
 unfolding operandTable stepWords Fits

@@ -30,14 +30,17 @@ use Rattle.made.proofs.Facts.{node-facts}
 use Rattle.made.proofs.SwitchListed.{tablesOf, switch-listed}
 use Rattle.made.proofs.FromProgram.{made-from}
 
+-- a program without tables
 plain-listed : (s : List ℕ) (p : Pools) (o : Out) → GivesOut s 0 p o → Listed s (plain o)
 unfolding plain
 plain-listed s p o g = record { code = g .code; pools = g .good; tables = tt; cases = tt; ranges = tt }
 
 module _ (s : List ℕ) (a : numberOf (checked s) ≡ 0) where
+  -- a checked sheet
   facts : (j : ℕ) → Valid s j → NodeFacts s j
   facts = node-facts s (accepted-right s a) (accepted-numbers s a)
 
+  -- its program is listed right
   lower-listed : Listed s (lower s)
   lower-listed = by (eqb (kind s 0) switchKind) refl
     where
@@ -52,6 +55,7 @@ module _ (s : List ℕ) (a : numberOf (checked s) ≡ 0) where
           let g = expression-gives s 0 facts maxDepth .gives 0 0 0 noPools (root-valid s (accepted-right s a)) (no-pools s) in
           subst (Listed s) (sym (lower-plain s h)) (plain-listed s noPools (expression maxDepth s 0 0 0 noPools) g)
 
+-- the theorem
 pub lowered-made : Statement
 unfolding outcome
 lowered-made s imageLength scratchLength w e =
@@ -59,6 +63,7 @@ lowered-made s imageLength scratchLength w e =
     subst (WellMade s) (image-is s imageLength scratchLength w e)
     (made-from s (lower s) (lower-listed s a) (lower-fits s) (lower-typed s a) (lower-reached s a))
 
+-- and so the test of the image accepts it
 pub lowered-passes : (s : List ℕ) (imageLength scratchLength : ℕ) (w : List ℕ) → outcome s imageLength scratchLength ≡ image w
     → wellMade s w ≡ true
 lowered-passes s imageLength scratchLength w e = well-made s w .passes (lowered-made s imageLength scratchLength w e)

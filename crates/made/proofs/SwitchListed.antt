@@ -41,6 +41,7 @@ value-kind : (p a b k : ℕ) → p ≡ 20 → childKind p a b 0 k ≡ true → c
 unfolding childKind caseChild
 value-kind p a b k e h = subst (λ (n : ℕ). childKind n a b 0 k ≡ true) e h
 
+-- constants have the kinds 3 to 6
 value-bounds : (k : ℕ) → caseValue k ≡ true → (3 ≤ k) × (k ≤ 6)
 unfolding caseValue
 value-bounds k h = by (eqb k 3) (eqb k 5) refl refl
@@ -50,6 +51,7 @@ value-bounds k h = by (eqb k 3) (eqb k 5) refl refl
     by false true e f = omega (arith, eqb-true k 5 f)
     by false false e f = omega (arith, eqb-true k 6 (rw (e, f) at h))
 
+-- each Case of a checked switch
 case-value : (s : List ℕ) (C : Right s) (M : numbersOk s ≡ true) → kind s 0 ≡ switchKind → (c : ℕ) → List·Memᴰ c (casesOf s)
     → ConstOk s (constOf s (child c))
 unfolding bound skip
@@ -62,6 +64,7 @@ case-value s C M e c m =
 
 -- ---- rows
 
+-- rows of Cases, of ranges, and the table of ranges
 case-rows-ok : (s : List ℕ) (l : Layout) (fallback N : ℕ)
     → ((c : ℕ) → target (l .bodies) fallback (entryOf (caseBlocks s c) (l .caseArms)) ≤ N)
     → (cs : List ℕ) (p : Pools) → ((c : ℕ) → List·Memᴰ c cs → ConstOk s (constOf s (child c))) → PoolsOk s p
@@ -130,6 +133,7 @@ module _ (s : List ℕ) (C : Right s) (M : numbersOk s ≡ true) (e : kind s 0 �
   to-case : (c : ℕ) → caseTarget s def l c ≤ length code
   to-case c = case-aim s rec meets def X l ready (depthAt code) (length code) inside c .1
 
+  -- the rows of ranges go inside
   ranges-ok : (es : List Split.Entry) → l .splits ≡ es → AllIn (RangeOk (length code)) (rangeRows l (defaultAt def l) es)
   unfolding rangeRows
   ranges-ok [] q = tt
@@ -137,6 +141,7 @@ module _ (s : List ℕ) (C : Right s) (M : numbersOk s ≡ true) (e : kind s 0 �
       range-rows-ok l (defaultAt def l) (length code)
       (λ y. range-aim s rec meets def X l ready (depthAt code) (length code) inside x es q y .1) (x ∷ es)
 
+  -- the program of the switch
   pub switch-listed : Listed s (switch s rec)
   unfolding switch switchOf caseTable
   switch-listed =
