@@ -6,10 +6,11 @@ use mathlib.Core.List.{List, [], _∷_, _++_}
 use native.Mathlib.Omega.{arith}
 use borrow.Author.Tests.{eq-eqb, ne-eqb, eqb-true, eqb-false, ltb-true, ltb-false, leb-true}
 use lib.Dec.{eqb, ltb, leb}
-use lib.ListN.{length, getD, List·getD-eq-default}
+use lib.ListN.{getD, List·getD-eq-default}
 use Rattle.words.specs.Count.{allBelow}
 use Rattle.words.specs.CountLaws.{all-at}
-use Rattle.bytecode.specs.Effect.{Effect, row, effects, effect, refArgc, Count, fixed, argc, argcRef, popsA, needsA, operands, Flow, on, jump, branch, table, popped}
+use Rattle.bytecode.specs.Effect.{Effect, row, effects, effect, refArgc, Count, fixed, argc, argcRef, popsA, needsA, operands, on}
+use Rattle.bytecode.specs.Effect.{popped}
 use Rattle.bytecode.specs.Effect as effect-of
 use Rattle.bytecode.specs.Table.{countNumber, flowNumber, numbersOf, numbers, effectTable, entry, counted, kept}
 
@@ -17,6 +18,7 @@ use Rattle.bytecode.specs.Table.{countNumber, flowNumber, numbersOf, num
 none : Effect
 none = row 0 0 0 fixed on
 
+-- numbers past the list are 0
 numbers-none : (f : ℕ) → f < 5 → getD (numbersOf none) f 0 ≡ 0
 unfolding numbersOf countNumber flowNumber none
 numbers-none zero h = refl
@@ -26,6 +28,7 @@ numbers-none (suc (suc (suc zero))) h = refl
 numbers-none (suc (suc (suc (suc zero)))) h = refl
 numbers-none (suc (suc (suc (suc (suc f))))) h = absurd (omega arith)
 
+-- the first five numbers are those of the first effect, the others those of the rest
 front : (e : Effect) (l : List ℕ) (f : ℕ) → f < 5 → getD (numbersOf e ++ l) f 0 ≡ getD (numbersOf e) f 0
 unfolding numbersOf
 front e l zero h = refl
@@ -39,6 +42,7 @@ behind : (e : Effect) (l : List ℕ) (i : ℕ) → getD (numbersOf e ++ l) (suc 
 unfolding numbersOf
 behind e l i = refl
 
+-- number f of effect k
 numbers-at : (es : List Effect) (k f : ℕ) → f < 5 → getD (numbers es) (5 * k + f) 0 ≡ getD (numbersOf (getD es k none)) f 0
 unfolding numbers
 numbers-at [] k f h = sym (numbers-none f h)
@@ -49,10 +53,12 @@ numbers-at (e ∷ es) (suc k) f h =
     let more : 5 * suc k + f ≡ suc (suc (suc (suc (suc (5 * k + f))))) = omega arith in
     ap (λ (i : ℕ). getD (numbersOf e ++ numbers es) i 0) more ∙ behind e (numbers es) (5 * k + f) ∙ numbers-at es k f h
 
+-- the code reads the entry
 pub table-entry : (kind f : ℕ) → f < 5 → getD effectTable (5 * kind + f) 0 ≡ entry kind f
 unfolding entry effect none
 table-entry kind f h = numbers-at effects kind f h
 
+-- a kind past the table has zeros
 pub table-past : (kind f : ℕ) → f < 5 → 125 ≤ 5 * kind + f → 0 ≡ entry kind f
 unfolding numbers numbersOf
 table-past kind f h l = sym (List·getD-eq-default effectTable 0 l) ∙ table-entry kind f h
@@ -78,6 +84,7 @@ pub entry-flow : (kind : ℕ) → entry kind 4 ≡ flowNumber ((effect kind) .fl
 unfolding entry numbersOf
 entry-flow kind = refl
 
+-- what is counted by its number is what the definition says
 pub counted-is : (c : Count) (a b n : ℕ) → counted (countNumber c) a b n ≡ popped c a b n
 unfolding counted countNumber popped
 counted-is fixed a b n = refl
@@ -112,10 +119,12 @@ none-pushes : none .pushes ≤ 1
 unfolding none
 none-pushes = omega arith
 
+-- a kind past the table has no effect
 past : (kind : ℕ) → 25 ≤ kind → effect kind ≡ none
 unfolding effect none
 past kind h = List·getD-eq-default effects (row 0 0 0 fixed on) h
 
+-- no instruction pushes more than one
 pub pushes-one : (kind : ℕ) → (effect kind) .pushes ≤ 1
 unfolding allBelow effect
 pushes-one kind = by (ltb kind 25) refl
@@ -133,6 +142,7 @@ pub ref-other : (b : ℕ) → (b / 256 ≡ 0 → ⊥) → b % 256 ≡ refArgc b
 unfolding refArgc
 ref-other b h = rw (ne-eqb (b / 256) 0 h, refArgc)
 
+-- a count of arguments is less than 256
 ref-small : (b : ℕ) → refArgc b < 256
 ref-small b = by (eqb (b / 256) 0) refl
   where
@@ -161,10 +171,17 @@ module _ (which a b n : ℕ) where
   unfolding counted
   counted-none h1 h2 h3 h5 = rw (ne-eqb which 1 h1, ne-eqb which 2 h2, ne-eqb which 3 h3, ne-eqb which 5 h5, counted)
 
+  -- a bound of a and n bounds what is counted
   pub counted-small : (m : ℕ) → 256 ≤ m → a ≤ m → n ≤ m → counted which a b n ≤ m
   counted-small m h ha hn = by (eqb which 1) refl (eqb which 2) refl (eqb which 3) refl (eqb which 5) refl
     where
-      by : (t1 : Bool) → eqb which 1 ≡ t1 → (t2 : Bool) → eqb which 2 ≡ t2 → (t3 : Bool) → eqb which 3 ≡ t3 → (t5 : Bool) → eqb which 5 ≡ t5 → counted which a b n ≤ m
+      by :
+          (t1 : Bool)
+          → eqb which 1 ≡ t1
+          → (t2 : Bool) → eqb which 2 ≡ t2
+          → (t3 : Bool) → eqb which 3 ≡ t3
+          → (t5 : Bool) → eqb which 5 ≡ t5
+          → counted which a b n ≤ m
       by true e t2 e2 t3 e3 t5 e5 = let z = counted-argc (eqb-true which 1 e) in omega arith
       by false e true e2 t3 e3 t5 e5 = let z = counted-ref (eqb-true which 2 e2) in let r = ref-small b in omega arith
       by false e false e2 true e3 t5 e5 = let z = counted-a (eqb-true which 3 e3) in omega arith
@@ -180,5 +197,6 @@ pub kept-none : (which a : ℕ) → (which ≡ 4 → ⊥) → 0 ≡ kept which a
 unfolding kept
 kept-none which a h = rw (ne-eqb which 4 h, kept)
 
+-- an element that was read, of a table that is the definition's
 pub entry-is : (t : List ℕ) (kind f x : ℕ) → x ≡ getD t (5 * kind + f) 0 → t ≡ effectTable → f < 5 → x ≡ entry kind f
 entry-is t kind f x e q h = e ∙ ap (λ (l : List ℕ). getD l (5 * kind + f) 0) q ∙ table-entry kind f h

@@ -27,7 +27,10 @@ returns-4 : tie.Need-returns-4
 returns-4 c = counted-chain _ _ _ _ (c .if4 .taken)
 
 returns-5 : tie.Need-returns-5
-returns-5 c = counted-none _ _ _ _ (c .before .before .before .if1 .left) (c .before .before .if2 .left) (c .before .if3 .left) (c .if4 .left)
+returns-5 c =
+    let third = c .before in
+    let second = third .before in
+    counted-none _ _ _ _ (second .before .if1 .left) (second .if2 .left) (third .if3 .left) (c .if4 .left)
 
 pub counted-spec : {M : Type 1} → statement M
 counted-spec =
