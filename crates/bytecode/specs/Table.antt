@@ -4,7 +4,8 @@ use mathlib.Core.Bool.{true, false}
 use mathlib.Core.List.{List, [], _∷_, _++_}
 use lib.Dec.{eqb}
 use lib.ListN.{getD}
-use Rattle.bytecode.specs.Effect.{Effect, effects, effect, refArgc, Count, fixed, argc, argcRef, popsA, needsA, operands, Flow, on, jump, branch, table}
+use Rattle.bytecode.specs.Effect.{Effect, effects, effect, refArgc}
+use Rattle.bytecode.specs.Effect.{Count, fixed, argc, argcRef, popsA, needsA, operands, Flow, on, jump, branch, table}
 
 unfoldable pub countNumber : Count → ℕ
 countNumber fixed = 0

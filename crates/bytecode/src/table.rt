@@ -4,8 +4,9 @@ ghost use Prim.Native.Nat.{_<_, _≤_};
 ghost use Rattle.bytecode.specs.Effect.{refArgc};
 ghost use Rattle.bytecode.specs.Table as table;
 
-// For each kind from 0 on: pops, pushes, what is needed and kept, which count comes on top (0 none, 1 argc of Call, 2 argc of CallRef, 3 the
-// word a, 4 the word a, needed and not popped, 5 what a chain takes), and the flow (0 on, 1 jump, 2 branch, 3 table). Kind 0 is no kind.
+// For each kind from 0 on: pops, pushes, what is needed and kept, which count comes on top (0 none, 1 argc of Call, 2 argc of CallRef,
+// 3 the word a, 4 the word a, needed and not popped, 5 what a chain takes), and the flow (0 on, 1 jump, 2 branch, 3 table). Kind 0 is no
+// kind.
 const EFFECTS: [u8; 125] = [
     0,
     0,

@@ -26,38 +26,43 @@ targets-right-requires c κs = search needs
 depths-right-requires : tie.Need-depths-right-requires
 depths-right-requires c κs = search needs
 
+-- the way back from each test to the one before it, and to the start
+abbrev start : tie.Then1 → tie.Start
+start one = let asked = one .before .before in asked .before .before .before
+
+abbrev one-of : tie.Then2 → tie.Then1
+one-of two = two .before .before
+
+abbrev two-of : tie.Then3 → tie.Then2
+two-of three = let asked = three .before .before .before in asked .before .before
+
+abbrev three-of : tie.Then4 → tie.Then3
+three-of four = let asked = four .before .before .before in asked .before .before
+
 -- what holds behind each test
-agree : (c : tie.Then1) → let start = c .before .before .before .before .before in sizesAgree (start .args .w .now) ≡ true
-agree c = sym (c .before .sizes-agree .ensures) ∙ c .if1 .taken
+agree : (one : tie.Then1) → sizesAgree (start one .args .w .now) ≡ true
+agree one = sym (one .before .sizes-agree .ensures) ∙ one .if1 .taken
 
-fields : (c : tie.Then2) → let start = c .before .before .before .before .before .before .before in
-    fieldsRight (start .args .s .now) (start .args .w .now) ≡ true
-fields c = sym (c .before .fields-right .ensures) ∙ c .if2 .taken
+fields : (two : tie.Then2) → let a = start (one-of two) .args in fieldsRight (a .s .now) (a .w .now) ≡ true
+fields two = sym (two .before .fields-right .ensures) ∙ two .if2 .taken
 
--- the scratch has as many words as the image, at the start and behind the first test that writes to it
+-- the scratch has as many words as the image
 abbrev Lent : tie.Then2 → Type 0
-Lent two =
-    let start = two .before .before .before .before .before .before .before in
-    length (start .args .l .now) ≡ length (start .args .w .now)
+Lent two = let a = start (one-of two) .args in length (a .l .now) ≡ length (a .w .now)
 
-operands : (c : tie.Then3) → let two = c .before .before .before .before .before in
-    let start = two .before .before .before .before .before .before .before in
-    Lent two → operandsRight (start .args .w .now) ≡ true
-operands c e =
-    let two = c .before .before .before .before .before in
-    let a = agree (two .before .before) in
-    sym (c .before .before .before .operands-right .ensures (sized _ _ a e) (chains _ _ a (fields two))) ∙ c .if3 .taken
+operands : (three : tie.Then3) → let two = two-of three in Lent two → operandsRight (start (one-of two) .args .w .now) ≡ true
+operands three e =
+    let two = two-of three in
+    let a = agree (one-of two) in
+    sym (three .before .before .before .operands-right .ensures (sized _ _ a e) (chains _ _ a (fields two))) ∙ three .if3 .taken
 
-targets : (c : tie.Then4) → let three = c .before .before .before .before .before in
-    let two = three .before .before .before .before .before in
-    let start = two .before .before .before .before .before .before .before in
-    Lent two → targetsRight (start .args .w .now) ≡ true
-targets c e =
-    let three = c .before .before .before .before .before in
-    let two = three .before .before .before .before .before in
-    let a = agree (two .before .before) in
+targets : (four : tie.Then4) → let two = two-of (three-of four) in Lent two → targetsRight (start (one-of two) .args .w .now) ≡ true
+targets four e =
+    let three = three-of four in
+    let two = two-of three in
+    let a = agree (one-of two) in
     let room = three .before .before .before .operands-right .kept .1 .0 ∙ e in
-    sym (c .before .before .before .targets-right .ensures (sized _ _ a room) (rows _ _ a (fields two))) ∙ c .if4 .taken
+    sym (four .before .before .before .targets-right .ensures (sized _ _ a room) (rows _ _ a (fields two))) ∙ four .if4 .taken
 
 same-length : tie.Need-same-length
 same-length c = search needs
@@ -65,9 +70,9 @@ same-length c = search needs
 returns : tie.Need-returns
 returns c =
     let four = c .before .before .before .before in
-    let three = four .before .before .before .before .before in
-    let two = three .before .before .before .before .before in
-    let a = agree (two .before .before) in
+    let three = three-of four in
+    let two = two-of three in
+    let a = agree (one-of two) in
     let f = fields two in
     λ e.
     let room =
@@ -82,25 +87,27 @@ same-length-2 c = search needs
 
 returns-2 : tie.Need-returns-2
 returns-2 c =
-    let three = c .before .before .before .before .before in
-    let two = three .before .before .before .before .before in
-    let a = agree (two .before .before) in
+    let asked = c .before .before .before in
+    let three = asked .before .before in
+    let two = two-of three in
+    let a = agree (one-of two) in
     let f = fields two in
     λ e.
     let room = three .before .before .before .operands-right .kept .1 .0 ∙ e in
     targets-fail _ _ a f (operands three e)
-    (sym (c .before .before .before .targets-right .ensures (sized _ _ a room) (rows _ _ a f)) ∙ c .if4 .left)
+    (sym (asked .targets-right .ensures (sized _ _ a room) (rows _ _ a f)) ∙ c .if4 .left)
 
 same-length-3 : tie.Need-same-length-3
 same-length-3 c = search needs
 
 returns-3 : tie.Need-returns-3
 returns-3 c =
-    let two = c .before .before .before .before .before in
-    let a = agree (two .before .before) in
+    let asked = c .before .before .before in
+    let two = asked .before .before in
+    let a = agree (one-of two) in
     let f = fields two in
     λ e. operands-fail _ _ a f
-    (sym (c .before .before .before .operands-right .ensures (sized _ _ a e) (chains _ _ a f)) ∙ c .if3 .left)
+    (sym (asked .operands-right .ensures (sized _ _ a e) (chains _ _ a f)) ∙ c .if3 .left)
 
 returns-4 : tie.Need-returns-4
 returns-4 c =
