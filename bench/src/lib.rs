@@ -1,6 +1,8 @@
 //! The proved library, and the sheets and images that it is timed on.
 
 pub mod clock;
+pub mod guard;
+pub mod hashes;
 pub mod images;
 pub mod sheets;
 pub mod stack;

@@ -20,7 +20,8 @@ pub fn timed() -> Vec<Named> {
         ("switch with guards".into(), switch(false)),
         ("wide calls".into(), wide()),
         ("deep chain".into(), deep_chain()),
-        ("full".into(), mixed(NODES)),
+        ("full, mixed".into(), mixed(NODES)),
+        ("full, no pools".into(), unpooled(NODES)),
     ];
     for count in [1_000, 5_000, 20_000] {
         all.push((format!("names {count}"), names(count)));
@@ -40,14 +41,24 @@ pub fn timed() -> Vec<Named> {
     for count in [100, 1_000, 10_000] {
         all.push((format!("locals {count}"), locals(count, 5_000)));
     }
-    for nodes in [1_000, 4_000, 16_000, 65_536, NODES] {
-        all.push((format!("nodes {nodes}"), mixed(nodes)));
-    }
-    for nodes in [1_000, 4_000, 16_000, 65_536, NODES] {
-        all.push((format!("no pools {nodes}"), unpooled(nodes)));
+    for (name, sheet) in PER_NODE {
+        for nodes in [1_000, 4_000, 16_000, 65_536, NODES] {
+            all.push((format!("{name} {nodes}"), sheet(nodes)));
+        }
     }
     all
 }
+
+/// A sheet of so many nodes.
+type Sized = fn(usize) -> Vec<u8>;
+
+/// The sheets whose cost per node is looked at, from 1,000 to 131,072 nodes.
+pub const PER_NODE: [(&str, Sized); 4] = [
+    ("nodes", mixed),
+    ("no pools", unpooled),
+    ("growing pools", growing),
+    ("growing fast", growing_fast),
+];
 
 /// The sheets that the stack is measured on: all depths and tables full.
 pub fn deep() -> Vec<Named> {
@@ -119,7 +130,7 @@ pub fn switch(plain: bool) -> Vec<u8> {
             let block = if next == 7 {
                 case / 2 * 2
             } else {
-                (case + 2 * next) % 64 | 1
+                ((case + 2 * next) % 64) | 1
             };
             draft.leaf(REF, [if plain { case } else { block }, 0, 0], 4);
         }
@@ -147,6 +158,10 @@ struct Mixed {
     random: Random,
     names: u32,
     properties: u32,
+    /// In every ten nodes, so many entries that no pool has yet.
+    in_ten: usize,
+    /// How many such entries there are.
+    fresh: usize,
 }
 
 impl Mixed {
@@ -161,6 +176,8 @@ impl Mixed {
             random: Random::new(11),
             names: 40,
             properties: 8,
+            in_ten: 0,
+            fresh: 0,
         }
     }
 
@@ -168,7 +185,28 @@ impl Mixed {
         self.random.below(self.names as usize) as u32
     }
 
+    /// In turn a new name, number, string, and chain `v.p` at a position of its own.
+    fn entry(&mut self) {
+        let number = self.fresh as u32;
+        self.fresh += 1;
+        match number % 4 {
+            0 => {
+                let name = self.draft.text(format!("new_{number}").as_bytes());
+                self.draft.leaf(VARIABLE, [name, 0, 0], 7);
+            }
+            1 => self.draft.int(1_000 + i64::from(number), 7),
+            2 => {
+                let text = self.draft.text(format!("text {number}").as_bytes());
+                self.draft.leaf(STRING, [text, 0, 0], 7);
+            }
+            _ => self.dot(8 + number),
+        }
+    }
+
     fn leaf(&mut self) {
+        if self.draft.nodes.len() * self.in_ten / 10 > self.fresh {
+            return self.entry();
+        }
         match self.random.below(6) {
             0 | 1 => {
                 let name = self.name();
@@ -187,13 +225,13 @@ impl Mixed {
         }
     }
 
-    /// `v.p`, at one of a few positions, so that chains are shared.
-    fn dot(&mut self) {
+    /// `v.p` with few names, which is shared with those at the same position.
+    fn dot(&mut self, position: u32) {
         let name = self.random.below(10) as u32;
         let property = self.random.below(self.properties as usize) as u32;
         self.draft.open(DOT, [0; 3], 7);
         self.draft.leaf(VARIABLE, [name, 0, 0], 7);
-        self.draft.leaf(PROPERTY, [property; 3], 7);
+        self.draft.leaf(PROPERTY, [property; 3], position);
         self.draft.close();
     }
 
@@ -203,7 +241,7 @@ impl Mixed {
         for _ in 0..self.random.between(2, 5) {
             match self.random.below(8) {
                 0 | 1 if levels > 0 => self.call(levels - 1),
-                2 if levels > 0 => self.dot(),
+                2 if levels > 0 => self.dot(7),
                 3 if levels > 0 => {
                     let kind = *self.random.pick(&[AND, OR, COALESCE]);
                     self.draft.open(kind, [0; 3], 7);
@@ -219,14 +257,13 @@ impl Mixed {
     }
 }
 
-/// Calls, chains, And, Or, Coalesce and leaves over 40 names and 100 numbers, with so many nodes.
-pub fn mixed(nodes: usize) -> Vec<u8> {
-    let mut mixed = Mixed::new();
+/// So many nodes under an Interpolated; the two numbers are more than a call of two levels, and of none, can have.
+fn filled(mut mixed: Mixed, nodes: usize, calls: usize, call: usize) -> Vec<u8> {
     mixed.draft.open(INTERPOLATED, [0; 3], 1);
-    while nodes - mixed.draft.nodes.len() > 160 {
+    while nodes - mixed.draft.nodes.len() > calls {
         mixed.call(2);
     }
-    while nodes - mixed.draft.nodes.len() > 6 {
+    while nodes - mixed.draft.nodes.len() > call {
         mixed.call(0);
     }
     while mixed.draft.nodes.len() < nodes {
@@ -234,6 +271,25 @@ pub fn mixed(nodes: usize) -> Vec<u8> {
     }
     mixed.draft.close();
     mixed.draft.to_bytes()
+}
+
+/// Calls, chains, And, Or, Coalesce and leaves over 40 names and 100 numbers, with so many nodes.
+pub fn mixed(nodes: usize) -> Vec<u8> {
+    filled(Mixed::new(), nodes, 160, 6)
+}
+
+/// The same with a new name, number, string or chain, in turn, in every tenth node, so that the pools grow with the sheet.
+pub fn growing(nodes: usize) -> Vec<u8> {
+    let mut mixed = Mixed::new();
+    mixed.in_ten = 1;
+    filled(mixed, nodes, 240, 16)
+}
+
+/// The same with one of each, so four new entries, in every ten nodes.
+pub fn growing_fast(nodes: usize) -> Vec<u8> {
+    let mut mixed = Mixed::new();
+    mixed.in_ten = 4;
+    filled(mixed, nodes, 240, 16)
 }
 
 /// A call of 100 calls with 100 arguments each, of which every tenth is a call of two, over 40 names.
@@ -378,11 +434,30 @@ fn long_texts(draft: &mut Draft, count: usize, length: usize) {
 
 /// Variables with so many names of so many bytes, which differ near their ends.
 pub fn long_names(count: usize, length: usize) -> Vec<u8> {
+    long_names_again(count, length, 1)
+}
+
+/// Strings in place of the variables.
+pub fn long_strings(count: usize, length: usize) -> Vec<u8> {
     let mut draft = Draft::new();
     long_texts(&mut draft, count, length);
+    each_text(draft, STRING, 1)
+}
+
+/// The variables so many times over, all names one after the other.
+pub fn long_names_again(count: usize, length: usize, times: usize) -> Vec<u8> {
+    let mut draft = Draft::new();
+    long_texts(&mut draft, count, length);
+    each_text(draft, VARIABLE, times)
+}
+
+/// An Array of a leaf of a kind for each text of a draft, so many times over.
+fn each_text(mut draft: Draft, kind: u32, times: usize) -> Vec<u8> {
     draft.open(ARRAY, [0; 3], 1);
-    for text in 0..count as u32 {
-        draft.leaf(VARIABLE, [text, 0, 0], 2);
+    for _ in 0..times {
+        for text in 0..draft.texts.len() as u32 {
+            draft.leaf(kind, [text, 0, 0], 2);
+        }
     }
     draft.close();
     draft.to_bytes()
@@ -436,6 +511,52 @@ pub fn roots(chains: usize, locals: usize) -> Vec<u8> {
         draft.open(DOT, [0; 3], 2);
         draft.leaf(VARIABLE, [name, 0, 0], index as u32);
         draft.leaf(PROPERTY, [name; 3], 3);
+        draft.close();
+    }
+    draft.close();
+    draft.to_bytes()
+}
+
+/// So many chains `this.p` without positions, each with a property of its own.
+pub fn unplaced_chains(count: usize) -> Vec<u8> {
+    chains_of(count, (THIS, None), |draft, index| {
+        [draft.text(format!("p{index:05}").as_bytes()); 3]
+    })
+}
+
+/// So many chains `this.p` without positions that differ only in the setter's text.
+pub fn setters(count: usize) -> Vec<u8> {
+    chains_of(count, (THIS, None), |draft, index| {
+        if index == 0 {
+            draft.text(b"get");
+        }
+        [0, 0, draft.text(format!("s{index:05}").as_bytes())]
+    })
+}
+
+/// So many chains without positions whose root is the same local, and which differ in the property's name.
+pub fn equal_roots(count: usize) -> Vec<u8> {
+    chains_of(count, (VARIABLE, Some(b"port")), |draft, index| {
+        [draft.text(format!("p{index:05}").as_bytes()); 3]
+    })
+}
+
+/// An Array of so many chains of one link, all positions 0: a root, with the local that it names, and the three texts of each property.
+fn chains_of(
+    count: usize,
+    root: (u32, Option<&[u8]>),
+    mut property: impl FnMut(&mut Draft, usize) -> [u32; 3],
+) -> Vec<u8> {
+    let mut draft = Draft::new();
+    let (kind, name) = root;
+    let local = name.map_or(0, |name| draft.text(name));
+    draft.locals = name.map(|_| local).into_iter().collect();
+    draft.open(ARRAY, [0; 3], 0);
+    for index in 0..count {
+        let texts = property(&mut draft, index);
+        draft.open(DOT, [0; 3], 0);
+        draft.leaf(kind, [local, 0, 0], 0);
+        draft.leaf(PROPERTY, texts, 0);
         draft.close();
     }
     draft.close();

@@ -1,10 +1,16 @@
 //! Compares the proved lowering with the oracle on random sheets, in one process: number, word count, every word of image and scratch,
 //! and the words around both.
 //!
-//! `compare [--seed S] [--count N | --seconds S] [--profile P] [--out FILE]`: seed 1 and 60 seconds where nothing is said. The sheet
-//! number i of a seed is always the same one. Ends with status 1 at the first difference, whose sheet is written to FILE
+//! `compare [--guard W] [--seed S] [--count N | --seconds S] [--profile P] [--out FILE]`: seed 1 and 60 seconds where nothing is said. The
+//! sheet number i of a seed is always the same one. Ends with status 1 at the first difference, whose sheet is written to FILE
 //! (`differs.sheet`).
+//!
+//! With `--guard W` it is seen besides that the library uses no word of its scratch past W for each emitted instruction, W for each node and
+//! 4,096: those words lie on closed pages, and nothing may touch them before all words in front are cleared. That goes upward by
+//! the `memset` below. Where the scratch is not longer, the closed pages are right behind it.
 
+use bench::guard::{Guarded, Touch};
+use oracle::format::SCRATCH_BASE;
 use oracle::gen::{self, Size, PROFILES};
 use oracle::random::Random;
 use std::collections::BTreeMap;
@@ -15,6 +21,22 @@ use std::time::{Duration, Instant};
 const AROUND: usize = 8;
 /// Words of noise; buffers are filled with parts of it.
 const NOISE: usize = 1 << 23;
+
+/// The C library's function, for the proved library too: it writes upward, which the C library's own need not.
+///
+/// # Safety
+/// As C says of it.
+#[no_mangle]
+pub unsafe extern "C" fn memset(to: *mut u8, byte: i32, count: usize) -> *mut u8 {
+    std::arch::asm!(
+        "rep stosb",
+        inout("rdi") to => _,
+        inout("rcx") count => _,
+        in("al") byte as u8,
+        options(nostack, preserves_flags),
+    );
+    to
+}
 
 /// Two copies of a buffer with words around it.
 #[derive(Default)]
@@ -61,31 +83,61 @@ struct Tally {
     numbers: [u64; 13],
     images: BTreeMap<&'static str, u64>,
     scratches: BTreeMap<&'static str, u64>,
+    /// Calls with closed pages, and those where the clearing came to them.
+    guarded: u64,
+    cleared: u64,
+}
+
+/// Closed pages behind the words of scratch that may be used: so many for each emitted instruction and each node.
+struct Guard {
+    each: u64,
+    pages: Guarded,
+}
+
+impl Guard {
+    fn usable(&self, emitted: u64, nodes: u64) -> usize {
+        (self.each * (emitted + nodes) + SCRATCH_BASE) as usize
+    }
 }
 
 struct Driver {
     noise: Vec<u32>,
     image: Pair,
     scratch: Pair,
+    guard: Option<Guard>,
     tally: Tally,
 }
 
 impl Driver {
+    /// The library's lowering, and the word past the first `usable` words of scratch that it uses, if it is looked for and there is one.
+    fn ours(&mut self, sheet: &[u8], usable: usize) -> ((u32, u64), Option<usize>) {
+        let image = inner(&mut self.image.ours);
+        let Some(guard) = &mut self.guard else {
+            let scratch = inner(&mut self.scratch.ours);
+            return (bench::lower(sheet, image, scratch), None);
+        };
+        let (answer, touch) = guard
+            .pages
+            .run(&mut self.scratch.ours, AROUND, usable, |scratch| {
+                bench::lower(sheet, image, scratch)
+            });
+        self.tally.guarded += 1;
+        self.tally.cleared += u64::from(touch == Touch::Cleared);
+        match touch {
+            Touch::Used(word) => (answer, Some(word)),
+            _ => (answer, None),
+        }
+    }
+
     /// One lowering by each side with buffers of these sizes; a difference in words.
-    fn run(
-        &mut self,
-        sheet: &[u8],
-        image: usize,
-        scratch: usize,
-        random: &mut Random,
-    ) -> Option<String> {
+    fn run(&mut self, sheet: &[u8], sizes: [usize; 3], random: &mut Random) -> Option<String> {
+        let [image, scratch, usable] = sizes;
         self.image.fill(&self.noise, image, random);
         self.scratch.fill(&self.noise, scratch, random);
-        let (number, words) = bench::lower(
-            sheet,
-            inner(&mut self.image.ours),
-            inner(&mut self.scratch.ours),
-        );
+        let ((number, words), used) = self.ours(sheet, usable);
+        if let Some(word) = used {
+            return Some(format!("word {word} of the scratch is used, past {usable}"));
+        }
         let (right, length) = oracle::lower(
             sheet,
             inner(&mut self.image.rust),
@@ -118,14 +170,17 @@ impl Driver {
         let Ok(lowered) = oracle::lower_sheet(sheet) else {
             let sizes = [0, 1, 64, 5_000, 20_000];
             let (image, scratch) = (*random.pick(&sizes), *random.pick(&sizes));
-            return self.differs(sheet, image, scratch, random);
+            return self.differs(sheet, [image, scratch, scratch], random);
         };
         let words = lowered.words.len();
         let needed = lowered.scratch_needed() as usize;
+        let usable = self.guard.as_ref().map_or(needed, |guard| {
+            guard.usable(lowered.marks.emitted, lowered.nodes)
+        });
         // The exact sizes, and one choice of any two.
         *self.tally.images.entry("full").or_default() += 1;
         *self.tally.scratches.entry("exact").or_default() += 1;
-        if let Some(difference) = self.differs(sheet, words, needed, random) {
+        if let Some(difference) = self.differs(sheet, [words, needed, usable], random) {
             return Some(difference);
         }
         let (image_name, image) = match random.below(8) {
@@ -144,17 +199,13 @@ impl Driver {
         };
         *self.tally.images.entry(image_name).or_default() += 1;
         *self.tally.scratches.entry(scratch_name).or_default() += 1;
-        self.differs(sheet, image, scratch, random)
+        self.differs(sheet, [image, scratch, usable], random)
     }
 
-    fn differs(
-        &mut self,
-        sheet: &[u8],
-        image: usize,
-        scratch: usize,
-        random: &mut Random,
-    ) -> Option<String> {
-        let difference = self.run(sheet, image, scratch, random)?;
+    /// The same with the sizes told: words of the image, of the scratch, and those of the scratch that may be used.
+    fn differs(&mut self, sheet: &[u8], sizes: [usize; 3], random: &mut Random) -> Option<String> {
+        let difference = self.run(sheet, sizes, random)?;
+        let [image, scratch, _] = sizes;
         Some(format!(
             "image of {image} words, scratch of {scratch}: {difference}"
         ))
@@ -185,6 +236,12 @@ impl Driver {
         println!("answers: {}", numbers.join(", "));
         list("images", &tally.images);
         list("scratches", &tally.scratches);
+        if self.guard.is_some() {
+            println!(
+                "closed pages: {} lowerings, the clearing came to them in {}",
+                tally.guarded, tally.cleared
+            );
+        }
     }
 }
 
@@ -270,7 +327,7 @@ fn sheet(
 
 fn main() -> ExitCode {
     let (mut seed, mut count, mut seconds) = (1, u64::MAX, None);
-    let mut only = None;
+    let (mut only, mut guard) = (None, None);
     let mut out = "differs.sheet".to_string();
     let mut words = std::env::args().skip(1);
     while let Some(word) = words.next() {
@@ -285,6 +342,12 @@ fn main() -> ExitCode {
                 assert!(only.is_some(), "no profile {name}");
             }
             "--out" => out = value(),
+            "--guard" => {
+                guard = Some(Guard {
+                    each: value().parse().expect("a number of words"),
+                    pages: Guarded::new(),
+                })
+            }
             _ => panic!("no option {word}"),
         }
     }
@@ -293,11 +356,12 @@ fn main() -> ExitCode {
         (None, u64::MAX) => Duration::from_secs(60),
         _ => Duration::MAX,
     };
-    let mut random = Random::new(seed ^ 0x401_5E);
+    let mut random = Random::new(seed ^ 0x4015E);
     let mut driver = Driver {
         noise: (0..NOISE).map(|_| random.word()).collect(),
         image: Pair::default(),
         scratch: Pair::default(),
+        guard,
         tally: Tally::default(),
     };
     let start = Instant::now();

@@ -128,7 +128,7 @@ fn main() -> ExitCode {
             _ => panic!("no option {word}"),
         }
     }
-    let mut random = Random::new(seed ^ 0x401_5E);
+    let mut random = Random::new(seed ^ 0x4015E);
     let mut driver = Driver {
         noise: (0..NOISE).map(|_| random.word()).collect(),
         ours: Vec::new(),

@@ -1,10 +1,12 @@
 //! The stack that a lowering uses, and hostile sheets with the time of each pass.
 //!
-//! `worst [stack] [NAME...]`: with `stack` only the stack; else both, of the sheets whose names contain one of NAME.
+//! `worst [stack | index] [--small] [NAME...]`: with `stack` only the stack, with `index` only the sheets that are worst for an index of the pools;
+//! else all, of the sheets whose names contain one of NAME. The sheets of `index` come at two sizes, so that growth shows; with `--small` only
+//! the smaller one.
 
 use bench::clock::now;
 use bench::stack::stack_of;
-use bench::{sheets, workloads};
+use bench::{hashes, sheets, workloads};
 use oracle::format::*;
 use std::hint::black_box;
 
@@ -101,6 +103,59 @@ fn hostile() -> Vec<(String, Vec<u8>)> {
         .collect()
 }
 
+/// The sheets that are worst for an index of the pools by hash, each at two sizes.
+fn index(small: bool) -> Vec<(String, Vec<u8>)> {
+    type Sized = fn(usize) -> Vec<u8>;
+    let list: [(&str, Sized, [usize; 2]); 11] = [
+        (
+            "chains: no positions, other names",
+            sheets::unplaced_chains,
+            [8_000, 32_000],
+        ),
+        ("chains: other setters", sheets::setters, [8_000, 32_000]),
+        (
+            "chains: other root positions",
+            |count| sheets::roots(count, 1),
+            [8_000, 32_000],
+        ),
+        (
+            "chains: equal local roots",
+            sheets::equal_roots,
+            [8_000, 32_000],
+        ),
+        (
+            "names: of 99,000 bytes",
+            |count| sheets::long_names(count, 99_000),
+            [125, 500],
+        ),
+        (
+            "strings: of 99,000 bytes",
+            |count| sheets::long_strings(count, 99_000),
+            [125, 500],
+        ),
+        (
+            "names: of 25,000 bytes, three times over",
+            |count| sheets::long_names_again(count, 25_000, 3),
+            [520, 1_040],
+        ),
+        ("equal hashes: names", hashes::names, [4_000, 16_000]),
+        ("equal hashes: strings", hashes::strings, [4_000, 16_000]),
+        ("equal hashes: integers", hashes::numbers, [8_000, 32_000]),
+        (
+            "equal hashes: names of 99,000 bytes",
+            |count| hashes::long_names(count, 99_000),
+            [125, 500],
+        ),
+    ];
+    let mut all = Vec::new();
+    for (name, sheet, sizes) in list {
+        for size in &sizes[..if small { 1 } else { 2 }] {
+            all.push((format!("{name}, {size}"), sheet(*size)));
+        }
+    }
+    all
+}
+
 /// Nanoseconds of one call.
 fn time(mut run: impl FnMut()) -> f64 {
     let start = now();
@@ -110,8 +165,13 @@ fn time(mut run: impl FnMut()) -> f64 {
 
 /// The least of up to five calls, fewer if they take long.
 fn least(mut run: impl FnMut()) -> f64 {
-    let mut least = time(&mut run);
-    let mut spent = least;
+    let first = time(&mut run);
+    least_after(first, run)
+}
+
+/// The same where the first call took so long.
+fn least_after(first: f64, mut run: impl FnMut()) -> f64 {
+    let (mut least, mut spent) = (first, first);
     for _ in 0..4 {
         if spent > 2e9 {
             break;
@@ -123,7 +183,7 @@ fn least(mut run: impl FnMut()) -> f64 {
     least
 }
 
-fn times(names: &[String]) {
+fn times(names: &[String], sheets: Vec<(String, Vec<u8>)>) {
     println!(
         "{:<44}{:>8}{:>4}{:>11}{:>11}{:>9} |{:>10}{:>10}{:>11}{:>10}",
         "hostile sheet, times in ms",
@@ -137,7 +197,7 @@ fn times(names: &[String]) {
         "lowering",
         "image"
     );
-    for (name, sheet) in hostile() {
+    for (name, sheet) in sheets {
         if !names.is_empty() && !names.iter().any(|part| name.contains(part.as_str())) {
             continue;
         }
@@ -148,15 +208,13 @@ fn times(names: &[String]) {
         };
         let mut image = vec![0; words];
         let mut scratch = vec![0; needed];
-        assert_eq!(
-            bench::lower(&sheet, &mut image, &mut scratch),
-            (number, words as u64),
-            "{name}"
-        );
+        let mut answer = (0, 0);
+        let first = time(|| answer = bench::lower(&sheet, &mut image, &mut scratch));
+        assert_eq!(answer, (number, words as u64), "{name}");
         if let Ok(lowered) = &lowered {
             assert_eq!(image, lowered.words, "{name}: another image");
         }
-        let ours = least(|| {
+        let ours = least_after(first, || {
             black_box(bench::lower(&sheet, &mut image, &mut scratch));
         });
         let rust = least(|| {
@@ -191,12 +249,19 @@ fn times(names: &[String]) {
 
 fn main() {
     let mut names: Vec<String> = std::env::args().skip(1).collect();
-    let only_stack = names.first().is_some_and(|name| name == "stack");
-    if only_stack {
-        names.remove(0);
+    let mut option = |word: &str| {
+        let place = names.iter().position(|name| name == word);
+        place.map(|place| names.remove(place)).is_some()
+    };
+    let small = option("--small");
+    let only_stack = option("stack");
+    let only_index = option("index");
+    if !only_index {
+        stack(&names);
     }
-    stack(&names);
     if !only_stack {
-        times(&names);
+        let mut sheets = if only_index { Vec::new() } else { hostile() };
+        sheets.extend(index(small));
+        times(&names, sheets);
     }
 }
