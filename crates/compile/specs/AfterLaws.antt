@@ -7,7 +7,7 @@ use Rattle.bytecode.specs.declared.Op.{Op}
 use Rattle.bytecode.specs.declared.Op.the-variants.{CheckSize, InterpolateAppend, SkipIfNotUnit, Pop, JumpIfFalse, JumpIfTrue}
 use Rattle.lowering.specs.ShortCircuit.{jumpOn}
 use Rattle.emission.specs.Made.{Made, emit}
-use Rattle.store.specs.declared.Layout.{Layout}
+use Rattle.scratch.specs.declared.Layout.{Layout}
 use Rattle.store.specs.declared.State.{State}
 use Rattle.store.specs.Does.{Does, does-none, does-seq}
 use Rattle.store.specs.Effects.{Narrow}

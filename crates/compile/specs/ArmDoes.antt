@@ -1,15 +1,12 @@
 -- A node by its rule: each arm of `expression` does what the definition says of the node.
-use Prim.Native.Nat.{ℕ, _+_, _-_, _≤_, _<_, _%_, _^_, min}
+use Prim.Native.Nat.{ℕ, _+_, _*_, _-_, _≤_, _<_, _%_, _^_, min}
 use mathlib.Core.Path.{_≡_, refl, sym, ap, _∙_, subst}
 use mathlib.Core.List.{List}
 use native.Mathlib.Omega.{arith}
-use lib.ListN.{getD}
 use Rattle.sheet.specs.Node.{kind, count, fieldA, position}
 use Rattle.bytecode.specs.declared.Op.the-variants as Ops
-use Rattle.lowering.specs.Expression.{rule, rules}
-use Rattle.lowering.specs.Expression as Expression
+use Rattle.lowering.specs.Expression.{rule}
 use Rattle.lowering.specs.Nodes.{Right, Valid}
-use Rattle.lowering.specs.ChainNodes.{Link}
 use Rattle.rules.specs.declared.kinds.Rule as Kinds
 use Rattle.rules.specs.Answers.{ruleOf}
 use Rattle.counting.specs.Count.{tally}
@@ -17,41 +14,20 @@ use Rattle.emission.specs.Made.{Made, place, emit, residual, lowered}
 use Rattle.emission.specs.Construct.{boolean, unit, constant, variable, thisOf, interpolated, array, fnCall, chain, shortCircuit, coalesce}
 use Rattle.emission.specs.RuleLaws.{lowered-none, lowered-boolean, lowered-unit, lowered-constant, lowered-interpolated, lowered-array, lowered-variable, lowered-this, lowered-call, lowered-chain, lowered-and, lowered-or, lowered-coalesce, lowered-residual}
 use Rattle.emission.specs.NodeLaws.{call-kind, chain-link, coalesce-some}
-use Rattle.store.specs.declared.Layout.{Layout}
+use Rattle.scratch.specs.declared.Layout.{Layout}
 use Rattle.store.specs.declared.State.{State}
 use Rattle.store.specs.Holds.{Holds}
 use Rattle.store.specs.Does.{Fits, Does, does-same}
+use Rattle.keys.specs.Used.{ConstKey, NameKey}
 use Rattle.compile.specs.Plain.{Plain}
+use Rattle.compile.specs.Linked.{Linked}
+use Rattle.compile.specs.KeyFacts.{variable-kind, const-key, chain-key, own-key}
 use Rattle.compile.specs.StepDoes.{other-name}
 use Rattle.compile.specs.Doing.{does-at}
 use Rattle.compile.specs.CycleMore.{does-as}
 
 pub arm-none : {s : List ℕ} {l : Layout} {xs ys : List ℕ} {st r : State} (levels j : ℕ) → levels ≡ 0 → Does s l xs st ys r (residual j) → Does s l xs st ys r (lowered levels s j)
 arm-none {s} levels j h d = does-same (lowered levels s j) (λ a g. lowered-none levels s j a h) d
-
--- a variable is no call
-unfoldable callRank : Kinds.Rule → ℕ
-callRank Kinds.the-variants.Boolean = 0
-callRank Kinds.the-variants.Unit = 0
-callRank Kinds.the-variants.Constant = 0
-callRank Kinds.the-variants.Interpolated = 0
-callRank Kinds.the-variants.Array = 0
-callRank Kinds.the-variants.Variable = 0
-callRank Kinds.the-variants.This = 0
-callRank Kinds.the-variants.FnCall = 1
-callRank Kinds.the-variants.Chain = 0
-callRank Kinds.the-variants.And = 0
-callRank Kinds.the-variants.Or = 0
-callRank Kinds.the-variants.Coalesce = 0
-callRank Kinds.the-variants.Residual = 0
-
-call-rule : (s : List ℕ) (j : ℕ) → kind s j ≡ 13 → ruleOf (rule s j) ≡ Kinds.the-variants.FnCall
-unfolding rule rules ruleOf
-call-rule s j h = ap (λ k. ruleOf (getD rules k Expression.residual)) h
-
-not-call : (s : List ℕ) (j : ℕ) → ruleOf (rule s j) ≡ Kinds.the-variants.Variable → kind s j ≡ 13 → ⊥
-unfolding callRank
-not-call s j h k = let z : callRank Kinds.the-variants.FnCall ≡ callRank Kinds.the-variants.Variable = ap callRank (sym (call-rule s j k) ∙ h) in absurd (omega arith)
 
 module _ {s : List ℕ} {l : Layout} {xs ys : List ℕ} {st r : State} (levels j : ℕ) (some : levels ≡ 0 → ⊥) (by : Kinds.Rule) (by-is : by ≡ ruleOf (rule s j)) where
   pub arm-boolean : (k : ℕ) → by ≡ Kinds.the-variants.Boolean → k ≡ fieldA s j → Does s l xs st ys r (emit (Ops.Bool k) 0 0) → Does s l xs st ys r (lowered levels s j)
@@ -63,13 +39,17 @@ module _ {s : List ℕ} {l : Layout} {xs ys : List ℕ} {st r : State} (levels j
   unfolding unit
   arm-unit e d = does-same (lowered levels s j) (λ a g. lowered-unit levels s j a some (sym by-is ∙ e)) d
 
-  pub arm-constant : by ≡ Kinds.the-variants.Constant → Does s l xs st ys r (constant s j) → Does s l xs st ys r (lowered levels s j)
-  arm-constant e d = does-same (lowered levels s j) (λ a g. lowered-constant levels s j a some (sym by-is ∙ e)) d
-
-  pub arm-variable : by ≡ Kinds.the-variants.Variable → (Plain s j → Does s l xs st ys r (variable s j)) → Does s l xs st ys r (lowered levels s j)
-  arm-variable e d =
+  pub arm-constant : Valid s j → by ≡ Kinds.the-variants.Constant → (ConstKey s j → Does s l xs st ys r (constant s j)) → Does s l xs st ys r (lowered levels s j)
+  arm-constant v e d =
       let is = sym by-is ∙ e in
-      does-same (lowered levels s j) (λ a g. lowered-variable levels s j a some is) (d (other-name s j (not-call s j is)))
+      does-same (lowered levels s j) (λ a g. lowered-constant levels s j a some is) (d (const-key s j v is))
+
+  pub arm-variable : Valid s j → by ≡ Kinds.the-variants.Variable → (Plain s j → NameKey s (3 * j + 0) → Does s l xs st ys r (variable s j)) → Does s l xs st ys r (lowered levels s j)
+  arm-variable v e d =
+      let is = sym by-is ∙ e in
+      let k = variable-kind s j is in
+      does-same (lowered levels s j) (λ a g. lowered-variable levels s j a some is)
+      (d (other-name s j (λ z. omega arith)) (own-key s j v (omega arith)))
 
   pub arm-this : (pos : ℕ) → by ≡ Kinds.the-variants.This → pos ≡ position s j → Does s l xs st ys r (emit Ops.LoadThis pos 0) → Does s l xs st ys r (lowered levels s j)
   unfolding thisOf
@@ -90,10 +70,10 @@ module _ {s : List ℕ} {l : Layout} {xs ys : List ℕ} {st r : State} (levels j
       let is = sym by-is ∙ e in
       does-same (lowered levels s j) (λ a g. lowered-call levels s j a some is) (d (call-kind s j is))
 
-  pub arm-chain : Right s → Valid s j → by ≡ Kinds.the-variants.Chain → (Link s j → Does s l xs st ys r (chain s (lowered (levels - 1) s) j)) → Does s l xs st ys r (lowered levels s j)
+  pub arm-chain : Right s → Valid s j → by ≡ Kinds.the-variants.Chain → (Linked s j → Does s l xs st ys r (chain s (lowered (levels - 1) s) j)) → Does s l xs st ys r (lowered levels s j)
   arm-chain C v e d =
       let is = sym by-is ∙ e in
-      does-same (lowered levels s j) (λ a g. lowered-chain levels s j a some is) (d (chain-link s j C v is))
+      does-same (lowered levels s j) (λ a g. lowered-chain levels s j a some is) (d (record { link = chain-link s j C v is; key = chain-key s j v is }))
 
   -- `end` as the code counts it is the place behind the node's code
   module _ (end : ℕ) (end-is : (a : Made) → Holds s l xs st a → Fits l (lowered levels s j a) → end ≡ place a + tally levels s j .len) where

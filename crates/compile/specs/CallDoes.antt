@@ -12,13 +12,13 @@ use Rattle.bytecode.specs.declared.Receiver.the-variants as Receivers
 use Rattle.bytecode.specs.declared.Op.the-variants.{LoadNamed, LoadThis, Call, CallRef, Rotate, MakeFnPtr, CallFnPtr}
 use Rattle.lowering.specs.Pools.{Name, name, nameAt, tokenAt}
 use Rattle.lowering.specs.Call.{storesToken}
-use Rattle.lowering.specs.Nodes.{Valid}
 use Rattle.chains.specs.FindLaws.{first-within}
 use Rattle.keys.specs.Keys.{nameOf}
+use Rattle.keys.specs.Used.{TokenKey, NameKey}
 use Rattle.emission.specs.Made.{Made, emit, addName, addToken, defeated, residual}
 use Rattle.emission.specs.Construct.{callRef, rotate, callAs, callToken, callEnd}
 use Rattle.emission.specs.Growing.{ref-grows, rotate-grows, as-grows}
-use Rattle.store.specs.declared.Layout.{Layout}
+use Rattle.scratch.specs.declared.Layout.{Layout}
 use Rattle.store.specs.declared.State.{State}
 use Rattle.store.specs.Holds.{Holds}
 use Rattle.store.specs.HoldsLaws.{tokens-few}
@@ -90,16 +90,16 @@ module _ {s : List ℕ} {l : Layout} {xs ys : List ℕ} {st r : State} where
   rotate-some n h d = let k : eqb n 0 ≡ false = ne-eqb n 0 (λ e. omega arith) in rw (k, rotate) d
 
   module _ (j : ℕ) where
-    pub call-end-token : storesToken s j ≡ true → (Plain s j → count s j < 256 → Valid s j → Does s l xs st ys r (callToken s j)) → Calls s j → Does s l xs st ys r (callEnd s j)
+    pub call-end-token : storesToken s j ≡ true → (Plain s j → count s j < 256 → NameKey s (3 * j + 0) → TokenKey s j → Does s l xs st ys r (callToken s j)) → Calls s j → Does s l xs st ys r (callEnd s j)
     unfolding callEnd
-    call-end-token h d f = rw (h, callEnd) (d (f .tokened h) (f .few) (f .valid))
+    call-end-token h d f = rw (h, callEnd) (d (f .tokened h) (f .few) (f .key) (f .token))
 
-    pub call-end-plain : (b : ℕ) → storesToken s j ≡ false → b ≡ fieldB s j → (nameOf s (3 * j + 0) ≡ name (fieldA s j) b → count s j < 256 → b < 2 → Valid s j → Does s l xs st ys r (callAs s j 0 b)) → Calls s j → Does s l xs st ys r (callEnd s j)
+    pub call-end-plain : (b : ℕ) → storesToken s j ≡ false → b ≡ fieldB s j → (nameOf s (3 * j + 0) ≡ name (fieldA s j) b → count s j < 256 → b < 2 → NameKey s (3 * j + 0) → Does s l xs st ys r (callAs s j 0 b)) → Calls s j → Does s l xs st ys r (callEnd s j)
     unfolding callEnd
     call-end-plain b h e d f =
         let marked = f .marked h ∙ ap (name (fieldA s j)) (sym e) in
         let low = subst (λ (m : ℕ). m < 2) (sym e) (f .capture) in
-        rw (h, callEnd) (does-at (callAs s j 0) e (d marked (f .few) low (f .valid)))
+        rw (h, callEnd) (does-at (callAs s j 0) e (d marked (f .few) low (f .key)))
 
     pub close-pointer-does : (n b pos : ℕ) → n ≡ count s j - 1 → b ≡ fieldB s j → pos ≡ position s j → Does s l xs st ys r (emit (CallFnPtr n b) pos 0) → Does s l xs st ys r (closed FnPtrCall s j 0)
     unfolding closed
@@ -122,17 +122,17 @@ module _ {s : List ℕ} {l : Layout} {xs ys : List ℕ} {st r : State} (w : Way)
   unfolding closed
   close-pointer e d = close-at FnPtrCall e (λ f. d)
 
-  pub close-local : (slot : ℕ) → w ≡ Local slot → (Plain s j → count s j < 256 → Valid s j → Does s l xs st ys r (callRef s j (Receivers.Local slot))) → Facts w s j → Does s l xs st ys r (closed w s j at)
+  pub close-local : (slot : ℕ) → w ≡ Local slot → (Plain s j → count s j < 256 → NameKey s (3 * j + 0) → Does s l xs st ys r (callRef s j (Receivers.Local slot))) → Facts w s j → Does s l xs st ys r (closed w s j at)
   unfolding closed
-  close-local slot e d = close-at (Local slot) e (λ f. d (f .plain) (f .few) (f .valid))
+  close-local slot e d = close-at (Local slot) e (λ f. d (f .plain) (f .few) (f .key))
 
-  pub close-name : w ≡ Named → (Plain s j → count s j < 256 → Valid s j → Does s l xs st ys r (closeNamed s j at)) → Facts w s j → Does s l xs st ys r (closed w s j at)
+  pub close-name : w ≡ Named → (Plain s j → count s j < 256 → NameKey s (3 * j + 0) → Does s l xs st ys r (closeNamed s j at)) → Facts w s j → Does s l xs st ys r (closed w s j at)
   unfolding closed
-  close-name e d = close-at Named e (λ f. d (f .refers .plain) (f .refers .few) (f .refers .valid))
+  close-name e d = close-at Named e (λ f. d (f .refers .plain) (f .refers .few) (f .refers .key))
 
-  pub close-this : w ≡ This → (Plain s j → count s j < 256 → Valid s j → Does s l xs st ys r (callRef s j Receivers.This)) → Facts w s j → Does s l xs st ys r (closed w s j at)
+  pub close-this : w ≡ This → (Plain s j → count s j < 256 → NameKey s (3 * j + 0) → Does s l xs st ys r (callRef s j Receivers.This)) → Facts w s j → Does s l xs st ys r (closed w s j at)
   unfolding closed
-  close-this e d = close-at This e (λ f. d (f .plain) (f .few) (f .valid))
+  close-this e d = close-at This e (λ f. d (f .plain) (f .few) (f .key))
 
   pub close-value : w ≡ Value → (Facts Value s j → Does s l xs st ys r (callEnd s j)) → Facts w s j → Does s l xs st ys r (closed w s j at)
   unfolding closed
@@ -186,10 +186,10 @@ module _ {s : List ℕ} {l : Layout} {xs ys : List ℕ} {st r : State} (w : Way)
   unfolding opened openedAt
   open-this pos e at-pos d = subst (Opens s l xs st ys r 0 j) (sym e) ((λ f. does-at (λ (p : ℕ). emit LoadThis p 0) at-pos d), (λ f a h. refl))
 
-  pub open-named : (at v : ℕ) → w ≡ Named → v ≡ child j → (Valid s v → Does s l xs st ys r (addName s (nameOf s (3 * v + 0)))) → ((a : Made) → Valid s v → Holds s l xs st a → at ≡ nameAt s (nameOf s (3 * v + 0)) (a .pools)) → Opens s l xs st ys r at j w
+  pub open-named : (at v : ℕ) → w ≡ Named → v ≡ child j → (NameKey s (3 * v + 0) → Does s l xs st ys r (addName s (nameOf s (3 * v + 0)))) → ((a : Made) → NameKey s (3 * v + 0) → Holds s l xs st a → at ≡ nameAt s (nameOf s (3 * v + 0)) (a .pools)) → Opens s l xs st ys r at j w
   unfolding opened openedAt
   open-named at v e is d found =
-      let done = subst (λ (u : ℕ). Valid s u → Does s l xs st ys r (addName s (nameOf s (3 * u + 0)))) is d in
-      let place = subst (λ (u : ℕ). (a : Made) → Valid s u → Holds s l xs st a → at ≡ nameAt s (nameOf s (3 * u + 0)) (a .pools)) is found in
+      let done = subst (λ (u : ℕ). NameKey s (3 * u + 0) → Does s l xs st ys r (addName s (nameOf s (3 * u + 0)))) is d in
+      let place = subst (λ (u : ℕ). (a : Made) → NameKey s (3 * u + 0) → Holds s l xs st a → at ≡ nameAt s (nameOf s (3 * u + 0)) (a .pools)) is found in
       subst (Opens s l xs st ys r at j) (sym e)
       ((λ f. does-at (addName s) (f .plain) (done (f .first))), (λ f a h. place a (f .first) h ∙ ap (λ (n : Name). nameAt s n (a .pools)) (f .plain)))

@@ -14,7 +14,7 @@ use Rattle.emission.specs.Construct.{Low, array, interpolated, coalesce, elemen
 use Rattle.emission.specs.WayLaws.{array-few, array-many}
 use Rattle.emission.specs.Rising.{lowered-rises}
 use Rattle.emission.specs.Growing.{lowered-grows}
-use Rattle.store.specs.declared.Layout.{Layout}
+use Rattle.scratch.specs.declared.Layout.{Layout}
 use Rattle.store.specs.declared.State.{State}
 use Rattle.store.specs.Holds.{Holds}
 use Rattle.store.specs.Does.{Fits, Growing, Does, does-seq, does-same, does-none, growing-seq, growing-none}

@@ -13,7 +13,8 @@ use Rattle.lowering.specs.Kinds.{variableKind, thisKind}
 use Rattle.lowering.specs.Code.{Code}
 use Rattle.lowering.specs.Flatten.{links, flattens, goesOn, restOf, operandOf, stepRule}
 use Rattle.lowering.specs.Nodes.{Right, Valid, Row, children, child-valid, row-less, row-none}
-use Rattle.lowering.specs.ChainNodes.{Link}
+use Rattle.keys.specs.Used.{ChainKey}
+use Rattle.compile.specs.Linked.{Linked}
 use Rattle.rules.specs.declared.kinds.Rule as Kinds
 use Rattle.rules.specs.Answers.{ruleOf}
 use Rattle.lowering.specs.Expression.{rule}
@@ -28,13 +29,14 @@ use Rattle.emission.specs.WayLaws.{chain-stays, chain-fails, chain-lowers}
 use Rattle.emission.specs.LoweredLaws.{chain-behind, closed-pooled}
 use Rattle.emission.specs.Rising.{lowered-rises}
 use Rattle.emission.specs.Growing.{steps-grow, close-grows, residual-grows, root-name-grows}
-use Rattle.store.specs.declared.Layout.{Layout}
+use Rattle.scratch.specs.declared.Layout.{Layout}
 use Rattle.store.specs.declared.State.{State}
 use Rattle.store.specs.Holds.{Holds}
 use Rattle.store.specs.HoldsLaws.{depth-is, depth-low}
 use Rattle.store.specs.States as states
+use Rattle.store.specs.States.{stateOf, Full}
 use Rattle.store.specs.ResidualLaws.{back-holds}
-use Rattle.store.specs.Does.{Fits, Growing, Does, does-seq, does-same, growing-seq, Left, left-start, left-by, left-end}
+use Rattle.store.specs.Does.{Fits, Growing, Does, does-seq, does-same, growing-seq, Left, left-start, left-by, left-end, held-full}
 use Rattle.compile.specs.declared.after.After.{After}
 use Rattle.compile.specs.declared.after.After.the-variants.{Nothing, Decide, Unless}
 use Rattle.compile.specs.declared.calls.Way.{Way}
@@ -152,17 +154,17 @@ pub steps-grows : (levels : ℕ) (s : List ℕ) (cs : List ℕ) → Growing (ste
 steps-grows levels s cs = record { each = steps-grow s (lowered levels s) (lowered-rises levels s) cs }
 
 module _ {s : List ℕ} {l : Layout} {ws xs ys zs vs : List ℕ} {st q t u r : State} (levels j root m : ℕ) where
-  pub chain-does : Right s → Link s j → root ≡ child j → m ≡ temporary s root → lowers s j ≡ true
+  pub chain-does : Right s → Linked s j → root ≡ child j → m ≡ temporary s root → lowers s j ≡ true
       → (Valid s root → Does s l ws st xs q (rootName s root))
-      → (Right s → Link s j → Does s l xs q ys t (steps s (lowered levels s) (links maxDepth s j)))
+      → (Right s → Linked s j → Does s l xs q ys t (steps s (lowered levels s) (links maxDepth s j)))
       → (Right s → Row s m root → Does s l ys t zs u (rows s (lowered levels s) Nothing m root))
-      → (Valid s j → (a : Made) → Pooled s (a .pools .names) j → Holds s l zs u a → Fits l (closeChain s j a) → Holds s l vs r (closeChain s j a))
+      → (ChainKey s j → (a : Made) → Pooled s (a .pools .names) j → Holds s l zs u a → Fits l (closeChain s j a) → Holds s l vs r (closeChain s j a))
       → Does s l ws st vs r (chain s (lowered levels s) j)
   unfolding rootValue
   chain-does C L root-is m-is h named walked valued closes =
       let low = lowered levels s in
       let ls = links maxDepth s j in
-      let first = child-valid s C j (L .valid) (omega (arith, L .two)) in
+      let first = child-valid s C j (L .link .valid) (omega (arith, L .link .two)) in
       let few : m ≤ 1 = subst (λ n. n ≤ 1) (sym m-is) (temporary-few s root) in
       let row : Row s m root = row-less few (record { each = λ i g. subst (Valid s) (sym (ap (λ n. skip s n root) (none-below i g) ∙ skip-none s root)) (subst (Valid s) (sym root-is) first) }) in
       let before : Does s l ws st zs u (λ a. rootValue s low (child j) (steps s low ls (rootName s (child j) a))) =
@@ -177,7 +179,7 @@ module _ {s : List ℕ} {l : Layout} {ws xs ys zs vs : List ℕ} {st q t u r : S
             let is : closeChain s j x ≡ chain s low j a = chain-lowers s low j a h in
             let room : Fits l (closeChain s j x) = subst (Fits l) (sym is) f in
             let more = close-grows s j x in
-            subst (Holds s l vs r) is (closes (L .valid) x (closed-pooled levels s j a h) (before .holds a g (omega arith)) room);
+            subst (Holds s l vs r) is (closes (L .key) x (closed-pooled levels s j a h) (before .holds a g (omega arith)) room);
       }
 
 -- one whose links do not all have a step
@@ -185,18 +187,18 @@ pub chain-kept : {s : List ℕ} {l : Layout} {xs ys : List ℕ} {st r : State} (
 chain-kept {s} levels j h d = does-same (chain s (lowered levels s) j) (λ a g. chain-stays s (lowered levels s) j a h) d
 
 -- one that fails: its code is taken back
-pub chain-back : {s : List ℕ} {l : Layout} {ws xs ys zs : List ℕ} {st q t b r : State} (levels j root : ℕ) → Right s → Link s j → root ≡ child j → flattens s (links maxDepth s j) ≡ true → lowers s j ≡ false
+pub chain-back : {s : List ℕ} {l : Layout} {ws xs ys zs : List ℕ} {st q b r : State} (e : List ℕ) (levels j root : ℕ) → Right s → Linked s j → root ≡ child j → flattens s (links maxDepth s j) ≡ true → lowers s j ≡ false
     → (Valid s root → Does s l ws st xs q (rootName s root))
-    → (Right s → Link s j → Does s l xs q ys t (steps s (lowered levels s) (links maxDepth s j)))
-    → b ≡ states.takenBack t st
+    → (Right s → Linked s j → Does s l xs q ys (stateOf e) (steps s (lowered levels s) (links maxDepth s j)))
+    → (Full e → b ≡ states.takenBack (stateOf e) st)
     → Does s l ys b zs r (residual j)
     → Does s l ws st zs r (chain s (lowered levels s) j)
 unfolding takeBack
-chain-back {s} {l} {ws} {xs} {ys} {zs} {st} {q} {t} {b} {r} levels j root C L root-is flat h named walked back last =
+chain-back {s} {l} {ws} {xs} {ys} {zs} {st} {q} {b} {r} e levels j root C L root-is flat h named walked back last =
     let low = lowered levels s in
     let ls = links maxDepth s j in
-    let first = child-valid s C j (L .valid) (omega (arith, L .two)) in
-    let before : Does s l ws st ys t (λ a. steps s low ls (rootName s (child j) a)) =
+    let first = child-valid s C j (L .link .valid) (omega (arith, L .link .two)) in
+    let before : Does s l ws st ys (stateOf e) (λ a. steps s low ls (rootName s (child j) a)) =
     does-seq (steps-grows levels s ls) (does-at (rootName s) root-is (named (subst (Valid s) (sym root-is) first))) (walked C L) in
     record {
       holds = λ a g f.
@@ -208,6 +210,6 @@ chain-back {s} {l} {ws} {xs} {ys} {zs} {st} {q} {t} {b} {r} levels j root C L ro
           let named = root-name-grows s (child j) a in
           let there = before .holds a g (omega arith) in
           let returned : Holds s l ys b (takeBack a x) =
-          subst (λ (u : State). Holds s l ys u (takeBack a x)) (sym back) (back-holds g there (chain-behind levels s (child j) ls a) (omega arith)) in
+          subst (λ (u : State). Holds s l ys u (takeBack a x)) (sym (back (held-full e there))) (back-holds g there (chain-behind levels s (child j) ls a) (omega arith)) in
           subst (Holds s l zs r) is (last .holds (takeBack a x) returned room);
     }

@@ -6,7 +6,7 @@ use native.Mathlib.Omega.{arith}
 use Rattle.bytecode.specs.declared.Op.{Op}
 use Rattle.emission.specs.Made.{Made, emit}
 use Rattle.lowering.specs.Pools.{emits}
-use Rattle.store.specs.declared.Layout.{Layout}
+use Rattle.scratch.specs.declared.Layout.{Layout}
 use Rattle.store.specs.declared.State.{State}
 use Rattle.store.specs.Holds.{Holds}
 use Rattle.store.specs.Does.{Fits, Growing, Does}

@@ -14,13 +14,14 @@ use Rattle.emission.specs.Made.{Made, place, emit, atDepth, lowered}
 use Rattle.emission.specs.TallyLaws.{tally-within}
 use Rattle.emission.specs.LoweredLaws.{lowered-emitted}
 use Rattle.emission.specs.Growing.{depth-grows}
-use Rattle.store.specs.declared.Layout.{Layout}
+use Rattle.scratch.specs.declared.Layout.{Layout}
 use Rattle.store.specs.declared.State.{State}
 use Rattle.store.specs.Holds.{Holds}
 use Rattle.store.specs.States as states
+use Rattle.store.specs.States.{stateOf, Full}
 use Rattle.store.specs.ResidualLaws.{depth-holds}
 use Rattle.store.specs.HoldsLaws.{code-is, code-low, most-few}
-use Rattle.store.specs.Does.{Fits, Growing, Does, growing-seq}
+use Rattle.store.specs.Does.{Fits, Growing, Does, growing-seq, held-full}
 use Rattle.compile.specs.Doing.{growing-emit}
 use Rattle.compile.specs.Verdict.{verdict}
 
@@ -38,8 +39,11 @@ verdict-grows stop end d =
 -- ---- the end of And and Or
 
 -- the depth, as the code sets it
-pub held-at-depth : {s : List ℕ} {l : Layout} {xs : List ℕ} {st r : State} {d : ℕ} {a : Made} → r ≡ states.atDepth st d → d ≤ a .pools .emitted → Holds s l xs st a → Holds s l xs r (atDepth d a)
-held-at-depth {s} {l} {xs} {d = d} {a} e few h = subst (λ (q : State). Holds s l xs q (atDepth d a)) (sym e) (depth-holds d few h)
+pub held-at-depth :
+    {s : List ℕ} {l : Layout} {xs : List ℕ} {r : State} {d : ℕ} {a : Made} (c : List ℕ) → (Full c → r ≡ states.atDepth (stateOf c) d)
+    → d ≤ a .pools .emitted → Holds s l xs (stateOf c) a → Holds s l xs r (atDepth d a)
+held-at-depth {s} {l} {xs} {d = d} {a} c e few h =
+    subst (λ (q : State). Holds s l xs q (atDepth d a)) (sym (e (held-full c h))) (depth-holds d few h)
 
 pub verdict-holds : {s : List ℕ} {l : Layout} {xs ys zs ws : List ℕ} {st p q t r : State} (stop end d : ℕ) (a : Made) → d ≤ a .pools .emitted
     → Holds s l xs st a → Fits l (verdict stop end d a)

@@ -14,7 +14,7 @@ use Rattle.lowering.specs.Slots.{resolve}
 use Rattle.keys.specs.Keys.{nameOf}
 use Rattle.emission.specs.Made.{Made, emit, addConst, addName}
 use Rattle.emission.specs.Construct.{constant, loadNamed, variable}
-use Rattle.store.specs.declared.Layout.{Layout}
+use Rattle.scratch.specs.declared.Layout.{Layout}
 use Rattle.store.specs.declared.State.{State}
 use Rattle.store.specs.Holds.{Holds}
 use Rattle.store.specs.Does.{Does}

@@ -1,4 +1,6 @@
 pub mod Plain
+pub mod Linked
+pub mod KeyFacts
 pub mod Doing
 pub mod NameDoes
 pub mod Rows

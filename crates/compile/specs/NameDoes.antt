@@ -4,29 +4,27 @@ use mathlib.Core.Path.{_≡_, sym, ap, _∙_, subst}
 use mathlib.Core.List.{List}
 use native.Mathlib.Omega.{arith}
 use Rattle.sheet.specs.Limits.{maxNodes}
-use Rattle.sheet.specs.Layout.{nodeCount}
-use Rattle.lowering.specs.Nodes.{Valid}
 use Rattle.lowering.specs.Pools.{nameAt}
 use Rattle.keys.specs.Keys.{nameOf}
+use Rattle.keys.specs.Used.{NameKey}
 use Rattle.emission.specs.Made.{Made, addName}
-use Rattle.store.specs.declared.Layout.{Layout}
+use Rattle.scratch.specs.declared.Layout.{Layout}
 use Rattle.store.specs.declared.State.{State}
-use Rattle.store.specs.declared.Placed.{Placed}
 use Rattle.store.specs.Holds.{Holds}
 use Rattle.store.specs.Does.{Does, Adds}
 
-module _ {s : List ℕ} {l : Layout} {xs ys : List ℕ} {st : State} {p : Placed} (k j f : ℕ) (key : j < maxNodes → f < 3 → k ≡ 3 * j + f)
-    (adds : Adds s l xs st ys p (k < 3 * nodeCount s) (addName s (nameOf s k)) (λ a. nameAt s (nameOf s k) (a .pools))) where
-  few-nodes : {a : Made} → Valid s j → Holds s l xs st a → j < maxNodes
+module _ {s : List ℕ} {l : Layout} {xs ys : List ℕ} {st r : State} {at : ℕ} (k j f : ℕ) (key : j < maxNodes → f < 3 → k ≡ 3 * j + f)
+    (adds : Adds s l xs st ys r at (NameKey s k) (addName s (nameOf s k)) (λ a. nameAt s (nameOf s k) (a .pools))) where
+  few-nodes : {a : Made} → NameKey s (3 * j + f) → Holds s l xs st a → j < maxNodes
   few-nodes v h = let n = h .fit .nodes in let m = h .fit .small in omega arith
 
-  pub name-does : f < 3 → Valid s j → Does s l xs st ys (p .st) (addName s (nameOf s (3 * j + f)))
+  pub name-does : f < 3 → NameKey s (3 * j + f) → Does s l xs st ys r (addName s (nameOf s (3 * j + f)))
   name-does g v = record {
     holds = λ a h room.
         let is = key (few-nodes v h) g in
-        let done = adds .does (omega (arith, is)) in
-        subst (λ (i : ℕ). Does s l xs st ys (p .st) (addName s (nameOf s i))) is done .holds a h room;
+        let done = adds .does (subst (NameKey s) (sym is) v) in
+        subst (λ (i : ℕ). Does s l xs st ys r (addName s (nameOf s i))) is done .holds a h room;
   }
 
-  pub name-place : (a : Made) → f < 3 → Valid s j → Holds s l xs st a → p .at ≡ nameAt s (nameOf s (3 * j + f)) (a .pools)
+  pub name-place : (a : Made) → f < 3 → NameKey s (3 * j + f) → Holds s l xs st a → at ≡ nameAt s (nameOf s (3 * j + f)) (a .pools)
   name-place a g v h = adds .place a h ∙ ap (λ (i : ℕ). nameAt s (nameOf s i) (a .pools)) (key (few-nodes v h) g)

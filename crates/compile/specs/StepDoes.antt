@@ -5,13 +5,13 @@ use mathlib.Core.Bool.{Bool, true, false}
 use mathlib.Core.List.{List}
 use native.Mathlib.Omega.{arith}
 use lib.Dec.{eqb}
-use borrow.Author.Tests.{eqb-true}
+use borrow.Author.Tests.{eqb-true, eqb-false}
 use Rattle.sheet.specs.Limits.{maxDepth}
 use Rattle.sheet.specs.Node.{kind, count, fieldA, fieldB, fieldC, position, child}
 use Rattle.sheet.specs.Walk.{skip}
 use Rattle.bytecode.specs.declared.Op.the-variants.{Chain}
 use Rattle.lowering.specs.Limits.{maxArgs}
-use Rattle.lowering.specs.Kinds.{variableKind, thisKind, propertyKind, methodCallKind, indexKind}
+use Rattle.lowering.specs.Kinds.{variableKind, thisKind, propertyKind, methodCallKind, dotKind, indexKind}
 use Rattle.lowering.specs.Pools.{Name, name}
 use Rattle.lowering.specs.Flatten.{StepRule, dotRule, stepRule, operandOf, goesOn, restOf, links}
 use Rattle.lowering.specs.Flatten as Flatten
@@ -28,13 +28,14 @@ use Rattle.chains.specs.Lowers.{lowersBy, stepLowers}
 use Rattle.counting.specs.declared.links.Link.{Link}
 use Rattle.counting.specs.declared.links.Link.the-variants.{Lowers, Fails, Nowhere}
 use Rattle.counting.specs.Link.{linkBy, link, grade, temporary}
-use Rattle.keys.specs.Keys.{callKind, fieldOf, nameOf}
+use Rattle.keys.specs.Keys.{callKind, fieldOf, isMarked, markBy, markOf, nameOf}
+use Rattle.keys.specs.Used.{ChainKey, NameKey}
 use Rattle.keys.specs.KeyLaws.{field-a, field-b, field-c, name-of, no-mark}
 use Rattle.emission.specs.Made.{Made, emit, addName}
 use Rattle.emission.specs.Construct.{Low, operands, property, method, stepBy, rootName, rootValue, addChain, chainPlace, closeChain}
 use Rattle.emission.specs.WayLaws.{root-variable, root-nameless}
 use Rattle.emission.specs.Growing.{name-grows, property-grows}
-use Rattle.store.specs.declared.Layout.{Layout}
+use Rattle.scratch.specs.declared.Layout.{Layout}
 use Rattle.store.specs.declared.State.{State}
 use Rattle.store.specs.Holds.{Holds}
 use Rattle.store.specs.Does.{Fits, Growing, Does, does-seq, does-same, does-none, growing-none}
@@ -42,6 +43,7 @@ use Rattle.compile.specs.Doing.{does-at}
 use Rattle.compile.specs.declared.after.After.the-variants.{Nothing}
 use Rattle.compile.specs.ChainParts.{stepNames}
 use Rattle.compile.specs.Rows.{rows, rows-operands}
+use Rattle.compile.specs.KeyFacts.{own-key, getter-key, setter-key}
 
 -- ---- names of nodes that are no calls
 
@@ -56,8 +58,15 @@ module _ (s : List ℕ) (j : ℕ) where
   pub other-getter : (kind s j ≡ callKind → ⊥) → nameOf s (3 * j + 1) ≡ name (fieldB s j) 0
   other-getter n = unmarked 1 (fieldB s j) (omega arith) n (field-b s j)
 
-  pub other-setter : (kind s j ≡ callKind → ⊥) → nameOf s (3 * j + 2) ≡ name (fieldC s j) 0
-  other-setter n = unmarked 2 (fieldC s j) (omega arith) n (field-c s j)
+  setter-mark : markOf s j 2 ≡ 0
+  unfolding markOf isMarked markBy
+  setter-mark = refl
+
+  -- the setter that a link is taken with
+  pub other-setter : (v : ℕ) → v ≡ operandOf s j → nameOf s (3 * j + 2) ≡ name (fieldC s v) 0
+  other-setter v e =
+      name-of s j 2 (omega arith) ∙ ap (name (fieldOf s 2 j)) setter-mark
+      ∙ ap (λ (u : ℕ). name u 0) (field-c s j ∙ ap (fieldC s) (sym e))
 
 pub growing-name : (s : List ℕ) (n : Name) → Growing (addName s n)
 growing-name s n = record { each = name-grows s n }
@@ -65,31 +74,34 @@ growing-name s n = record { each = name-grows s n }
 -- ---- the root's name, and the names of a step
 
 module _ {s : List ℕ} {l : Layout} {xs ys : List ℕ} {st r : State} (v : ℕ) where
-  pub root-named : (k : ℕ) → k ≡ kind s v → k ≡ variableKind → Does s l xs st ys r (addName s (nameOf s (3 * v + 0)))
-      → Does s l xs st ys r (rootName s v)
-  root-named k e h d =
-      does-same (rootName s v) (λ a g. root-variable s v a (sym e ∙ h)) (does-at (addName s) (other-name s v (λ z. omega arith)) d)
+  pub root-named : (k : ℕ) → k ≡ kind s v → k ≡ variableKind → Valid s v
+      → (NameKey s (3 * v + 0) → Does s l xs st ys r (addName s (nameOf s (3 * v + 0)))) → Does s l xs st ys r (rootName s v)
+  root-named k e h valid d =
+      let done = d (own-key s v valid (omega arith)) in
+      does-same (rootName s v) (λ a g. root-variable s v a (sym e ∙ h)) (does-at (addName s) (other-name s v (λ z. omega arith)) done)
 
-  pub method-does : kind s v ≡ methodCallKind → Does s l xs st ys r (addName s (nameOf s (3 * v + 0)))
-      → Does s l xs st ys r (stepNames Flatten.method s v)
+  pub method-does : kind s v ≡ methodCallKind → Valid s v
+      → (NameKey s (3 * v + 0) → Does s l xs st ys r (addName s (nameOf s (3 * v + 0)))) → Does s l xs st ys r (stepNames Flatten.method s v)
   unfolding stepNames
-  method-does h d = does-at (addName s) (other-name s v (λ z. omega arith)) d
+  method-does h valid d = does-at (addName s) (other-name s v (λ z. omega arith)) (d (own-key s v valid (omega arith)))
 
 pub root-other : {s : List ℕ} {l : Layout} {xs : List ℕ} {st : State} (v k : ℕ) → k ≡ kind s v → (k ≡ variableKind → ⊥)
     → Does s l xs st xs st (rootName s v)
 root-other {s} {l} {xs} {st} v k e h =
     does-same (rootName s v) (λ a g. root-nameless s v a (λ z. h (e ∙ z))) (does-none xs st)
 
-pub property-does : {s : List ℕ} {l : Layout} {xs ys zs ws : List ℕ} {st p q r : State} (v : ℕ) → kind s v ≡ propertyKind
-    → Does s l xs st ys p (addName s (nameOf s (3 * v + 0))) → Does s l ys p zs q (addName s (nameOf s (3 * v + 1)))
-    → Does s l zs q ws r (addName s (nameOf s (3 * v + 2))) → Does s l xs st ws r (property s v)
+pub property-does : {s : List ℕ} {l : Layout} {xs ys zs ws : List ℕ} {st p q r : State} (v c : ℕ) → kind s v ≡ propertyKind → v ≡ operandOf s c
+    → kind s c ≡ dotKind → Valid s v → Valid s c
+    → (NameKey s (3 * v + 0) → Does s l xs st ys p (addName s (nameOf s (3 * v + 0))))
+    → (NameKey s (3 * v + 1) → Does s l ys p zs q (addName s (nameOf s (3 * v + 1))))
+    → (NameKey s (3 * c + 2) → Does s l zs q ws r (addName s (nameOf s (3 * c + 2)))) → Does s l xs st ws r (property s v)
 unfolding property
-property-does {s} v h a b c =
+property-does {s} v c h at k valid link a b d =
     does-seq (growing-name s (name (fieldC s v) 0))
     (does-seq (growing-name s (name (fieldB s v) 0))
-    (does-at (addName s) (other-name s v (λ z. omega arith)) a)
-    (does-at (addName s) (other-getter s v (λ z. omega arith)) b))
-    (does-at (addName s) (other-setter s v (λ z. omega arith)) c)
+    (does-at (addName s) (other-name s v (λ z. omega arith)) (a (own-key s v valid (omega arith))))
+    (does-at (addName s) (other-getter s v (λ z. omega arith)) (b (getter-key s v valid h))))
+    (does-at (addName s) (other-setter s c v at) (d (setter-key s c link k)))
 
 -- the node that a property's or a method's step is taken with
 unfoldable number : StepRule → ℕ
@@ -140,19 +152,28 @@ module _ (s : List ℕ) (c : ℕ) where
   unfolding number
   property-kind h = rule-kind 0 (ap number h) (omega arith)
 
+  -- no step of an Index is a property
+  pub property-dot : ChainKey s c → stepRule s c ≡ Flatten.property → kind s c ≡ dotKind
+  unfolding number
+  property-dot K h = by (eqb (kind s c) indexKind) refl
+    where
+      by : (t : Bool) → eqb (kind s c) indexKind ≡ t → kind s c ≡ dotKind
+      by true e = let z = ap number (sym (rule-index e) ∙ h) in absurd (omega arith)
+      by false e = let n = eqb-false (kind s c) indexKind e in omega arith
+
   pub method-kind : stepRule s c ≡ Flatten.method → kind s (operandOf s c) ≡ methodCallKind
   unfolding number
   method-kind h = rule-kind 1 (ap number h) (omega arith)
 
 -- the names of a step by the code's name of the rule
 module _ {s : List ℕ} {l : Layout} {xs ys : List ℕ} {st r : State} (c v : ℕ) (k : StepRules.StepRule) (told : k ≡ stepRuleOf (stepRule s c)) where
-  pub names-property : k ≡ StepRules.the-variants.Property → v ≡ operandOf s c → Valid s (operandOf s c)
-      → (kind s v ≡ propertyKind → Valid s v → Does s l xs st ys r (property s v))
+  pub names-property : k ≡ StepRules.the-variants.Property → v ≡ operandOf s c → Valid s (operandOf s c) → ChainKey s c
+      → (kind s v ≡ propertyKind → v ≡ operandOf s c → kind s c ≡ dotKind → Valid s v → Valid s c → Does s l xs st ys r (property s v))
       → Does s l xs st ys r (stepNames (stepRule s c) s (operandOf s c))
   unfolding stepNames stepRuleFrom
-  names-property e at valid d =
+  names-property e at valid link d =
       let by : Flatten.property ≡ stepRule s c = Inverse.step-is (stepRule s c) StepRules.the-variants.Property (sym told ∙ e) in
-      let found = d (ap (kind s) at ∙ property-kind s c (sym by)) (subst (Valid s) (sym at) valid) in
+      let found = d (ap (kind s) at ∙ property-kind s c (sym by)) at (property-dot s c link (sym by)) (subst (Valid s) (sym at) valid) (link .below) in
       does-at (λ (q : StepRule). stepNames q s (operandOf s c)) by (does-at (property s) at found)
 
   pub names-method : k ≡ StepRules.the-variants.Method → v ≡ operandOf s c → Valid s (operandOf s c)

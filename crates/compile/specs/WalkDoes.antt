@@ -6,7 +6,6 @@ use mathlib.Core.List.{List}
 use Rattle.sheet.specs.Limits.{maxDepth}
 use Rattle.lowering.specs.Flatten.{links, goesOn, restOf, operandOf, stepRule}
 use Rattle.lowering.specs.Nodes.{Right, Valid, Row}
-use Rattle.lowering.specs.ChainNodes.{Link}
 use Rattle.chains.specs.Lowers.{stepLowers}
 use Rattle.counting.specs.declared.links.Link.the-variants.{Lowers}
 use Rattle.counting.specs.Link.{link}
@@ -14,19 +13,22 @@ use Rattle.emission.specs.Made.{Made, lowered}
 use Rattle.emission.specs.Construct.{operands, steps, stepBy}
 use Rattle.emission.specs.LoopLaws.{steps-more, steps-last, steps-fails, steps-done}
 use Rattle.emission.specs.NodeLaws.{link-node, link-next}
-use Rattle.store.specs.declared.Layout.{Layout}
+use Rattle.scratch.specs.declared.Layout.{Layout}
 use Rattle.store.specs.declared.State.{State}
 use Rattle.store.specs.Holds.{Holds}
 use Rattle.store.specs.Does.{Growing, growing-none, Does, does-same, does-seq, Left, left-start, left-by, left-end}
 use Rattle.compile.specs.declared.after.After.the-variants.{Nothing}
+use Rattle.keys.specs.Used.{ChainKey}
 use Rattle.compile.specs.ChainParts.{stepNames}
+use Rattle.compile.specs.Linked.{Linked}
+use Rattle.compile.specs.KeyFacts.{next-key}
 use Rattle.compile.specs.Doing.{does-at}
 use Rattle.compile.specs.Rows.{rows, rows-operands}
 use Rattle.compile.specs.StepDoes.{link-lowers, link-row, step-does}
 use Rattle.compile.specs.CycleMore.{steps-grows}
 use Rattle.compile.specs.Walking.{Walking}
 
-pub walk-starts : {s : List ℕ} {l : Layout} (levels : ℕ) (xs : List ℕ) (st : State) (j : ℕ) → Link s j → Walking s l levels xs st j xs st maxDepth j
+pub walk-starts : {s : List ℕ} {l : Layout} (levels : ℕ) (xs : List ℕ) (st : State) (j : ℕ) → Linked s j → Walking s l levels xs st j xs st maxDepth j
 walk-starts {s} levels xs st j L = record { next = L; rest = left-start xs st (steps s (lowered levels s) (links maxDepth s j)) }
 
 module _ {s : List ℕ} {l : Layout} {ws xs : List ℕ} {st q : State} (levels j left c : ℕ) (W : Walking s l levels ws st j xs q left c) where
@@ -43,15 +45,16 @@ module _ {s : List ℕ} {l : Layout} {ws xs : List ℕ} {st q : State} (levels j
 module _ {s : List ℕ} {l : Layout} {ws xs ys zs : List ℕ} {st q t r : State} (levels j left c n from : ℕ) (C : Right s) (W : Walking s l levels ws st j xs q left c)
     (is : link s c ≡ Lowers n from)
     (args : Right s → Row s n from → Does s l xs q ys t (rows s (lowered levels s) Nothing n from))
-    (names : Valid s (operandOf s c) → Does s l ys t zs r (stepNames (stepRule s c) s (operandOf s c))) where
+    (names : Valid s (operandOf s c) → ChainKey s c → Does s l ys t zs r (stepNames (stepRule s c) s (operandOf s c))) where
   link-does : Does s l xs q zs r (stepBy (stepRule s c) s (lowered levels s) c)
-  link-does = step-does (lowered levels s) c n from is (args C (link-row s c n from C (W .next) is)) (names (link-node s C c (W .next)))
+  link-does = step-does (lowered levels s) c n from is (args C (link-row s c n from C (W .next .link) is)) (names (link-node s C c (W .next .link)) (W .next .key))
 
   pub walk-on : (k : ℕ) → k ≡ restOf s c → 0 < left → goesOn s c ≡ true → Walking s l levels ws st j zs r (left - 1) k
   walk-on k k-is h g =
+      let next = link-next s C c (W .next .link) g in
       subst (Walking s l levels ws st j zs r (left - 1)) (sym k-is)
       (record {
-        next = link-next s C c (W .next) g;
+        next = record { link = next; key = next-key s c (next .valid) g };
         rest =
             left-by (steps s (lowered levels s) (links (left - 1) s (restOf s c))) (W .rest) link-does
             (λ b m. steps-more s (lowered levels s) left c b h (link-lowers s c n from is) g)

@@ -2,14 +2,14 @@
 use Prim.Native.Nat.{ℕ}
 use mathlib.Core.List.{List}
 use Rattle.sheet.specs.Limits.{maxDepth}
-use Rattle.lowering.specs.ChainNodes.{Link}
 use Rattle.lowering.specs.Flatten.{links}
 use Rattle.emission.specs.Made.{lowered}
 use Rattle.emission.specs.Construct.{steps}
-use Rattle.store.specs.declared.Layout.{Layout}
+use Rattle.scratch.specs.declared.Layout.{Layout}
 use Rattle.store.specs.declared.State.{State}
 use Rattle.store.specs.Does.{Left}
+use Rattle.compile.specs.Linked.{Linked}
 
 pub record Walking (s : List ℕ) (l : Layout) (levels : ℕ) (xs : List ℕ) (st : State) (j : ℕ) (ys : List ℕ) (r : State) (left c : ℕ) : Type 0 where
-  pub next : Link s c
+  pub next : Linked s c
   pub rest : Left s l xs st (steps s (lowered levels s) (links maxDepth s j)) ys r (steps s (lowered levels s) (links left s c))

@@ -1,4 +1,4 @@
--- What is known of a call that goes a way: counts, captures and nodes.
+-- What is known of a call that goes a way: counts, captures and keys.
 use Prim.Native.Nat.{ℕ, _+_, _*_, _<_, _≤_}
 use mathlib.Core.Path.{_≡_}
 use mathlib.Core.Bool.{true, false}
@@ -6,21 +6,22 @@ use mathlib.Core.List.{List}
 use Rattle.sheet.specs.Node.{count, fieldA, fieldB, child}
 use Rattle.lowering.specs.Pools.{name}
 use Rattle.lowering.specs.Call.{storesToken}
-use Rattle.lowering.specs.Nodes.{Valid}
 use Rattle.keys.specs.Keys.{nameOf}
+use Rattle.keys.specs.Used.{TokenKey, NameKey}
 use Rattle.compile.specs.declared.calls.Way.{Way}
 use Rattle.compile.specs.declared.calls.Way.the-variants.{FnPtr, FnPtrCall, Local, Named, This, Value, Eval, Kept}
 use Rattle.compile.specs.Plain.{Plain}
 
 -- a call through a receiver
 pub record Refers (s : List ℕ) (j : ℕ) : Type 0 where
-  pub valid : Valid s j
+  pub key : NameKey s (3 * j + 0)
   pub plain : Plain s j
   pub few : count s j < 256
 
 -- a call of values: with a token its name has no mark, else the mark says whether it captures
 pub record Calls (s : List ℕ) (j : ℕ) : Type 0 where
-  pub valid : Valid s j
+  pub key : NameKey s (3 * j + 0)
+  pub token : TokenKey s j
   pub few : count s j < 256
   pub capture : fieldB s j < 2
   pub tokened : storesToken s j ≡ true → Plain s j
@@ -29,7 +30,7 @@ pub record Calls (s : List ℕ) (j : ℕ) : Type 0 where
 -- a call through a name
 pub record Names (s : List ℕ) (j : ℕ) : Type 0 where
   pub refers : Refers s j
-  pub first : Valid s (child j)
+  pub first : NameKey s (3 * child j + 0)
   pub plain : Plain s (child j)
 
 abbrev pub Facts : Way → List ℕ → ℕ → Type 0

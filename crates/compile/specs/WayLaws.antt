@@ -31,6 +31,7 @@ use Rattle.compile.specs.Plain.{Plain}
 use Rattle.compile.specs.Ways.{wayFirst, wayBy, wayOf, argCount, firstArg, opened, openedAt, closeNamed, closed}
 use Rattle.compile.specs.WayFacts.{Facts, Refers}
 use Rattle.compile.specs.Doing.{growing-emit}
+use Rattle.compile.specs.KeyFacts.{token-key, own-key}
 
 -- ---- the parts
 
@@ -165,17 +166,24 @@ module _ (s : List ℕ) (j : ℕ) where
 
   module _ (C : Right s) (v : Valid s j) (k : kind s j ≡ 13) where
     refers : count s j ≤ maxArgs → fieldB s j ≡ 0 → Refers s j
-    refers few b = record { valid = v; plain = plain-none s j b; few = omega arith }
+    refers few b = record { key = own-key s j v (omega arith); plain = plain-none s j b; few = omega arith }
 
     first-facts : count s j ≤ maxArgs → (f : First) → FirstIs f → FirstSays s j f → Facts (wayFirst f) s j
     unfolding wayFirst
     first-facts few (Call.local slot) h i = refers few h
-    first-facts few Call.named h i = record { refers = refers few (h .0); first = child-valid s C j v i; plain = plain-variable s (child j) (h .1) }
+    first-facts few Call.named h i =
+        let is = h .1 in
+        record {
+          refers = refers few (h .0);
+          first = own-key s (child j) (child-valid s C j v i) (omega arith);
+          plain = plain-variable s (child j) is;
+        }
     first-facts few Call.this h i = refers few h
     first-facts few Call.value h i =
         let capture = call-capture s j C v k in
         record {
-          valid = v;
+          key = own-key s j v (omega arith);
+          token = token-key s j v k;
           few = omega arith;
           capture = omega arith;
           tokened = λ t. name-first s j 0 (mark-token s j t);

@@ -3,13 +3,15 @@ ghost use Prim.Native.Nat.{ℕ, _<_};
 ghost use mathlib.Core.List.{List};
 ghost use mathlib.Core.Path.{_≡_};
 ghost use Rattle.lowering.specs.ShortCircuit as jumps;
+ghost use Rattle.bytecode.specs.Table.{effectTable};
+ghost use Rattle.scratch.specs.declared.Layout.{Layout};
+ghost use Rattle.store.specs.States.{stateOf};
 ghost use Rattle.store.specs.Does.{Does};
 ghost use Rattle.compile.specs.declared.after.After.the-variants as kinds;
 ghost use Rattle.compile.specs.Rows.{afterOne};
 use bytecode::Op;
-use store::Layout;
-use store::State;
 use store::emit;
+use store::states::COUNTS;
 
 // Nothing; CheckSize; InterpolateAppend; the jump of And (`stop` 0) or Or (1); SkipIfNotUnit and Pop.
 pub enum After {
@@ -32,22 +34,22 @@ fn jump_on(stop: u32, to: u32) -> Op
 }
 
 // SkipIfNotUnit and Pop.
-fn unless(l: Layout, x: &mut [u32], st: State, to: u32, pos: u32) -> State
-    ensures { λ r. ⌜ ((s : List ℕ) (i : ℕ) → Does s l (now (x .entry)) st (now (x .exit)) r (afterOne (kinds.Unless to) i pos)) ⌝ }
+fn unless(t: &[u8; 125], c: &mut [u32; COUNTS], x: &mut [u32], to: u32, pos: u32)
+    ensures { λ _. ⌜ ((l : Layout) → now (t .entry) ≡ effectTable → (s : List ℕ) (i : ℕ) → Does s l (now (x .entry)) (stateOf (now (c .entry))) (now (x .exit)) (stateOf (now (c .exit))) (afterOne (kinds.Unless to) i pos)) ⌝ }
 {
-    let q = emit(l, x, st, Op::SkipIfNotUnit(to), pos, 0);
-    emit(l, x, q, Op::Pop, pos, 0)
+    emit(t, c, x, Op::SkipIfNotUnit(to), pos, 0);
+    emit(t, c, x, Op::Pop, pos, 0);
 }
 
 // What stands behind sibling `i`, which has position `pos`.
-pub fn after_one(l: Layout, x: &mut [u32], st: State, by: After, i: u32, pos: u32) -> State
-    ensures { λ r. ⌜ ((s : List ℕ) → Does s l (now (x .entry)) st (now (x .exit)) r (afterOne by i pos)) ⌝ }
+pub fn after_one(t: &[u8; 125], c: &mut [u32; COUNTS], x: &mut [u32], by: After, i: u32, pos: u32)
+    ensures { λ _. ⌜ ((l : Layout) → now (t .entry) ≡ effectTable → (s : List ℕ) → Does s l (now (x .entry)) (stateOf (now (c .entry))) (now (x .exit)) (stateOf (now (c .exit))) (afterOne by i pos)) ⌝ }
 {
     match by {
-        After::Nothing => st,
-        After::CheckPlace => emit(l, x, st, Op::CheckSize(i), pos, 0),
-        After::Append => emit(l, x, st, Op::InterpolateAppend, pos, 0),
-        After::Decide { stop, to } => emit(l, x, st, jump_on(stop, to), pos, 0),
-        After::Unless { to } => unless(l, x, st, to, pos),
+        After::Nothing => {}
+        After::CheckPlace => emit(t, c, x, Op::CheckSize(i), pos, 0),
+        After::Append => emit(t, c, x, Op::InterpolateAppend, pos, 0),
+        After::Decide { stop, to } => emit(t, c, x, jump_on(stop, to), pos, 0),
+        After::Unless { to } => unless(t, c, x, to, pos),
     }
 }

@@ -4,8 +4,11 @@ ghost use Prim.Native.Nat.{ℕ, _+_, _*_, _-_, _<_};
 ghost use mathlib.Core.List.{List};
 ghost use Rattle.sheet.specs.Node as nodes;
 ghost use Rattle.lowering.specs.Pools.{name};
-ghost use Rattle.lowering.specs.Nodes.{Right, Valid};
 ghost use Rattle.keys.specs.Keys.{nameOf};
+ghost use Rattle.keys.specs.Used.{TokenKey, NameKey};
+ghost use Rattle.bytecode.specs.Table.{effectTable};
+ghost use Rattle.scratch.specs.declared.Layout.{Layout};
+ghost use Rattle.store.specs.States.{stateOf};
 ghost use Rattle.store.specs.Holds.{Holds};
 ghost use Rattle.store.specs.Does.{Does};
 ghost use Rattle.emission.specs.Made.{Made};
@@ -29,12 +32,10 @@ use sheet::count;
 use sheet::field_b;
 use sheet::next;
 use sheet::position;
-use store::Layout;
-use store::Placed;
-use store::State;
 use store::add_token;
 use store::emit;
 use store::residual;
+use store::states::COUNTS;
 
 // The ways of a call: `Fn`; `call`; through a local, a name, `this`; of values; `eval`; kept as it is.
 pub enum Way {
@@ -109,69 +110,85 @@ pub fn first_arg(w: Way, s: &[u8], j: u32) -> u32
 }
 
 // What comes before the arguments, and where the receiver's name stands.
-pub fn open(s: &[u8], l: Layout, x: &mut [u32], st: State, w: Way, j: u32) -> Placed
-    ensures { λ r. ⌜ (Facts w (now (s .entry)) j → Does (now (s .entry)) l (now (x .entry)) st (now (x .exit)) (r .st) (ways.opened w (now (s .entry)) j)) ⌝ }
-    ensures { λ r. ⌜ (Facts w (now (s .entry)) j → (a : Made) → Holds (now (s .entry)) l (now (x .entry)) st a → r .at ≡ ways.openedAt w (now (s .entry)) j a) ⌝ }
+pub fn open(s: &[u8], t: &[u8; 125], c: &mut [u32; COUNTS], x: &mut [u32], w: Way, j: u32) -> u32
+    ensures { λ r. ⌜
+        ((l : Layout) → now (t .entry) ≡ effectTable → (Facts w (now (s .entry)) j → Does (now (s .entry)) l (now (x .entry)) (stateOf (now (c .entry))) (now (x .exit)) (stateOf (now (c .exit))) (ways.opened w (now (s .entry)) j))
+        × (Facts w (now (s .entry)) j → (a : Made) → Holds (now (s .entry)) l (now (x .entry)) (stateOf (now (c .entry))) a → r ≡ ways.openedAt w (now (s .entry)) j a)) ⌝ }
 {
     match w {
-        Way::FnPtr => Placed { st, at: 0 },
-        Way::FnPtrCall => Placed { st, at: 0 },
-        Way::Local(_) => Placed { st, at: 0 },
-        Way::Named => add_name(s, l, x, st, child(j), 0),
-        Way::This => Placed {
-            st: emit(l, x, st, Op::LoadThis, position(s, child(j)), 0),
-            at: 0,
-        },
-        Way::Value => Placed { st, at: 0 },
-        Way::Eval => Placed { st, at: 0 },
-        Way::Kept => Placed { st, at: 0 },
+        Way::FnPtr => 0,
+        Way::FnPtrCall => 0,
+        Way::Local(_) => 0,
+        Way::Named => add_name(s, c, x, child(j), 0),
+        Way::This => {
+            emit(t, c, x, Op::LoadThis, position(s, child(j)), 0);
+            0
+        }
+        Way::Value => 0,
+        Way::Eval => 0,
+        Way::Kept => 0,
     }
 }
 
 // The call's name and CallRef.
-fn call_ref(s: &[u8], l: Layout, x: &mut [u32], st: State, j: u32, receiver: Receiver) -> State
-    ensures { λ r. ⌜ (Plain (now (s .entry)) j → nodes.count (now (s .entry)) j < 256 → Valid (now (s .entry)) j → Does (now (s .entry)) l (now (x .entry)) st (now (x .exit)) r (constructs.callRef (now (s .entry)) j receiver)) ⌝ }
+fn call_ref(
+    s: &[u8],
+    t: &[u8; 125],
+    c: &mut [u32; COUNTS],
+    x: &mut [u32],
+    j: u32,
+    receiver: Receiver,
+)
+    ensures { λ _. ⌜ ((l : Layout) → now (t .entry) ≡ effectTable → Plain (now (s .entry)) j → nodes.count (now (s .entry)) j < 256 → NameKey (now (s .entry)) (3 * j + 0) → Does (now (s .entry)) l (now (x .entry)) (stateOf (now (c .entry))) (now (x .exit)) (stateOf (now (c .exit))) (constructs.callRef (now (s .entry)) j receiver)) ⌝ }
 {
-    let p = add_name(s, l, x, st, j, 0);
+    let name = add_name(s, c, x, j, 0);
     let op = Op::CallRef {
-        name: p.at,
+        name,
         argc: count(s, j),
         receiver,
     };
-    emit(l, x, p.st, op, position(s, j), 0)
+    emit(t, c, x, op, position(s, j), 0);
 }
 
 // The receiver's value under `others` other arguments.
-fn rotate(l: Layout, x: &mut [u32], st: State, others: u32) -> State
-    ensures { λ r. ⌜ ((s : List ℕ) → Does s l (now (x .entry)) st (now (x .exit)) r (constructs.rotate others)) ⌝ }
+fn rotate(t: &[u8; 125], c: &mut [u32; COUNTS], x: &mut [u32], others: u32)
+    ensures { λ _. ⌜ ((l : Layout) → now (t .entry) ≡ effectTable → (s : List ℕ) → Does s l (now (x .entry)) (stateOf (now (c .entry))) (now (x .exit)) (stateOf (now (c .exit))) (constructs.rotate others)) ⌝ }
 {
     if others == 0 {
-        return st;
+        return;
     }
-    emit(l, x, st, Op::Rotate(others), 0, 0)
+    emit(t, c, x, Op::Rotate(others), 0, 0);
 }
 
 // A call through the name at place `at`.
-fn close_named(s: &[u8], l: Layout, x: &mut [u32], st: State, j: u32, at: u32) -> State
-    ensures { λ r. ⌜ (Plain (now (s .entry)) j → nodes.count (now (s .entry)) j < 256 → Valid (now (s .entry)) j → Does (now (s .entry)) l (now (x .entry)) st (now (x .exit)) r (ways.closeNamed (now (s .entry)) j at)) ⌝ }
+fn close_named(s: &[u8], t: &[u8; 125], c: &mut [u32; COUNTS], x: &mut [u32], j: u32, at: u32)
+    ensures { λ _. ⌜ ((l : Layout) → now (t .entry) ≡ effectTable → Plain (now (s .entry)) j → nodes.count (now (s .entry)) j < 256 → NameKey (now (s .entry)) (3 * j + 0) → Does (now (s .entry)) l (now (x .entry)) (stateOf (now (c .entry))) (now (x .exit)) (stateOf (now (c .exit))) (ways.closeNamed (now (s .entry)) j at)) ⌝ }
 {
-    let q = emit(l, x, st, Op::LoadNamed(at), position(s, child(j)), 0);
-    let t = rotate(l, x, q, one_less(count(s, j)));
-    call_ref(s, l, x, t, j, Receiver::Named(at))
+    emit(t, c, x, Op::LoadNamed(at), position(s, child(j)), 0);
+    rotate(t, c, x, one_less(count(s, j)));
+    call_ref(s, t, c, x, j, Receiver::Named(at));
 }
 
 // The call's name and Call, with a token plus 1, or 0.
-fn call_as(s: &[u8], l: Layout, x: &mut [u32], st: State, j: u32, op: u32, capture: u32) -> State
-    ensures { λ r. ⌜ (nameOf (now (s .entry)) (3 * j + 0) ≡ name (nodes.fieldA (now (s .entry)) j) capture → nodes.count (now (s .entry)) j < 256 → capture < 2 → Valid (now (s .entry)) j → Does (now (s .entry)) l (now (x .entry)) st (now (x .exit)) r (constructs.callAs (now (s .entry)) j op capture)) ⌝ }
+fn call_as(
+    s: &[u8],
+    t: &[u8; 125],
+    c: &mut [u32; COUNTS],
+    x: &mut [u32],
+    j: u32,
+    op: u32,
+    capture: u32,
+)
+    ensures { λ _. ⌜ ((l : Layout) → now (t .entry) ≡ effectTable → nameOf (now (s .entry)) (3 * j + 0) ≡ name (nodes.fieldA (now (s .entry)) j) capture → nodes.count (now (s .entry)) j < 256 → capture < 2 → NameKey (now (s .entry)) (3 * j + 0) → Does (now (s .entry)) l (now (x .entry)) (stateOf (now (c .entry))) (now (x .exit)) (stateOf (now (c .exit))) (constructs.callAs (now (s .entry)) j op capture)) ⌝ }
 {
-    let p = add_name(s, l, x, st, j, 0);
+    let name = add_name(s, c, x, j, 0);
     let call = Op::Call {
-        name: p.at,
+        name,
         argc: count(s, j),
         op,
         capture,
     };
-    emit(l, x, p.st, call, position(s, j), 0)
+    emit(t, c, x, call, position(s, j), 0);
 }
 
 // One more, where that is a word.
@@ -182,46 +199,47 @@ fn one_more(n: u32) -> u32
 }
 
 // The operator's token, the call's name and Call.
-fn call_token(s: &[u8], l: Layout, x: &mut [u32], st: State, j: u32) -> State
-    ensures { λ r. ⌜ (Plain (now (s .entry)) j → nodes.count (now (s .entry)) j < 256 → Valid (now (s .entry)) j → Does (now (s .entry)) l (now (x .entry)) st (now (x .exit)) r (constructs.callToken (now (s .entry)) j)) ⌝ }
+fn call_token(s: &[u8], t: &[u8; 125], c: &mut [u32; COUNTS], x: &mut [u32], j: u32)
+    ensures { λ _. ⌜ ((l : Layout) → now (t .entry) ≡ effectTable → Plain (now (s .entry)) j → nodes.count (now (s .entry)) j < 256 → NameKey (now (s .entry)) (3 * j + 0) → TokenKey (now (s .entry)) j → Does (now (s .entry)) l (now (x .entry)) (stateOf (now (c .entry))) (now (x .exit)) (stateOf (now (c .exit))) (constructs.callToken (now (s .entry)) j)) ⌝ }
 {
-    let p = add_token(s, l, x, st, j);
-    call_as(s, l, x, p.st, j, one_more(p.at), 0)
+    let at = add_token(s, c, x, j);
+    call_as(s, t, c, x, j, one_more(at), 0);
 }
 
 // The end of a call of values.
-fn call_end(s: &[u8], l: Layout, x: &mut [u32], st: State, j: u32) -> State
-    ensures { λ r. ⌜ (Facts (kinds.Value) (now (s .entry)) j → Does (now (s .entry)) l (now (x .entry)) st (now (x .exit)) r (constructs.callEnd (now (s .entry)) j)) ⌝ }
+fn call_end(s: &[u8], t: &[u8; 125], c: &mut [u32; COUNTS], x: &mut [u32], j: u32)
+    ensures { λ _. ⌜ ((l : Layout) → now (t .entry) ≡ effectTable → Facts (kinds.Value) (now (s .entry)) j → Does (now (s .entry)) l (now (x .entry)) (stateOf (now (c .entry))) (now (x .exit)) (stateOf (now (c .exit))) (constructs.callEnd (now (s .entry)) j)) ⌝ }
 {
     if stores_token(s, j) {
-        return call_token(s, l, x, st, j);
+        call_token(s, t, c, x, j);
+    } else {
+        call_as(s, t, c, x, j, 0, field_b(s, j));
     }
-    call_as(s, l, x, st, j, 0, field_b(s, j))
 }
 
 // `call(f, ..)`.
-fn close_pointer(s: &[u8], l: Layout, x: &mut [u32], st: State, j: u32) -> State
-    ensures { λ r. ⌜ Does (now (s .entry)) l (now (x .entry)) st (now (x .exit)) r (ways.closed (kinds.FnPtrCall) (now (s .entry)) j 0) ⌝ }
+fn close_pointer(s: &[u8], t: &[u8; 125], c: &mut [u32; COUNTS], x: &mut [u32], j: u32)
+    ensures { λ _. ⌜ ((l : Layout) → now (t .entry) ≡ effectTable → Does (now (s .entry)) l (now (x .entry)) (stateOf (now (c .entry))) (now (x .exit)) (stateOf (now (c .exit))) (ways.closed (kinds.FnPtrCall) (now (s .entry)) j 0)) ⌝ }
 {
     let op = Op::CallFnPtr {
         argc: one_less(count(s, j)),
         capture: field_b(s, j),
     };
-    emit(l, x, st, op, position(s, j), 0)
+    emit(t, c, x, op, position(s, j), 0);
 }
 
 // What comes behind the arguments, with the receiver's name at place `at`.
-pub fn close(s: &[u8], l: Layout, x: &mut [u32], st: State, w: Way, j: u32, at: u32) -> State
-    ensures { λ r. ⌜ (Facts w (now (s .entry)) j → Does (now (s .entry)) l (now (x .entry)) st (now (x .exit)) r (ways.closed w (now (s .entry)) j at)) ⌝ }
+pub fn close(s: &[u8], t: &[u8; 125], c: &mut [u32; COUNTS], x: &mut [u32], w: Way, j: u32, at: u32)
+    ensures { λ _. ⌜ ((l : Layout) → now (t .entry) ≡ effectTable → Facts w (now (s .entry)) j → Does (now (s .entry)) l (now (x .entry)) (stateOf (now (c .entry))) (now (x .exit)) (stateOf (now (c .exit))) (ways.closed w (now (s .entry)) j at)) ⌝ }
 {
     match w {
-        Way::FnPtr => emit(l, x, st, Op::MakeFnPtr, position(s, child(j)), 0),
-        Way::FnPtrCall => close_pointer(s, l, x, st, j),
-        Way::Local(slot) => call_ref(s, l, x, st, j, Receiver::Local(slot)),
-        Way::Named => close_named(s, l, x, st, j, at),
-        Way::This => call_ref(s, l, x, st, j, Receiver::This),
-        Way::Value => call_end(s, l, x, st, j),
-        Way::Eval => residual(l, x, st, j),
-        Way::Kept => residual(l, x, st, j),
+        Way::FnPtr => emit(t, c, x, Op::MakeFnPtr, position(s, child(j)), 0),
+        Way::FnPtrCall => close_pointer(s, t, c, x, j),
+        Way::Local(slot) => call_ref(s, t, c, x, j, Receiver::Local(slot)),
+        Way::Named => close_named(s, t, c, x, j, at),
+        Way::This => call_ref(s, t, c, x, j, Receiver::This),
+        Way::Value => call_end(s, t, c, x, j),
+        Way::Eval => residual(t, c, x, j),
+        Way::Kept => residual(t, c, x, j),
     }
 }

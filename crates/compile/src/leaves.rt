@@ -3,8 +3,10 @@ ghost use mathlib.Core.Path.{_≡_};
 ghost use Prim.Native.Nat.{_+_, _*_};
 ghost use Rattle.sheet.specs.Node.{fieldA};
 ghost use Rattle.lowering.specs.Pools.{name};
-ghost use Rattle.lowering.specs.Nodes.{Right, Valid};
-ghost use Rattle.keys.specs.Keys.{nameOf};
+ghost use Rattle.keys.specs.Used.{ConstKey, NameKey};
+ghost use Rattle.bytecode.specs.Table.{effectTable};
+ghost use Rattle.scratch.specs.declared.Layout.{Layout};
+ghost use Rattle.store.specs.States.{stateOf};
 ghost use Rattle.store.specs.Does.{Does};
 ghost use Rattle.emission.specs.Construct as constructs;
 ghost use Rattle.compile.specs.Plain.{Plain};
@@ -13,34 +15,33 @@ use bytecode::Op;
 use sheet::field_a;
 use sheet::position;
 use slots::Found;
-use store::Layout;
-use store::State;
 use store::add_const;
 use store::emit;
+use store::states::COUNTS;
 
 // A constant.
-pub fn constant(s: &[u8], l: Layout, x: &mut [u32], st: State, j: u32) -> State
-    ensures { λ r. ⌜ (Valid (now (s .entry)) j → Does (now (s .entry)) l (now (x .entry)) st (now (x .exit)) r (constructs.constant (now (s .entry)) j)) ⌝ }
+pub fn constant(s: &[u8], t: &[u8; 125], c: &mut [u32; COUNTS], x: &mut [u32], j: u32)
+    ensures { λ _. ⌜ ((l : Layout) → now (t .entry) ≡ effectTable → ConstKey (now (s .entry)) j → Does (now (s .entry)) l (now (x .entry)) (stateOf (now (c .entry))) (now (x .exit)) (stateOf (now (c .exit))) (constructs.constant (now (s .entry)) j)) ⌝ }
 {
-    let p = add_const(s, l, x, st, j);
-    emit(l, x, p.st, Op::Const(p.at), 0, 0)
+    let at = add_const(s, c, x, j);
+    emit(t, c, x, Op::Const(at), 0, 0);
 }
 
 // A name, loaded.
-pub fn load_named(s: &[u8], l: Layout, x: &mut [u32], st: State, j: u32) -> State
-    ensures { λ r. ⌜ (Plain (now (s .entry)) j → Valid (now (s .entry)) j → Does (now (s .entry)) l (now (x .entry)) st (now (x .exit)) r (constructs.loadNamed (now (s .entry)) j)) ⌝ }
+pub fn load_named(s: &[u8], t: &[u8; 125], c: &mut [u32; COUNTS], x: &mut [u32], j: u32)
+    ensures { λ _. ⌜ ((l : Layout) → now (t .entry) ≡ effectTable → Plain (now (s .entry)) j → NameKey (now (s .entry)) (3 * j + 0) → Does (now (s .entry)) l (now (x .entry)) (stateOf (now (c .entry))) (now (x .exit)) (stateOf (now (c .exit))) (constructs.loadNamed (now (s .entry)) j)) ⌝ }
 {
-    let p = add_name(s, l, x, st, j, 0);
-    emit(l, x, p.st, Op::LoadNamed(p.at), position(s, j), 0)
+    let at = add_name(s, c, x, j, 0);
+    emit(t, c, x, Op::LoadNamed(at), position(s, j), 0);
 }
 
 // A variable: a local, or a name.
-pub fn variable(s: &[u8], l: Layout, x: &mut [u32], st: State, j: u32) -> State
-    ensures { λ r. ⌜ (Plain (now (s .entry)) j → Valid (now (s .entry)) j → Does (now (s .entry)) l (now (x .entry)) st (now (x .exit)) r (constructs.variable (now (s .entry)) j)) ⌝ }
+pub fn variable(s: &[u8], t: &[u8; 125], c: &mut [u32; COUNTS], x: &mut [u32], j: u32)
+    ensures { λ _. ⌜ ((l : Layout) → now (t .entry) ≡ effectTable → Plain (now (s .entry)) j → NameKey (now (s .entry)) (3 * j + 0) → Does (now (s .entry)) l (now (x .entry)) (stateOf (now (c .entry))) (now (x .exit)) (stateOf (now (c .exit))) (constructs.variable (now (s .entry)) j)) ⌝ }
 {
     let found = slots::resolve(s, sheet::text(s, field_a(s, j)));
     match found {
-        Found::At(slot) => emit(l, x, st, Op::LoadLocal(slot), 0, 0),
-        Found::Nothing => load_named(s, l, x, st, j),
+        Found::At(slot) => emit(t, c, x, Op::LoadLocal(slot), 0, 0),
+        Found::Nothing => load_named(s, t, c, x, j),
     }
 }

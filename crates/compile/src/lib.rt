@@ -5,11 +5,14 @@ ghost use Prim.Native.Nat.{_≤_, _<_};
 ghost use Rattle.sheet.specs.Node as nodes;
 ghost use Rattle.sheet.specs.Limits.{maxDepth};
 ghost use Rattle.lowering.specs.Nodes.{Right, Valid, Row};
-ghost use Rattle.lowering.specs.ChainNodes as linked;
 ghost use Rattle.lowering.specs.Flatten as flatten;
+ghost use Rattle.bytecode.specs.Table.{effectTable};
+ghost use Rattle.scratch.specs.declared.Layout.{Layout};
+ghost use Rattle.store.specs.States.{stateOf};
 ghost use Rattle.store.specs.Does.{Does};
 ghost use Rattle.emission.specs.Made.{lowered};
 ghost use Rattle.emission.specs.Construct as constructs;
+ghost use Rattle.compile.specs.Linked.{Linked};
 ghost use Rattle.compile.specs.Rows.{rows};
 
 pub mod after;
@@ -47,175 +50,197 @@ use sheet::limits::MAX_DEPTH;
 use sheet::next;
 use sheet::position;
 use sheet::skip;
-use store::Layout;
-use store::State;
 use store::emit;
 use store::residual;
-use store::take_back;
+use store::states::CODE;
+use store::states::COUNTS;
+use store::states::DEEPEST;
+use store::states::DEPTH;
+use store::states::take_back;
 
 // `n` siblings from node `from` on, each with `by` behind it.
 fn siblings(
     levels: u32,
     s: &[u8],
-    l: Layout,
+    t: &[u8; 125],
+    c: &mut [u32; COUNTS],
     x: &mut [u32],
-    st: State,
     by: After,
     n: u32,
     from: u32,
-) -> State
-    ensures { λ r. ⌜ (Right (now (s .entry)) → Row (now (s .entry)) n from → Does (now (s .entry)) l (now (x .entry)) st (now (x .exit)) r (rows (now (s .entry)) (lowered levels (now (s .entry))) by n from)) ⌝ }
+)
+    ensures { λ _. ⌜ ((l : Layout) → now (t .entry) ≡ effectTable → Right (now (s .entry)) → Row (now (s .entry)) n from → Does (now (s .entry)) l (now (x .entry)) (stateOf (now (c .entry))) (now (x .exit)) (stateOf (now (c .exit))) (rows (now (s .entry)) (lowered levels (now (s .entry))) by n from)) ⌝ }
 {
-    let mut q = st;
     let mut i: u32 = 0;
     let mut j = from;
     while i < n {
-        let t = expression(levels, s, l, x, q, j);
-        q = after_one(l, x, t, by, i, position(s, j));
+        expression(levels, s, t, c, x, j);
+        after_one(t, c, x, by, i, position(s, j));
         j = next(s, j);
         i += 1;
     }
-    q
 }
 
 // Array: its elements, MakeArray. One with too many elements is kept.
-fn array(levels: u32, s: &[u8], l: Layout, x: &mut [u32], st: State, j: u32) -> State
-    ensures { λ r. ⌜ (Right (now (s .entry)) → Valid (now (s .entry)) j → Does (now (s .entry)) l (now (x .entry)) st (now (x .exit)) r (constructs.array (now (s .entry)) (lowered levels (now (s .entry))) j)) ⌝ }
+fn array(levels: u32, s: &[u8], t: &[u8; 125], c: &mut [u32; COUNTS], x: &mut [u32], j: u32)
+    ensures { λ _. ⌜ ((l : Layout) → now (t .entry) ≡ effectTable → Right (now (s .entry)) → Valid (now (s .entry)) j → Does (now (s .entry)) l (now (x .entry)) (stateOf (now (c .entry))) (now (x .exit)) (stateOf (now (c .exit))) (constructs.array (now (s .entry)) (lowered levels (now (s .entry))) j)) ⌝ }
 {
     let n = count(s, j);
     if n <= MAX_ELEMENTS {
-        let q = siblings(levels, s, l, x, st, After::CheckPlace, n, child(j));
-        return emit(l, x, q, Op::MakeArray(n), position(s, j), 0);
+        siblings(levels, s, t, c, x, After::CheckPlace, n, child(j));
+        emit(t, c, x, Op::MakeArray(n), position(s, j), 0);
+    } else {
+        residual(t, c, x, j);
     }
-    residual(l, x, st, j)
 }
 
 // Interpolated string.
-fn interpolated(levels: u32, s: &[u8], l: Layout, x: &mut [u32], st: State, j: u32) -> State
-    ensures { λ r. ⌜ (Right (now (s .entry)) → Valid (now (s .entry)) j → Does (now (s .entry)) l (now (x .entry)) st (now (x .exit)) r (constructs.interpolated (now (s .entry)) (lowered levels (now (s .entry))) j)) ⌝ }
+fn interpolated(levels: u32, s: &[u8], t: &[u8; 125], c: &mut [u32; COUNTS], x: &mut [u32], j: u32)
+    ensures { λ _. ⌜ ((l : Layout) → now (t .entry) ≡ effectTable → Right (now (s .entry)) → Valid (now (s .entry)) j → Does (now (s .entry)) l (now (x .entry)) (stateOf (now (c .entry))) (now (x .exit)) (stateOf (now (c .exit))) (constructs.interpolated (now (s .entry)) (lowered levels (now (s .entry))) j)) ⌝ }
 {
-    let q = emit(l, x, st, Op::InterpolateStart, 0, 0);
-    let t = siblings(levels, s, l, x, q, After::Append, count(s, j), child(j));
-    emit(l, x, t, Op::InterpolateEnd, 0, 0)
+    emit(t, c, x, Op::InterpolateStart, 0, 0);
+    siblings(levels, s, t, c, x, After::Append, count(s, j), child(j));
+    emit(t, c, x, Op::InterpolateEnd, 0, 0);
 }
 
 // And (`stop` 0), Or (1), with the code's end at place `end`.
 fn short_circuit(
     levels: u32,
     s: &[u8],
-    l: Layout,
+    t: &[u8; 125],
+    c: &mut [u32; COUNTS],
     x: &mut [u32],
-    st: State,
     stop: u32,
     end: u32,
     j: u32,
-) -> State
+)
     requires { ⌜ stop < 2 ⌝ }
-    ensures { λ r. ⌜ (Right (now (s .entry)) → Valid (now (s .entry)) j → Does (now (s .entry)) l (now (x .entry)) st (now (x .exit)) r (constructs.shortCircuit stop (now (s .entry)) (lowered levels (now (s .entry))) end j)) ⌝ }
+    ensures { λ _. ⌜ ((l : Layout) → now (t .entry) ≡ effectTable → Right (now (s .entry)) → Valid (now (s .entry)) j → Does (now (s .entry)) l (now (x .entry)) (stateOf (now (c .entry))) (now (x .exit)) (stateOf (now (c .exit))) (constructs.shortCircuit stop (now (s .entry)) (lowered levels (now (s .entry))) end j)) ⌝ }
 {
     let by = After::Decide {
         stop,
         to: one_less(end),
     };
-    let q = siblings(levels, s, l, x, st, by, count(s, j), child(j));
-    verdict(l, x, q, stop, end, st.depth)
+    let d = c[DEPTH];
+    siblings(levels, s, t, c, x, by, count(s, j), child(j));
+    verdict(t, c, x, stop, end, d);
 }
 
 // Coalesce, with the code's end at place `end`.
-fn coalesce(levels: u32, s: &[u8], l: Layout, x: &mut [u32], st: State, end: u32, j: u32) -> State
-    ensures { λ r. ⌜ (Right (now (s .entry)) → Valid (now (s .entry)) j → 1 ≤ nodes.count (now (s .entry)) j → Does (now (s .entry)) l (now (x .entry)) st (now (x .exit)) r (constructs.coalesce (now (s .entry)) (lowered levels (now (s .entry))) end j)) ⌝ }
+fn coalesce(
+    levels: u32,
+    s: &[u8],
+    t: &[u8; 125],
+    c: &mut [u32; COUNTS],
+    x: &mut [u32],
+    end: u32,
+    j: u32,
+)
+    ensures { λ _. ⌜ ((l : Layout) → now (t .entry) ≡ effectTable → Right (now (s .entry)) → Valid (now (s .entry)) j → 1 ≤ nodes.count (now (s .entry)) j → Does (now (s .entry)) l (now (x .entry)) (stateOf (now (c .entry))) (now (x .exit)) (stateOf (now (c .exit))) (constructs.coalesce (now (s .entry)) (lowered levels (now (s .entry))) end j)) ⌝ }
 {
     let n = one_less(count(s, j));
     let first = child(j);
-    let q = siblings(levels, s, l, x, st, After::Unless { to: end }, n, first);
-    expression(levels, s, l, x, q, skip(s, n, first))
+    siblings(levels, s, t, c, x, After::Unless { to: end }, n, first);
+    expression(levels, s, t, c, x, skip(s, n, first));
 }
 
 // FnCall.
-fn call(levels: u32, s: &[u8], l: Layout, x: &mut [u32], st: State, j: u32) -> State
-    ensures { λ r. ⌜ (Right (now (s .entry)) → Valid (now (s .entry)) j → nodes.kind (now (s .entry)) j ≡ 13 → Does (now (s .entry)) l (now (x .entry)) st (now (x .exit)) r (constructs.fnCall (now (s .entry)) (lowered levels (now (s .entry))) j)) ⌝ }
+fn call(levels: u32, s: &[u8], t: &[u8; 125], c: &mut [u32; COUNTS], x: &mut [u32], j: u32)
+    ensures { λ _. ⌜ ((l : Layout) → now (t .entry) ≡ effectTable → Right (now (s .entry)) → Valid (now (s .entry)) j → nodes.kind (now (s .entry)) j ≡ 13 → Does (now (s .entry)) l (now (x .entry)) (stateOf (now (c .entry))) (now (x .exit)) (stateOf (now (c .exit))) (constructs.fnCall (now (s .entry)) (lowered levels (now (s .entry))) j)) ⌝ }
 {
     let w = way_of(s, j);
-    let p = calls::open(s, l, x, st, w, j);
-    let q = siblings(
+    let at = calls::open(s, t, c, x, w, j);
+    siblings(
         levels,
         s,
-        l,
+        t,
+        c,
         x,
-        p.st,
         After::Nothing,
         arg_count(w, s, j),
         first_arg(w, s, j),
     );
-    calls::close(s, l, x, q, w, j, p.at)
+    calls::close(s, t, c, x, w, j, at);
 }
 
 // The operands and names of the links of chain `j`, up to one that does not lower.
-fn walk(levels: u32, s: &[u8], l: Layout, x: &mut [u32], st: State, j: u32) -> State
-    ensures { λ r. ⌜ (Right (now (s .entry)) → linked.Link (now (s .entry)) j → Does (now (s .entry)) l (now (x .entry)) st (now (x .exit)) r (constructs.steps (now (s .entry)) (lowered levels (now (s .entry))) (flatten.links maxDepth (now (s .entry)) j))) ⌝ }
+fn walk(levels: u32, s: &[u8], t: &[u8; 125], c: &mut [u32; COUNTS], x: &mut [u32], j: u32)
+    ensures { λ _. ⌜ ((l : Layout) → now (t .entry) ≡ effectTable → Right (now (s .entry)) → Linked (now (s .entry)) j → Does (now (s .entry)) l (now (x .entry)) (stateOf (now (c .entry))) (now (x .exit)) (stateOf (now (c .exit))) (constructs.steps (now (s .entry)) (lowered levels (now (s .entry))) (flatten.links maxDepth (now (s .entry)) j))) ⌝ }
 {
-    let mut q = st;
     let mut left = MAX_DEPTH;
-    let mut c = j;
+    let mut at = j;
     while 0 < left {
-        let k = link_of(s, c);
+        let k = link_of(s, at);
         match k {
             Link::Lowers { n, from } => {
-                let t = siblings(levels, s, l, x, q, After::Nothing, n, from);
-                q = steps::step_names(s, l, x, t, c);
-                if goes_on(s, c) {
-                    c = rest_of(s, c);
+                siblings(levels, s, t, c, x, After::Nothing, n, from);
+                steps::step_names(s, c, x, at);
+                if goes_on(s, at) {
+                    at = rest_of(s, at);
                     left -= 1;
                 } else {
-                    return q;
+                    return;
                 }
             }
-            Link::Fails => return q,
-            Link::Nowhere => return q,
+            Link::Fails => return,
+            Link::Nowhere => return,
         }
     }
-    q
 }
 
 // Dot, Index. The code of a chain that fails is taken back.
-fn chain(levels: u32, s: &[u8], l: Layout, x: &mut [u32], st: State, j: u32) -> State
-    ensures { λ r. ⌜ (Right (now (s .entry)) → linked.Link (now (s .entry)) j → Does (now (s .entry)) l (now (x .entry)) st (now (x .exit)) r (constructs.chain (now (s .entry)) (lowered levels (now (s .entry))) j)) ⌝ }
+fn chain(levels: u32, s: &[u8], t: &[u8; 125], c: &mut [u32; COUNTS], x: &mut [u32], j: u32)
+    ensures { λ _. ⌜ ((l : Layout) → now (t .entry) ≡ effectTable → Right (now (s .entry)) → Linked (now (s .entry)) j → Does (now (s .entry)) l (now (x .entry)) (stateOf (now (c .entry))) (now (x .exit)) (stateOf (now (c .exit))) (constructs.chain (now (s .entry)) (lowered levels (now (s .entry))) j)) ⌝ }
 {
     if flattens(s, j) {
         let root = child(j);
-        let q = steps::root_name(s, l, x, st, root);
-        let t = walk(levels, s, l, x, q, j);
+        let code = c[CODE];
+        let depth = c[DEPTH];
+        let deepest = c[DEEPEST];
+        steps::root_name(s, c, x, root);
+        walk(levels, s, t, c, x, j);
         if lowers(s, j) {
-            let u = siblings(levels, s, l, x, t, After::Nothing, temporary(s, root), root);
-            return steps::close_chain(s, l, x, u, j);
+            siblings(levels, s, t, c, x, After::Nothing, temporary(s, root), root);
+            steps::close_chain(s, t, c, x, j);
+            return;
         }
-        let b = take_back(t, st);
-        return residual(l, x, b, j);
+        take_back(c, code, depth, deepest);
+        residual(t, c, x, j);
+        return;
     }
-    residual(l, x, st, j)
+    residual(t, c, x, j);
 }
 
 // Node `j`, with that many levels left.
-pub fn expression(levels: u32, s: &[u8], l: Layout, x: &mut [u32], st: State, j: u32) -> State
-    ensures { λ r. ⌜ (Right (now (s .entry)) → Valid (now (s .entry)) j → Does (now (s .entry)) l (now (x .entry)) st (now (x .exit)) r (lowered levels (now (s .entry)) j)) ⌝ }
+pub fn expression(
+    levels: u32,
+    s: &[u8],
+    t: &[u8; 125],
+    c: &mut [u32; COUNTS],
+    x: &mut [u32],
+    j: u32,
+)
+    ensures { λ _. ⌜ ((l : Layout) → now (t .entry) ≡ effectTable → Right (now (s .entry)) → Valid (now (s .entry)) j → Does (now (s .entry)) l (now (x .entry)) (stateOf (now (c .entry))) (now (x .exit)) (stateOf (now (c .exit))) (lowered levels (now (s .entry)) j)) ⌝ }
 {
     if levels == 0 {
-        return residual(l, x, st, j);
+        residual(t, c, x, j);
+        return;
     }
+    let code = c[CODE];
     let by = rule(s, j);
     match by {
-        Rule::Boolean => emit(l, x, st, Op::Bool(field_a(s, j)), 0, 0),
-        Rule::Unit => emit(l, x, st, Op::Unit, 0, 0),
-        Rule::Constant => constant(s, l, x, st, j),
-        Rule::Interpolated => interpolated(levels - 1, s, l, x, st, j),
-        Rule::Array => array(levels - 1, s, l, x, st, j),
-        Rule::Variable => variable(s, l, x, st, j),
-        Rule::This => emit(l, x, st, Op::LoadThis, position(s, j), 0),
-        Rule::FnCall => call(levels - 1, s, l, x, st, j),
-        Rule::Chain => chain(levels - 1, s, l, x, st, j),
-        Rule::And => short_circuit(levels - 1, s, l, x, st, 0, end_of(levels, s, st, j), j),
-        Rule::Or => short_circuit(levels - 1, s, l, x, st, 1, end_of(levels, s, st, j), j),
-        Rule::Coalesce => coalesce(levels - 1, s, l, x, st, end_of(levels, s, st, j), j),
-        Rule::Residual => residual(l, x, st, j),
+        Rule::Boolean => emit(t, c, x, Op::Bool(field_a(s, j)), 0, 0),
+        Rule::Unit => emit(t, c, x, Op::Unit, 0, 0),
+        Rule::Constant => constant(s, t, c, x, j),
+        Rule::Interpolated => interpolated(levels - 1, s, t, c, x, j),
+        Rule::Array => array(levels - 1, s, t, c, x, j),
+        Rule::Variable => variable(s, t, c, x, j),
+        Rule::This => emit(t, c, x, Op::LoadThis, position(s, j), 0),
+        Rule::FnCall => call(levels - 1, s, t, c, x, j),
+        Rule::Chain => chain(levels - 1, s, t, c, x, j),
+        Rule::And => short_circuit(levels - 1, s, t, c, x, 0, end_of(levels, s, code, j), j),
+        Rule::Or => short_circuit(levels - 1, s, t, c, x, 1, end_of(levels, s, code, j), j),
+        Rule::Coalesce => coalesce(levels - 1, s, t, c, x, end_of(levels, s, code, j), j),
+        Rule::Residual => residual(t, c, x, j),
     }
 }

@@ -1,20 +1,19 @@
-// A name of a node, by its field.
+// A name of a node, by its key.
 ghost use mathlib.Core.Path.{_≡_};
 ghost use Prim.Native.Nat.{ℕ, _+_, _*_, _<_};
-ghost use Rattle.sheet.specs.Layout.{nodeCount};
 ghost use Rattle.sheet.specs.Limits.{maxNodes};
 ghost use Rattle.lowering.specs.Pools.{nameAt};
-ghost use Rattle.lowering.specs.Nodes.{Valid};
 ghost use Rattle.keys.specs.Keys.{nameOf};
+ghost use Rattle.keys.specs.Used.{NameKey};
+ghost use Rattle.scratch.specs.declared.Layout.{Layout};
+ghost use Rattle.store.specs.States.{stateOf};
 ghost use Rattle.store.specs.Holds.{Holds};
 ghost use Rattle.store.specs.Does.{Does};
 ghost use Rattle.emission.specs.Made.{Made, addName};
 use sheet::limits::MAX_NODES;
-use store::Layout;
-use store::Placed;
-use store::State;
+use store::states::COUNTS;
 
-// The key of field `f` of node `j`.
+// The key of the name that `f` says of node `j`: 0 its own, 1 the getter, 2 the setter that it is taken with.
 fn key_of(j: u32, f: u32) -> u32
     ensures { λ r. ⌜ (j < maxNodes → f < 3 → r ≡ 3 * j + f) ⌝ }
 {
@@ -26,10 +25,11 @@ fn key_of(j: u32, f: u32) -> u32
     0
 }
 
-// The name in field `f` of node `j` (0 a, 1 b, 2 c), and where it stands.
-pub fn add_name(s: &[u8], l: Layout, x: &mut [u32], st: State, j: u32, f: u32) -> Placed
-    ensures { λ r. ⌜ (f < 3 → Valid (now (s .entry)) j → Does (now (s .entry)) l (now (x .entry)) st (now (x .exit)) (r .st) (addName (now (s .entry)) (nameOf (now (s .entry)) (3 * j + f)))) ⌝ }
-    ensures { λ r. ⌜ ((a : Made) → f < 3 → Valid (now (s .entry)) j → Holds (now (s .entry)) l (now (x .entry)) st a → r .at ≡ nameAt (now (s .entry)) (nameOf (now (s .entry)) (3 * j + f)) (a .pools)) ⌝ }
+// The name with key 3 · `j` + `f`, and where it stands.
+pub fn add_name(s: &[u8], c: &mut [u32; COUNTS], x: &mut [u32], j: u32, f: u32) -> u32
+    ensures { λ r. ⌜
+        ((l : Layout) → (f < 3 → NameKey (now (s .entry)) (3 * j + f) → Does (now (s .entry)) l (now (x .entry)) (stateOf (now (c .entry))) (now (x .exit)) (stateOf (now (c .exit))) (addName (now (s .entry)) (nameOf (now (s .entry)) (3 * j + f))))
+        × ((a : Made) → f < 3 → NameKey (now (s .entry)) (3 * j + f) → Holds (now (s .entry)) l (now (x .entry)) (stateOf (now (c .entry))) a → r ≡ nameAt (now (s .entry)) (nameOf (now (s .entry)) (3 * j + f)) (a .pools))) ⌝ }
 {
-    store::add_name(s, l, x, st, key_of(j, f))
+    store::add_name(s, c, x, key_of(j, f))
 }

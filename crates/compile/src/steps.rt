@@ -5,8 +5,12 @@ ghost use Rattle.sheet.specs.Node as nodes;
 ghost use Rattle.lowering.specs.Nodes.{Valid};
 ghost use Rattle.lowering.specs.Flatten as flatten;
 ghost use Rattle.chains.specs.Pooled.{Pooled};
+ghost use Rattle.keys.specs.Used.{ChainKey};
 ghost use Rattle.chains.specs.Steps as entries;
 ghost use Rattle.counting.specs.Link as links;
+ghost use Rattle.bytecode.specs.Table.{effectTable};
+ghost use Rattle.scratch.specs.declared.Layout.{Layout};
+ghost use Rattle.store.specs.States.{stateOf};
 ghost use Rattle.store.specs.Holds.{Holds};
 ghost use Rattle.store.specs.Does.{Fits, Does};
 ghost use Rattle.emission.specs.Made.{Made};
@@ -23,50 +27,45 @@ use rules::kinds::VARIABLE;
 use sheet::child;
 use sheet::kind;
 use sheet::position;
-use store::Layout;
-use store::State;
 use store::add_chain;
 use store::emit;
+use store::states::COUNTS;
 
 // A variable's name, for the root of a chain.
-pub fn root_name(s: &[u8], l: Layout, x: &mut [u32], st: State, v: u32) -> State
-    ensures { λ r. ⌜ (Valid (now (s .entry)) v → Does (now (s .entry)) l (now (x .entry)) st (now (x .exit)) r (constructs.rootName (now (s .entry)) v)) ⌝ }
+pub fn root_name(s: &[u8], c: &mut [u32; COUNTS], x: &mut [u32], v: u32)
+    ensures { λ _. ⌜ ((l : Layout) → Valid (now (s .entry)) v → Does (now (s .entry)) l (now (x .entry)) (stateOf (now (c .entry))) (now (x .exit)) (stateOf (now (c .exit))) (constructs.rootName (now (s .entry)) v)) ⌝ }
 {
     if kind(s, v) == VARIABLE {
-        let p = add_name(s, l, x, st, v, 0);
-        return p.st;
+        let _at = add_name(s, c, x, v, 0);
     }
-    st
 }
 
-// The name, getter and setter of property `v`.
-fn property(s: &[u8], l: Layout, x: &mut [u32], st: State, v: u32) -> State
-    ensures { λ r. ⌜ (nodes.kind (now (s .entry)) v ≡ 11 → Valid (now (s .entry)) v → Does (now (s .entry)) l (now (x .entry)) st (now (x .exit)) r (constructs.property (now (s .entry)) v)) ⌝ }
+// The name, getter and setter of property `v`, which a link is taken with.
+fn property(s: &[u8], c: &mut [u32; COUNTS], x: &mut [u32], v: u32, link: u32)
+    ensures { λ _. ⌜ ((l : Layout) → nodes.kind (now (s .entry)) v ≡ 11 → v ≡ flatten.operandOf (now (s .entry)) link → nodes.kind (now (s .entry)) link ≡ 14 → Valid (now (s .entry)) v → Valid (now (s .entry)) link → Does (now (s .entry)) l (now (x .entry)) (stateOf (now (c .entry))) (now (x .exit)) (stateOf (now (c .exit))) (constructs.property (now (s .entry)) v)) ⌝ }
 {
-    let p = add_name(s, l, x, st, v, 0);
-    let q = add_name(s, l, x, p.st, v, 1);
-    let t = add_name(s, l, x, q.st, v, 2);
-    t.st
+    let _name = add_name(s, c, x, v, 0);
+    let _getter = add_name(s, c, x, v, 1);
+    let _setter = add_name(s, c, x, link, 2);
 }
 
 // The name of method `v`.
-fn method(s: &[u8], l: Layout, x: &mut [u32], st: State, v: u32) -> State
-    ensures { λ r. ⌜ (nodes.kind (now (s .entry)) v ≡ 12 → Valid (now (s .entry)) v → Does (now (s .entry)) l (now (x .entry)) st (now (x .exit)) r (stepNames flatten.method (now (s .entry)) v)) ⌝ }
+fn method(s: &[u8], c: &mut [u32; COUNTS], x: &mut [u32], v: u32)
+    ensures { λ _. ⌜ ((l : Layout) → nodes.kind (now (s .entry)) v ≡ 12 → Valid (now (s .entry)) v → Does (now (s .entry)) l (now (x .entry)) (stateOf (now (c .entry))) (now (x .exit)) (stateOf (now (c .exit))) (stepNames flatten.method (now (s .entry)) v)) ⌝ }
 {
-    let p = add_name(s, l, x, st, v, 0);
-    p.st
+    let _name = add_name(s, c, x, v, 0);
 }
 
-// The names of the step of link `c`.
-pub fn step_names(s: &[u8], l: Layout, x: &mut [u32], st: State, c: u32) -> State
-    ensures { λ r. ⌜ (Valid (now (s .entry)) (flatten.operandOf (now (s .entry)) c) → Does (now (s .entry)) l (now (x .entry)) st (now (x .exit)) r (stepNames (flatten.stepRule (now (s .entry)) c) (now (s .entry)) (flatten.operandOf (now (s .entry)) c))) ⌝ }
+// The names of the step of a link.
+pub fn step_names(s: &[u8], c: &mut [u32; COUNTS], x: &mut [u32], link: u32)
+    ensures { λ _. ⌜ ((l : Layout) → Valid (now (s .entry)) (flatten.operandOf (now (s .entry)) link) → ChainKey (now (s .entry)) link → Does (now (s .entry)) l (now (x .entry)) (stateOf (now (c .entry))) (now (x .exit)) (stateOf (now (c .exit))) (stepNames (flatten.stepRule (now (s .entry)) link) (now (s .entry)) (flatten.operandOf (now (s .entry)) link))) ⌝ }
 {
-    let by = step_rule(s, c);
+    let by = step_rule(s, link);
     match by {
-        StepRule::Index => st,
-        StepRule::Property => property(s, l, x, st, operand_of(s, c)),
-        StepRule::Method => method(s, l, x, st, operand_of(s, c)),
-        StepRule::Nothing => st,
+        StepRule::Index => {}
+        StepRule::Property => property(s, c, x, operand_of(s, link), link),
+        StepRule::Method => method(s, c, x, operand_of(s, link)),
+        StepRule::Nothing => {}
     }
 }
 
@@ -78,9 +77,9 @@ fn popped(s: &[u8], j: u32) -> u32
 }
 
 // The chain's entry and Chain.
-pub fn close_chain(s: &[u8], l: Layout, x: &mut [u32], st: State, j: u32) -> State
-    ensures { λ r. ⌜ (Valid (now (s .entry)) j → (a : Made) → Pooled (now (s .entry)) (a .pools .names) j → Holds (now (s .entry)) l (now (x .entry)) st a → Fits l (constructs.closeChain (now (s .entry)) j a) → Holds (now (s .entry)) l (now (x .exit)) r (constructs.closeChain (now (s .entry)) j a)) ⌝ }
+pub fn close_chain(s: &[u8], t: &[u8; 125], c: &mut [u32; COUNTS], x: &mut [u32], j: u32)
+    ensures { λ _. ⌜ ((l : Layout) → now (t .entry) ≡ effectTable → ChainKey (now (s .entry)) j → (a : Made) → Pooled (now (s .entry)) (a .pools .names) j → Holds (now (s .entry)) l (now (x .entry)) (stateOf (now (c .entry))) a → Fits l (constructs.closeChain (now (s .entry)) j a) → Holds (now (s .entry)) l (now (x .exit)) (stateOf (now (c .exit))) (constructs.closeChain (now (s .entry)) j a)) ⌝ }
 {
-    let p = add_chain(s, l, x, st, j);
-    emit(l, x, p.st, Op::Chain(p.at), position(s, j), popped(s, j))
+    let at = add_chain(s, c, x, j);
+    emit(t, c, x, Op::Chain(at), position(s, j), popped(s, j));
 }

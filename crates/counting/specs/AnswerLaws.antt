@@ -1,5 +1,5 @@
 -- Laws of the count by the answers of the code: each result that the code reads is given by an equation.
-use Prim.Native.Nat.{ℕ, _+_, _-_, _≤_, _<_, min}
+use Prim.Native.Nat.{ℕ, _+_, _*_, _-_, _≤_, _<_, min}
 use mathlib.Core.Path.{_≡_, sym, ap, ap₂, _∙_}
 use mathlib.Core.Bool.{Bool, true, false}
 use mathlib.Core.List.{List}
@@ -21,7 +21,7 @@ use Rattle.counting.specs.PlanLaws.{array-few, array-many}
 use Rattle.counting.specs.Link.{link, grade, least, temporary}
 use Rattle.counting.specs.LinkLaws.{reach-starts, reach-more, reach-last, reach-done}
 use Rattle.counting.specs.Count.{Rec, siblings, coalesce, walk, chain, tally}
-use Rattle.counting.specs.CodeLaws.{nothing-capped, sum-starts, sum-more, sum-done, walk-more, walk-last, walk-fails, walk-nowhere, walk-done, chain-stays, chain-fails, chain-lowers, coalesce-counts, tally-parts}
+use Rattle.counting.specs.CodeLaws.{nothing-capped, sum-starts, sum-leaf, sum-node, sum-done, walk-more, walk-last, walk-fails, walk-nowhere, walk-done, chain-stays, chain-fails, chain-lowers, coalesce-counts, tally-parts}
 
 -- ---- plans
 
@@ -48,36 +48,57 @@ sum-cut a b h = ap capped h ∙ capped-capped (plus a b) ∙ sym h
 nothing-cut : {a : Tally} → a ≡ nothing → capped a ≡ a
 nothing-cut e = ap capped e ∙ nothing-capped ∙ sym e
 
--- ---- siblings: i of n are passed, with node j next, and a is their sum
+-- ---- siblings: i of n are passed, with node j next; `leaves` of them are leaves, and a is the sum of the others, without the gaps
 
-pub record SumLeft (s : List ℕ) (t : Rec) (gap n from : ℕ) (a : Tally) (i j : ℕ) : Type 0 where
-  pub cut : capped a ≡ a
-  pub rest : capped (plus a (siblings s t gap (n - i) j)) ≡ capped (siblings s t gap n from)
+pub record SumLeft (s : List ℕ) (t : Rec) (gap n from : ℕ) (a : Tally) (leaves i j : ℕ) : Type 0 where
+  pub few : leaves ≤ i
+  pub within : i ≤ n
+  pub rest : capped (plus a (plus (instructions (leaves + gap * i)) (siblings s t gap (n - i) j))) ≡ capped (siblings s t gap n from)
 
 module _ (s : List ℕ) (t : Rec) (gap n from : ℕ) where
-  pub sum-begins : {a : Tally} → a ≡ nothing → SumLeft s t gap n from a 0 from
+  pub sum-begins : {a : Tally} → a ≡ nothing → SumLeft s t gap n from a 0 0 from
   sum-begins e =
       record {
-        cut = nothing-cut e;
-        rest = ap (λ (x : Tally). capped (plus x (siblings s t gap (n - 0) from))) e ∙ sum-starts s t gap n from;
+        few = omega arith;
+        within = omega arith;
+        rest =
+            ap (λ (x : Tally). capped (plus x (plus (instructions (0 + gap * 0)) (siblings s t gap (n - 0) from)))) e
+            ∙ sum-starts s t gap n from;
       }
 
-  module _ (i j : ℕ) (a : Tally) (S : SumLeft s t gap n from a i j) where
-    pub sum-goes :
-        {u g v b : Tally} {k : ℕ} → i < n → u ≡ capped (t j) → g ≡ instructions gap → v ≡ capped (plus u g) → b ≡ capped (plus a v)
-        → k ≡ next s j → SumLeft s t gap n from b (i + 1) k
-    sum-goes {v = v} h u-is g-is v-is b-is k-is =
-        let all = b-is ∙ ap (λ (x : Tally). capped (plus a x)) (sum-by u-is g-is v-is) in
+  module _ (leaves i j : ℕ) (a : Tally) (S : SumLeft s t gap n from a leaves i j) where
+    pub sum-passes : {k : ℕ} → i < n → t j ≡ instructions 1 → k ≡ next s j → SumLeft s t gap n from a (leaves + 1) (i + 1) k
+    sum-passes h one k-is =
         record {
-          cut = sum-cut a v b-is;
+          few = omega (arith, S .few);
+          within = omega arith;
           rest =
-              ap₂ (λ (x : Tally) (m : ℕ). capped (plus x (siblings s t gap (n - (i + 1)) m))) all k-is
-              ∙ sum-more s t gap n i j a h
+              ap (λ m. capped (plus a (plus (instructions (leaves + 1 + gap * (i + 1))) (siblings s t gap (n - (i + 1)) m)))) k-is
+              ∙ sum-leaf s t gap n leaves i j a h one
               ∙ S .rest;
         }
 
-    pub sum-ends : n ≤ i → a ≡ capped (siblings s t gap n from)
-    sum-ends h = sum-done s t gap n i j a h (S .cut) ∙ S .rest
+    pub sum-goes :
+        {u b : Tally} {k : ℕ} → i < n → u ≡ capped (t j) → b ≡ capped (plus a u) → k ≡ next s j
+        → SumLeft s t gap n from b leaves (i + 1) k
+    sum-goes h u-is b-is k-is =
+        let all = b-is ∙ ap (λ (x : Tally). capped (plus a x)) u-is in
+        record {
+          few = omega (arith, S .few);
+          within = omega arith;
+          rest =
+              ap₂
+              (λ (x : Tally) (m : ℕ). capped (plus x (plus (instructions (leaves + gap * (i + 1))) (siblings s t gap (n - (i + 1)) m))))
+              all k-is
+              ∙ sum-node s t gap n leaves i j a h
+              ∙ S .rest;
+        }
+
+    pub sum-ends :
+        {g b : Tally} → n ≤ i → g ≡ instructions (leaves + gap * n) → b ≡ capped (plus a g)
+        → b ≡ capped (siblings s t gap n from)
+    sum-ends h g-is b-is =
+        b-is ∙ ap (λ (x : Tally). capped (plus a x)) g-is ∙ sum-done s t gap n leaves i j a h (S .within) ∙ S .rest
 
 -- ---- links: at most `left` more, with c next, and a is the sum of those passed
 

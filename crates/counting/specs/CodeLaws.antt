@@ -1,20 +1,22 @@
 -- Laws of the count, in the shapes of the code: sums that are cut off on the way, and what is left of a loop.
-use Prim.Native.Nat.{ℕ, zero, suc, _+_, _-_, _≤_, _<_}
+use Prim.Native.Nat.{ℕ, zero, suc, _+_, _*_, _-_, _≤_, _<_}
 use mathlib.Core.Path.{_≡_, refl, sym, ap, _∙_}
-use mathlib.Core.Bool.{true, false}
+use mathlib.Core.Bool.{true, false, _||_}
 use mathlib.Core.List.{List, [], _∷_}
 use native.Mathlib.Omega.{arith}
 use native.Mathlib.Nat.{sub-zero}
 use Rattle.sheet.specs.Limits.{maxDepth}
-use Rattle.sheet.specs.Node.{count, child, next}
+use Rattle.sheet.specs.Node.{kind, count, child, next}
 use Rattle.sheet.specs.Walk.{skip}
 use Rattle.lowering.specs.Flatten.{restOf, goesOn, links}
 use Rattle.counting.specs.declared.tallies.Tally.{Tally}
 use Rattle.counting.specs.declared.plans.Plan.the-variants.{Parts, Coalesce, Chain}
 use Rattle.counting.specs.declared.links.Link.the-variants.{Lowers, Fails, Nowhere}
 use Rattle.counting.specs.Tally.{instructions, nothing, plus, takenBack, capped}
-use Rattle.counting.specs.TallyLaws.{plus-nothing, nothing-plus, plus-assoc, capped-left, capped-right, capped-both, back-capped}
-use Rattle.counting.specs.Plan.{plan}
+use Rattle.counting.specs.TallyLaws.{tally-path, or-false, plus-nothing, nothing-plus, plus-assoc}
+use Rattle.counting.specs.TallyLaws.{capped-left, capped-right, capped-both, back-capped}
+use Rattle.counting.specs.Plan.{isLeaf, plan}
+use Rattle.counting.specs.PlanLaws.{leaf-plan}
 use Rattle.counting.specs.Link.{link, least, temporary}
 use Rattle.counting.specs.LinkLaws.{links-more, links-last, links-some, links-none}
 use Rattle.counting.specs.Count.{Rec, siblings, coalesce, walkOn, walk, chainBy, chain, follow, tally}
@@ -43,29 +45,94 @@ capped-more a b c =
 pub capped-none : (a : Tally) → capped a ≡ a → a ≡ capped (plus a nothing)
 capped-none a h = sym h ∙ ap capped (sym (plus-nothing a))
 
--- ---- siblings: i of n are passed, with node j next, and a is their sum
+-- ---- siblings: i of n are passed, with node j next; `leaves` of them are leaves, and a is the sum of the others, without the gaps
+
+-- a leaf and its gap
+spaced-leaf :
+    (p gap : ℕ) (x : Tally)
+    → plus (instructions (p + (1 + gap))) x ≡ plus (instructions p) (plus (plus (instructions 1) (instructions gap)) x)
+unfolding plus instructions
+spaced-leaf p gap x = tally-path (omega arith) (omega arith) refl
+
+-- another node and its gap
+spaced-node :
+    (p gap : ℕ) (u x : Tally)
+    → plus u (plus (instructions (p + gap)) x) ≡ plus (instructions p) (plus (plus u (instructions gap)) x)
+unfolding plus instructions
+spaced-node p gap u x =
+    tally-path (omega arith) (omega arith) (ap (λ b. b || x .defeated) (sym (or-false (u .defeated))))
 
 module _ (s : List ℕ) (t : Rec) (gap n : ℕ) where
-  pub sum-starts : (j : ℕ) → capped (plus nothing (siblings s t gap (n - 0) j)) ≡ capped (siblings s t gap n j)
-  sum-starts j = ap capped (nothing-plus (siblings s t gap (n - 0) j)) ∙ ap (λ m. capped (siblings s t gap m j)) (sub-zero n)
+  -- where there are none
+  no-sum : (j : ℕ) → capped (siblings s t gap 0 j) ≡ nothing
+  unfolding siblings nothing instructions capped
+  no-sum j = refl
 
-  sibling-next : (m j : ℕ) → siblings s t gap (suc m) j ≡ plus (plus (t j) (instructions gap)) (siblings s t gap m (next s j))
+  pub sum-none : {r : Tally} (j : ℕ) → n ≡ 0 → r ≡ nothing → r ≡ capped (siblings s t gap n j)
+  sum-none j e h = h ∙ sym (ap (λ m. capped (siblings s t gap m j)) e ∙ no-sum j)
+
+  pub sum-starts :
+      (j : ℕ)
+      → capped (plus nothing (plus (instructions (0 + gap * 0)) (siblings s t gap (n - 0) j))) ≡ capped (siblings s t gap n j)
+  unfolding nothing
+  sum-starts j =
+      let e : 0 + gap * 0 ≡ 0 = omega arith in
+      let rest = siblings s t gap (n - 0) j in
+      ap capped (nothing-plus (plus (instructions (0 + gap * 0)) rest))
+      ∙ ap (λ m. capped (plus (instructions m) rest)) e
+      ∙ ap capped (nothing-plus rest)
+      ∙ ap (λ m. capped (siblings s t gap m j)) (sub-zero n)
+
+  sibling-next :
+      (i j : ℕ) → i < n
+      → plus (plus (t j) (instructions gap)) (siblings s t gap (n - (i + 1)) (next s j)) ≡ siblings s t gap (n - i) j
   unfolding siblings
-  sibling-next m j = refl
+  sibling-next i j h = let e : n - i ≡ suc (n - (i + 1)) = omega arith in rw e refl
 
-  pub sum-more : (i j : ℕ) (a : Tally) → i < n
-      → capped (plus (capped (plus a (capped (plus (capped (t j)) (instructions gap))))) (siblings s t gap (n - (i + 1)) (next s j)))
-      ≡ capped (plus a (siblings s t gap (n - i) j))
-  sum-more i j a h =
-      let e : n - i ≡ suc (n - (i + 1)) = omega arith in
-      let rest = siblings s t gap (n - (i + 1)) (next s j) in
-      ap (λ x. capped (plus (capped (plus a x)) rest)) (capped-left (t j) (instructions gap))
-      ∙ capped-more a (plus (t j) (instructions gap)) rest
-      ∙ ap (λ x. capped (plus a x)) (sym (sibling-next (n - (i + 1)) j) ∙ ap (λ m. siblings s t gap m j) (sym e))
+  module _ (leaves i j : ℕ) (a : Tally) where
+    abbrev passed : Tally
+    passed = instructions (leaves + gap * i)
 
-  pub sum-done : (i j : ℕ) (a : Tally) → n ≤ i → capped a ≡ a → a ≡ capped (plus a (siblings s t gap (n - i) j))
-  unfolding siblings
-  sum-done i j a h k = let e : n - i ≡ 0 = omega arith in rw e (capped-none a k)
+    pub sum-leaf : i < n → t j ≡ instructions 1
+        → capped (plus a (plus (instructions (leaves + 1 + gap * (i + 1))) (siblings s t gap (n - (i + 1)) (next s j))))
+        ≡ capped (plus a (plus (instructions (leaves + gap * i)) (siblings s t gap (n - i) j)))
+    sum-leaf h one =
+        let e : leaves + 1 + gap * (i + 1) ≡ leaves + gap * i + (1 + gap) = omega arith in
+        let rest = siblings s t gap (n - (i + 1)) (next s j) in
+        ap (λ m. capped (plus a (plus (instructions m) rest))) e
+        ∙ ap (λ x. capped (plus a x)) (spaced-leaf (leaves + gap * i) gap rest)
+        ∙ ap (λ u. capped (plus a (plus passed (plus (plus u (instructions gap)) rest)))) (sym one)
+        ∙ ap (λ x. capped (plus a (plus passed x))) (sibling-next i j h)
+
+    pub sum-node : i < n
+        → capped
+        (plus (capped (plus a (capped (t j))))
+        (plus (instructions (leaves + gap * (i + 1))) (siblings s t gap (n - (i + 1)) (next s j))))
+        ≡ capped (plus a (plus (instructions (leaves + gap * i)) (siblings s t gap (n - i) j)))
+    sum-node h =
+        let e : leaves + gap * (i + 1) ≡ leaves + gap * i + gap = omega arith in
+        let rest = siblings s t gap (n - (i + 1)) (next s j) in
+        capped-more a (t j) (plus (instructions (leaves + gap * (i + 1))) rest)
+        ∙ ap (λ m. capped (plus a (plus (t j) (plus (instructions m) rest)))) e
+        ∙ ap (λ x. capped (plus a x)) (spaced-node (leaves + gap * i) gap (t j) rest)
+        ∙ ap (λ x. capped (plus a (plus passed x))) (sibling-next i j h)
+
+    pub sum-done : n ≤ i → i ≤ n
+        → capped (plus a (instructions (leaves + gap * n)))
+        ≡ capped (plus a (plus (instructions (leaves + gap * i)) (siblings s t gap (n - i) j)))
+    unfolding siblings
+    sum-done h l =
+        let e : n - i ≡ 0 = omega arith in
+        let k : n ≡ i = omega arith in
+        ap (λ m. capped (plus a (instructions (leaves + gap * m)))) k
+        ∙ ap (λ x. capped (plus a x)) (sym (plus-nothing passed))
+        ∙ ap (λ m. capped (plus a (plus passed (siblings s t gap m j)))) (sym e)
+
+-- a leaf is one instruction, with any number of levels
+pub leaf-tally : (levels : ℕ) (s : List ℕ) (j : ℕ) → isLeaf (kind s j) ≡ true → tally levels s j ≡ instructions 1
+unfolding tally follow siblings
+leaf-tally zero s j h = refl
+leaf-tally (suc levels) s j h = ap (λ p. follow p s (tally levels s) j) (leaf-plan s j h) ∙ nothing-plus (instructions 1)
 
 -- ---- links: at most `left` more, with c next, and a is the sum of those passed
 

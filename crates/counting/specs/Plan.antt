@@ -1,7 +1,7 @@
 -- What of a node is counted, construct by construct: siblings with a gap behind each of them, and instructions besides. Each plan stands
 -- beside the lowering's definition of the same construct. A plan goes by the node alone, and not down into its operands.
 use Prim.Native.Nat.{ℕ, _+_, _-_}
-use mathlib.Core.Bool.{true, false}
+use mathlib.Core.Bool.{Bool, true, false, _&&_, _||_}
 use mathlib.Core.List.{List}
 use lib.Dec.{leb, eqb}
 use Rattle.sheet.specs.Node.{count, child, next}
@@ -21,6 +21,10 @@ alone t = Parts 0 0 0 t
 
 abbrev pub one : Plan
 one = alone (instructions 1)
+
+-- a kind whose nodes are one instruction without operands: Bool, Unit, the constants, Variable, This
+unfoldable pub isLeaf : ℕ → Bool
+isLeaf k = (leb 1 k && leb k 6) || eqb k 9 || eqb k 10
 
 -- CheckSize behind each element; MakeArray
 unfoldable pub array : List ℕ → ℕ → Plan

@@ -1,15 +1,16 @@
 -- Laws of plans and links, in the shapes of the code: what is counted, by the code's name of the rule.
-use Prim.Native.Nat.{ℕ, _≤_, _<_}
-use mathlib.Core.Path.{_≡_, refl, ap}
-use mathlib.Core.Bool.{Bool, true, false, _||_}
+use Prim.Native.Nat.{ℕ, zero, suc, _≤_, _<_}
+use mathlib.Core.Path.{_≡_, refl, sym, ap, _∙_}
+use mathlib.Core.Bool.{Bool, true, false, _||_, false≢true}
 use mathlib.Core.List.{List}
 use native.Mathlib.Omega.{arith}
 use lib.Dec.{eqb}
+use lib.ListN.{getD}
 use borrow.Author.Tests.{eq-eqb, ne-eqb, le-leb, lt-leb}
 use Rattle.sheet.specs.Node.{kind, count, child}
 use Rattle.lowering.specs.Limits.{maxElements}
 use Rattle.lowering.specs.Call.{callRule, receiver}
-use Rattle.lowering.specs.Expression.{rule}
+use Rattle.lowering.specs.Expression.{rules, rule, residual}
 use Rattle.lowering.specs.Flatten as Flatten
 use Rattle.lowering.specs.Flatten.{operandOf, stepRule}
 use Rattle.lowering.specs.Steps.{isLowerableMethod}
@@ -22,10 +23,36 @@ use Rattle.rules.specs.Inverse.{ruleFrom, callRuleFrom, firstFrom, stepRuleFrom
 use Rattle.counting.specs.declared.plans.Plan.the-variants.{Parts}
 use Rattle.counting.specs.declared.links.Link.the-variants.{Lowers, Fails}
 use Rattle.counting.specs.Tally.{instructions}
-use Rattle.counting.specs.Plan.{one, array, rotates, callBy, fnCallBy, fnCall, planBy, plan}
+use Rattle.counting.specs.Plan.{one, isLeaf, array, rotates, callBy, fnCallBy, fnCall, planBy, plan}
 use Rattle.counting.specs.Link.{linkBy, link, temporary}
 
+leaf-large : (k : ℕ) → 10 < k → isLeaf k ≡ false
+unfolding isLeaf
+leaf-large k h =
+    rw (le-leb 1 k (omega arith), lt-leb k 6 (omega arith), ne-eqb k 9 (λ e. omega arith), ne-eqb k 10 (λ e. omega arith)) refl
+
+-- a leaf's plan, kind by kind
+leaf-at : (s : List ℕ) (j k : ℕ) → isLeaf k ≡ true → planBy (getD rules k residual) s j ≡ one
+unfolding isLeaf rules planBy
+leaf-at s j zero h = absurd (false≢true h)
+leaf-at s j (suc zero) h = refl
+leaf-at s j (suc (suc zero)) h = refl
+leaf-at s j (suc (suc (suc zero))) h = refl
+leaf-at s j (suc (suc (suc (suc zero)))) h = refl
+leaf-at s j (suc (suc (suc (suc (suc zero))))) h = refl
+leaf-at s j (suc (suc (suc (suc (suc (suc zero)))))) h = refl
+leaf-at s j (suc (suc (suc (suc (suc (suc (suc zero))))))) h = absurd (false≢true h)
+leaf-at s j (suc (suc (suc (suc (suc (suc (suc (suc zero)))))))) h = absurd (false≢true h)
+leaf-at s j (suc (suc (suc (suc (suc (suc (suc (suc (suc zero))))))))) h = refl
+leaf-at s j (suc (suc (suc (suc (suc (suc (suc (suc (suc (suc zero)))))))))) h = refl
+leaf-at s j (suc (suc (suc (suc (suc (suc (suc (suc (suc (suc (suc k))))))))))) h =
+    absurd (false≢true (sym (leaf-large (suc (suc (suc (suc (suc (suc (suc (suc (suc (suc (suc k))))))))))) (omega arith)) ∙ h))
+
 module _ (s : List ℕ) (j : ℕ) where
+  pub leaf-plan : isLeaf (kind s j) ≡ true → plan s j ≡ one
+  unfolding plan rule
+  leaf-plan h = leaf-at s j (kind s j) h
+
   pub plan-at : (k : Kinds.Rule) → ruleOf (rule s j) ≡ k → planBy (ruleFrom k) s j ≡ plan s j
   unfolding plan
   plan-at k h = ap (λ r. planBy r s j) (rule-is (rule s j) k h)

@@ -16,12 +16,14 @@ use links::link_of;
 use links::reach;
 use links::temporary;
 use plans::Plan;
+use plans::is_leaf;
 use plans::one_less;
 use plans::plan_of;
 use rules::chains::goes_on;
 use rules::chains::rest_of;
 use sheet::child;
 use sheet::count;
+use sheet::kind;
 use sheet::limits::MAX_DEPTH;
 use sheet::next;
 use sheet::skip;
@@ -29,22 +31,32 @@ use tallies::Tally;
 use tallies::instructions;
 use tallies::nothing;
 use tallies::plus;
+use tallies::spaced;
 use tallies::taken_back;
 
-// `n` siblings from node `from` on, each with `gap` instructions behind it, with `levels` levels each.
+// `n` siblings from node `from` on, each with `gap` instructions behind it, with `levels` levels each. Leaves are counted without a call.
 fn siblings(levels: u32, s: &[u8], gap: u32, n: u32, from: u32) -> Tally
     ensures { λ r. ⌜ r ≡ capped (counts.siblings (now (s .entry)) (counts.tally levels (now (s .entry))) gap n from) ⌝ }
 {
+    if n == 0 {
+        return nothing();
+    }
     let mut sum = nothing();
+    let mut leaves: u32 = 0;
     let mut i: u32 = 0;
     let mut j = from;
     while i < n {
-        let t = tally(levels, s, j);
-        sum = plus(sum, plus(t, instructions(gap)));
-        j = next(s, j);
-        i += 1;
+        if is_leaf(kind(s, j)) {
+            leaves += 1;
+            j = next(s, j);
+            i += 1;
+        } else {
+            sum = plus(sum, tally(levels, s, j));
+            j = next(s, j);
+            i += 1;
+        }
     }
-    sum
+    plus(sum, spaced(leaves, gap, n))
 }
 
 // Coalesce: two instructions behind each operand but the last.

@@ -48,6 +48,13 @@ fn one() -> Plan
     alone(instructions(1))
 }
 
+// A node of kind `k` is one instruction without operands: Bool, Unit, the constants, Variable, This.
+pub fn is_leaf(k: u32) -> bool
+    ensures { λ r. ⌜ r ≡ plans.isLeaf k ⌝ }
+{
+    ((1 <= k) & (k <= 6)) | (k == 9) | (k == 10)
+}
+
 // One less, and not below 0.
 pub fn one_less(n: u32) -> u32
     ensures { λ r. ⌜ r ≡ n - 1 ⌝ }

@@ -1,6 +1,6 @@
 // Tallies: counts that are cut off at a bound, so that no sum overflows.
 ghost use mathlib.Core.Path.{_≡_};
-ghost use Prim.Native.Nat.{_+_, min};
+ghost use Prim.Native.Nat.{_+_, _*_, min};
 ghost use Rattle.counting.specs.Limits.{cap};
 ghost use Rattle.counting.specs.Tally as tallies;
 
@@ -35,6 +35,18 @@ pub fn instructions(n: u32) -> Tally
     ensures { λ r. ⌜ r ≡ tallies.instructions n ⌝ }
 {
     let k = n as u64;
+    Tally {
+        len: k,
+        emitted: k,
+        defeated: false,
+    }
+}
+
+// `n` instructions, and `gap` more for each of `m`.
+pub fn spaced(n: u32, gap: u32, m: u32) -> Tally
+    ensures { λ r. ⌜ r ≡ tallies.instructions (n + gap * m) ⌝ }
+{
+    let k = (n as u64) + (gap as u64) * (m as u64);
     Tally {
         len: k,
         emitted: k,

@@ -11,7 +11,7 @@ use Rattle.lowering.specs.Arms.{Guard, never, always, tried, guardKind}
 use Rattle.emission.specs.Made.{Made, lowered}
 use Rattle.emission.specs.Construct.{Low}
 use Rattle.emission.specs.Rising.{lowered-rises}
-use Rattle.store.specs.declared.Layout.{Layout}
+use Rattle.scratch.specs.declared.Layout.{Layout}
 use Rattle.store.specs.declared.State.{State}
 use Rattle.store.specs.Does.{Does, does-same, Left, left-by, left-done}
 use Rattle.switching.specs.Change.{tryTo, anyTried, armTo}

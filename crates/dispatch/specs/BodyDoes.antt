@@ -13,9 +13,10 @@ use Rattle.lowering.specs.SwitchSheet.{blockCount, bodyOf}
 use Rattle.emission.specs.Made.{Made, emit, atDepth, lowered}
 use Rattle.emission.specs.Construct.{Low}
 use Rattle.emission.specs.Rising.{lowered-rises}
-use Rattle.store.specs.declared.Layout.{Layout}
+use Rattle.scratch.specs.declared.Layout.{Layout}
 use Rattle.store.specs.declared.State.{State}
 use Rattle.store.specs.States as states
+use Rattle.store.specs.States.{stateOf, Full}
 use Rattle.store.specs.Does.{Growing, growing-seq, Does, does-none, does-seq}
 use Rattle.switching.specs.Change.{jumpTo, bodyTo, bodiesTo, missingTo, closeTo}
 use Rattle.switching.specs.LastLaws.{lastOf, bodies-next, bodies-skip, bodies-done, bodies-start, missing-none, missing-some, close-steps}
@@ -25,7 +26,8 @@ use Rattle.compile.specs.CycleDoes.{low-grows}
 use Rattle.dispatch.specs.declared.Targets.{Targets}
 use Rattle.dispatch.specs.Ready.{Ready}
 use Rattle.dispatch.specs.Parts.{wantIn, bodyIf}
-use Rattle.dispatch.specs.From.{From, LeftFrom, from-start, from-by, from-end, from-seq, from-same, does-from, depth-from, depth-growing}
+use Rattle.dispatch.specs.From.{From, LeftFrom, from-start, from-by, from-end}
+use Rattle.dispatch.specs.From.{from-seq, from-same, does-from, depth-from, depth-growing}
 
 jump-growing : (drop : Bool) (to : ℕ) → Growing (jumpTo drop to)
 jump-growing drop to = record { each = λ a. jump-rises drop to a .emitted }
@@ -47,16 +49,16 @@ module _ (want : ℕ → Bool) (s : List ℕ) (low : Low) (end : ℕ) (drop : Bo
 -- ---- one body
 
 module _ {s : List ℕ} {l : Layout} (want : ℕ → Bool) (end : ℕ) (drop : Bool) (k : ℕ) where
-  pub body-does : {xs ys zs : List ℕ} {st p q r : State} (j : ℕ) → want k ≡ true → j ≡ bodyOf s k → Ready s → k < blockCount s
-      → p ≡ states.atDepth st 1
+  pub body-does : {xs ys zs : List ℕ} {p q r : State} (c : List ℕ) (j : ℕ) → want k ≡ true → j ≡ bodyOf s k → Ready s → k < blockCount s
+      → (Full c → p ≡ states.atDepth (stateOf c) 1)
       → (Right s → Valid s j → Does s l xs p ys q (lowered maxDepth s j)) → Does s l ys q zs r (jumpTo drop end)
-      → From s l xs st zs r (bodyIf want s (lowered maxDepth s) end drop k)
-  body-does {xs} {ys} {zs} {st} {p} {q} {r} j h j-is C lt p-is d e =
+      → From s l xs (stateOf c) zs r (bodyIf want s (lowered maxDepth s) end drop k)
+  body-does {xs} {ys} {zs} {p} {q} {r} c j h j-is C lt p-is d e =
       let v : Valid s j = subst (Valid s) (sym j-is) (body-valid s (C .right) (C .switch) k lt) in
       from-same (bodyIf want s (lowered maxDepth s) end drop k)
       (λ a. body-steps s (lowered maxDepth s) end drop k a ∙ sym (body-yes want s (lowered maxDepth s) end drop k a h))
       (from-seq (depth-growing 1) (growing-seq (low-grows maxDepth s (bodyOf s k)) (jump-growing drop end))
-      (depth-from xs st p 1 (omega arith) p-is)
+      (depth-from xs c p 1 (omega arith) p-is)
       (does-from (does-seq (jump-growing drop end) (does-at (lowered maxDepth s) j-is (d (C .right) v)) e)))
 
   pub body-skips : {xs : List ℕ} {st : State} → want k ≡ false → From s l xs st xs st (bodyIf want s (lowered maxDepth s) end drop k)
@@ -72,7 +74,8 @@ pub record BodiesLeft (s : List ℕ) (l : Layout) (ws : List ℕ) (st : State) (
   pub rest : LeftFrom s l ws st (bodiesTo s (lowered maxDepth s) (wantIn t) (t .end) falls n 0) xs q
       (bodiesTo s (lowered maxDepth s) (wantIn t) (t .end) falls (n - k) k)
 
-pub bodies-begin : {s : List ℕ} {l : Layout} {ws : List ℕ} {st : State} (t : Targets) (falls : Bool) (n : ℕ) → BodiesLeft s l ws st t falls n ws st 0
+pub bodies-begin : {s : List ℕ} {l : Layout} {ws : List ℕ} {st : State} (t : Targets) (falls : Bool) (n : ℕ)
+    → BodiesLeft s l ws st t falls n ws st 0
 bodies-begin {s} {l} {ws} {st} t falls n = record {
   rest = from-start ws st (bodiesTo s (lowered maxDepth s) (wantIn t) (t .end) falls n 0)
       (bodiesTo s (lowered maxDepth s) (wantIn t) (t .end) falls (n - 0) 0)
@@ -116,7 +119,8 @@ module _ {s : List ℕ} {l : Layout} {ws xs : List ℕ} {st q : State} {t : Targ
             (body-grows (wantIn t) s (t .end) b k (wantIn t k) refl)
             (record {
               each = λ a.
-                  bodies-lengthen s (lowered maxDepth s) (lowered-rises maxDepth s) (t .end) (wantIn t) falls (n - (k + 1)) (k + 1) a .emitted;
+                  bodies-lengthen s (lowered maxDepth s) (lowered-rises maxDepth s) (t .end) (wantIn t) falls (n - (k + 1))
+                  (k + 1) a .emitted;
             });
       }
 
@@ -133,11 +137,11 @@ bodies-whole {s} {l} {xs} {ys} {st} {r} t falls e d =
 -- ---- the end
 
 module _ {s : List ℕ} {l : Layout} where
-  pub missing-does : {xs ys : List ℕ} {st p r : State} (def : ℕ) → def ≡ 0 → p ≡ states.atDepth st 1 → Does s l xs p ys r (emit Unit noPos 0)
-      → From s l xs st ys r (missingTo def)
-  missing-does {xs} {ys} {st} {p} def h p-is d =
+  pub missing-does : {xs ys : List ℕ} {p r : State} (c : List ℕ) (def : ℕ) → def ≡ 0 → (Full c → p ≡ states.atDepth (stateOf c) 1)
+      → Does s l xs p ys r (emit Unit noPos 0) → From s l xs (stateOf c) ys r (missingTo def)
+  missing-does {xs} {ys} {p} c def h p-is d =
       from-same (missingTo def) (λ a. sym (missing-none def a h))
-      (from-seq (depth-growing 1) (growing-emit Unit noPos 0) (depth-from xs st p 1 (omega arith) p-is) (does-from d))
+      (from-seq (depth-growing 1) (growing-emit Unit noPos 0) (depth-from xs c p 1 (omega arith) p-is) (does-from d))
 
   pub missing-not : {xs : List ℕ} {st : State} (def : ℕ) → (def ≡ 0 → ⊥) → From s l xs st xs st (missingTo def)
   missing-not {xs} {st} def h = from-same (missingTo def) (λ a. sym (missing-some def a (some def h))) (does-from (does-none xs st))
@@ -146,9 +150,10 @@ module _ {s : List ℕ} {l : Layout} where
       some zero h = absurd (h refl)
       some (suc d) h = omega arith
 
-  pub close-does : {xs ys zs : List ℕ} {st p q r : State} → p ≡ states.atDepth st 2 → Does s l xs p ys q (emit (Rotate 1) noPos 0)
-      → Does s l ys q zs r (emit Pop noPos 0) → From s l xs st zs r closeTo
-  close-does {xs} {ys} {zs} {st} {p} p-is d e =
+  pub close-does : {xs ys zs : List ℕ} {p q r : State} (c : List ℕ) → (Full c → p ≡ states.atDepth (stateOf c) 2)
+      → Does s l xs p ys q (emit (Rotate 1) noPos 0) → Does s l ys q zs r (emit Pop noPos 0) → From s l xs (stateOf c) zs r closeTo
+  close-does {xs} {ys} {zs} {p} c p-is d e =
       from-same closeTo (λ a. sym (close-steps a))
-      (from-seq (depth-growing 2) (growing-seq (growing-emit (Rotate 1) noPos 0) (growing-emit Pop noPos 0)) (depth-from xs st p 2 (omega arith) p-is)
+      (from-seq (depth-growing 2) (growing-seq (growing-emit (Rotate 1) noPos 0) (growing-emit Pop noPos 0)) (depth-from xs c p 2
+      (omega arith) p-is)
       (does-from (does-seq (growing-emit Pop noPos 0) d e)))

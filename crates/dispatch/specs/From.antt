@@ -4,12 +4,13 @@ use mathlib.Core.Path.{_≡_, sym, _∙_, subst}
 use mathlib.Core.List.{List}
 use native.Mathlib.Omega.{arith}
 use Rattle.emission.specs.Made.{Made, atDepth}
-use Rattle.store.specs.declared.Layout.{Layout}
+use Rattle.scratch.specs.declared.Layout.{Layout}
 use Rattle.store.specs.declared.State.{State}
 use Rattle.store.specs.States as states
+use Rattle.store.specs.States.{stateOf, Full}
 use Rattle.store.specs.Holds.{Holds}
 use Rattle.store.specs.Does.{Fits, Growing, Does}
-use Rattle.store.specs.ResidualLaws.{depth-holds}
+use Rattle.compile.specs.EndDoes.{held-at-depth}
 use Rattle.emission.specs.Growing as grows
 
 -- two instructions have been emitted
@@ -27,7 +28,8 @@ pub record RestFrom (s : List ℕ) (l : Layout) (ys : List ℕ) (r : State) (G :
   pub same : G now ≡ z
 
 -- F is to be done from (xs, st); what is left to do at (ys, r) is G
-pub record LeftFrom (s : List ℕ) (l : Layout) (xs : List ℕ) (st : State) (F : Made → Made) (ys : List ℕ) (r : State) (G : Made → Made) : Type 0 where
+pub record LeftFrom (s : List ℕ) (l : Layout) (xs : List ℕ) (st : State) (F : Made → Made) (ys : List ℕ) (r : State)
+    (G : Made → Made) : Type 0 where
   pub each : (a : Made) → Begun a → Holds s l xs st a → Fits l (F a) → RestFrom s l ys r G (F a)
 
 module _ {s : List ℕ} {l : Layout} where
@@ -35,7 +37,8 @@ module _ {s : List ℕ} {l : Layout} where
   from-start xs st F G e = record { each = λ a b h f. record { now = a; begun = b; held = h; same = e a } }
 
   -- H is done next, and G′ is left
-  pub from-by : {xs ys zs : List ℕ} {st r t : State} {F G H : Made → Made} (G′ : Made → Made) → LeftFrom s l xs st F ys r G → From s l ys r zs t H
+  pub from-by : {xs ys zs : List ℕ} {st r t : State} {F G H : Made → Made} (G′ : Made → Made) → LeftFrom s l xs st F ys r G
+      → From s l ys r zs t H
       → ((b : Made) → G b ≡ G′ (H b)) → Growing H → Growing G′ → LeftFrom s l xs st F zs t G′
   from-by {H = H} G′ left does e up grows = record {
     each = λ a k h f.
@@ -49,13 +52,15 @@ module _ {s : List ℕ} {l : Layout} where
   }
 
   -- nothing is left
-  pub from-end : {xs ys : List ℕ} {st r : State} {F G : Made → Made} → ((a : Made) → G a ≡ a) → LeftFrom s l xs st F ys r G → From s l xs st ys r F
+  pub from-end : {xs ys : List ℕ} {st r : State} {F G : Made → Made} → ((a : Made) → G a ≡ a) → LeftFrom s l xs st F ys r G
+      → From s l xs st ys r F
   from-end e left = record {
     holds = λ a k h f. let o = left .each a k h f in subst (Holds s l _ _) (sym (e (o .now)) ∙ o .same) (o .held);
   }
 
   -- F, and then G
-  pub from-seq : {xs ys zs : List ℕ} {st r t : State} {F G : Made → Made} → Growing F → Growing G → From s l xs st ys r F → From s l ys r zs t G
+  pub from-seq : {xs ys zs : List ℕ} {st r t : State} {F G : Made → Made} → Growing F → Growing G → From s l xs st ys r F
+      → From s l ys r zs t G
       → From s l xs st zs t (λ a. G (F a))
   from-seq {F = F} up grows first next = record {
     holds = λ a k h f.
@@ -72,10 +77,9 @@ module _ {s : List ℕ} {l : Layout} where
   from-same G e d = record { holds = λ a k h f. subst (Holds s l _ _) (e a) (d .holds a k h (subst (Fits l) (sym (e a)) f)) }
 
   -- the depth where a jump comes in
-  pub depth-from : (xs : List ℕ) (st r : State) (d : ℕ) → d ≤ 2 → r ≡ states.atDepth st d → From s l xs st xs r (atDepth d)
-  depth-from xs st r d g e = record {
-    holds = λ a k h f. subst (λ (q : State). Holds s l xs q (atDepth d a)) (sym e) (depth-holds d (omega arith) h);
-  }
+  pub depth-from : (xs c : List ℕ) (r : State) (d : ℕ) → d ≤ 2 → (Full c → r ≡ states.atDepth (stateOf c) d)
+      → From s l xs (stateOf c) xs r (atDepth d)
+  depth-from xs c r d g e = record { holds = λ a k h f. held-at-depth c e (omega arith) h }
 
 -- growing changes
 pub depth-growing : (d : ℕ) → Growing (atDepth d)

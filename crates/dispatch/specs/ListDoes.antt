@@ -10,7 +10,7 @@ use Rattle.lowering.specs.All.{All}
 use Rattle.lowering.specs.SwitchSheet.{blockCount}
 use Rattle.emission.specs.Made.{lowered}
 use Rattle.emission.specs.Rising.{lowered-rises}
-use Rattle.store.specs.declared.Layout.{Layout}
+use Rattle.scratch.specs.declared.Layout.{Layout}
 use Rattle.store.specs.declared.State.{State}
 use Rattle.store.specs.Does.{Does, does-none, Left, left-start, left-by, left-done, does-same}
 use Rattle.switching.specs.Change.{armTo, armsTo}

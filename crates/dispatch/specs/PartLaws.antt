@@ -2,10 +2,10 @@
 use Prim.Native.Nat.{ℕ, _+_, _%_, _≤_}
 use mathlib.Core.Path.{_≡_, refl, sym, ap, _∙_, subst}
 use mathlib.Core.Bool.{Bool, true, false}
-use mathlib.Core.List.{List}
+use mathlib.Core.List.{List, [], _∷_}
 use native.Mathlib.Omega.{arith}
 use lib.Dec.{eqb}
-use lib.ListN.{length, getD, List·getD-eq-default}
+use lib.ListN.{length, getD, set, List·getD-eq-default}
 use Rattle.sheet.specs.Node.{position}
 use Rattle.bytecode.specs.declared.Op.the-variants.{Jump, JumpIfTrue}
 use Rattle.lowering.specs.Code.{noPos}
@@ -14,10 +14,11 @@ use Rattle.lowering.specs.Arms.{Guard}
 use Rattle.chains.specs.KeptLaws.{kept-emits}
 use Rattle.emission.specs.Made.{Made, emit}
 use Rattle.emission.specs.Construct.{Low}
-use Rattle.store.specs.declared.Layout.{Layout}
+use Rattle.scratch.specs.declared.Layout.{Layout}
 use Rattle.store.specs.declared.State.{State}
 use Rattle.store.specs.Holds.{Holds}
-use Rattle.store.specs.Does.{Fits, Does, does-same, does-seq, does-none}
+use Rattle.store.specs.States.{stateOf, Full}
+use Rattle.store.specs.Does.{Fits, Does, does-same, does-seq, does-none, held-full}
 use Rattle.store.specs.FrameLaws.{pools-same, pools-counts}
 use Rattle.tables.specs.declared.Guard.{Guard as Held}
 use Rattle.tables.specs.declared.Guard.the-variants as held
@@ -30,8 +31,15 @@ use Rattle.dispatch.specs.Parts.{droppedIn, endArm, isAlways, isTried, t
 
 -- ---- an instruction that is counted and has no code
 
-pub dropped-by : {n : ℕ} (st : State) → n ≡ (st .emitted + 1) % 4294967296 → record { code = st .code; consts = st .consts; names = st .names; tokens = st .tokens; residuals = st .residuals; chains = st .chains; emitted = n; depth = st .depth; deepest = st .deepest } ≡ droppedIn st
-dropped-by st e = rw e
+pub dropped-of : (c : List ℕ) (n : ℕ) → n ≡ (getD c 6 0 + 1) % 4294967296 → Full c → stateOf (set c 6 n) ≡ droppedIn (stateOf c)
+dropped-of ([]) n e h = absurd (omega arith)
+dropped-of (a0 ∷ []) n e h = absurd (omega arith)
+dropped-of (a0 ∷ a1 ∷ []) n e h = absurd (omega arith)
+dropped-of (a0 ∷ a1 ∷ a2 ∷ []) n e h = absurd (omega arith)
+dropped-of (a0 ∷ a1 ∷ a2 ∷ a3 ∷ []) n e h = absurd (omega arith)
+dropped-of (a0 ∷ a1 ∷ a2 ∷ a3 ∷ a4 ∷ []) n e h = absurd (omega arith)
+dropped-of (a0 ∷ a1 ∷ a2 ∷ a3 ∷ a4 ∷ a5 ∷ []) n e h = absurd (omega arith)
+dropped-of (a0 ∷ a1 ∷ a2 ∷ a3 ∷ a4 ∷ a5 ∷ a6 ∷ c) n e h = rw e
 
 pub dropped-holds : {s : List ℕ} {l : Layout} {xs : List ℕ} {st : State} {a : Made} → Fits l (dropped a) → Holds s l xs st a
     → Holds s l xs (droppedIn st) (dropped a)
@@ -54,22 +62,26 @@ dropped-holds {s} {l} {xs} {st} {a} f h =
         low = let z = c .low in omega arith;
         within = omega arith;
       };
+      laid = record { most = h .laid .most; nodes = h .laid .nodes; steps = h .laid .steps; few = h .laid .few };
       emitted = record { code = h .emitted .code; positions = h .emitted .positions; residuals = h .emitted .residuals };
       pooled =
           pools-counts (droppedIn st) (record { consts = refl; tokens = refl; chains = refl; names = refl })
           (pools-same (record { consts = refl; tokens = refl; chains = refl; names = refl })
           (record { consts = refl; tokens = refl; names = refl; chains = λ ks k. kept-emits s 1 (a .pools) k }) (h .pooled));
+      index = h .index;
     }
 
-module _ {s : List ℕ} {l : Layout} {xs : List ℕ} {st r : State} where
-  pub dropped-does : (to : ℕ) (drop : Bool) → drop ≡ true → r ≡ droppedIn st → Does s l xs st xs r (jumpTo drop to)
+module _ {s : List ℕ} {l : Layout} {xs : List ℕ} {r : State} (c : List ℕ) where
+  pub dropped-does : (to : ℕ) (drop : Bool) → drop ≡ true → (Full c → r ≡ droppedIn (stateOf c))
+      → Does s l xs (stateOf c) xs r (jumpTo drop to)
   unfolding jumpTo
-  dropped-does to drop e q = subst (λ (d : Bool). Does s l xs st xs r (jumpTo d to)) (sym e) (record {
-    holds = λ a h f. subst (λ (z : State). Holds s l xs z (dropped a)) (sym q) (dropped-holds f h);
+  dropped-does to drop e q = subst (λ (d : Bool). Does s l xs (stateOf c) xs r (jumpTo d to)) (sym e) (record {
+    holds = λ a h f. subst (λ (z : State). Holds s l xs z (dropped a)) (sym (q (held-full c h))) (dropped-holds f h);
   })
 
 module _ {s : List ℕ} {l : Layout} {xs ys : List ℕ} {st r : State} where
-  pub jump-does : (to : ℕ) (drop : Bool) → drop ≡ false → Does s l xs st ys r (emit (Jump to) noPos 0) → Does s l xs st ys r (jumpTo drop to)
+  pub jump-does : (to : ℕ) (drop : Bool) → drop ≡ false → Does s l xs st ys r (emit (Jump to) noPos 0)
+      → Does s l xs st ys r (jumpTo drop to)
   jump-does to drop e d =
       subst (λ (t : Bool). Does s l xs st ys r (jumpTo t to)) (sym e) (does-same (jumpTo false to) (λ a h. sym (jump-kept to a)) d)
 

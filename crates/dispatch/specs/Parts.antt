@@ -25,6 +25,9 @@ droppedIn st = record {
   emitted = (st .emitted + 1) % 4294967296;
   depth = st .depth;
   deepest = st .deepest;
+  most = st .most;
+  nodes = st .nodes;
+  steps = st .steps;
 }
 
 -- where bodies stand, and which are wanted

@@ -17,7 +17,7 @@ use Rattle.lowering.specs.SwitchSheet.{blockCount, subject, casesOf, rangesOf, 
 use Rattle.emission.specs.Made.{Made, emit, lowered}
 use Rattle.emission.specs.Rising.{lowered-rises, emit-counts}
 use Rattle.emission.specs.LoweredLaws.{lowered-depth}
-use Rattle.store.specs.declared.Layout.{Layout}
+use Rattle.scratch.specs.declared.Layout.{Layout}
 use Rattle.store.specs.declared.State.{State}
 use Rattle.store.specs.Does.{Growing, growing-seq, Does, does-same, does-seq, does-next}
 use Rattle.switching.specs.Change.{armsTo, anySplit, caseLists, rangeLists, hasDefault, subjectTo, chainsTo, bodiesTo, missingTo, closeTo, switchTo}

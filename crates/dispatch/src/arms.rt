@@ -6,6 +6,9 @@ ghost use lib.ListN.{take, length};
 ghost use Rattle.sheet.specs.Limits.{maxDepth};
 ghost use Rattle.lowering.specs.Nodes.{Right, Valid};
 ghost use Rattle.cases.specs.Held as points;
+ghost use Rattle.bytecode.specs.Table.{effectTable};
+ghost use Rattle.scratch.specs.declared.Layout.{Layout};
+ghost use Rattle.store.specs.States.{stateOf};
 ghost use Rattle.emission.specs.Made.{lowered};
 ghost use Rattle.store.specs.Does.{Does};
 ghost use Rattle.switching.specs.Change as change;
@@ -23,9 +26,8 @@ use cases::Points;
 use compile::expression;
 use sheet::limits::MAX_DEPTH;
 use sheet::position;
-use store::Layout;
-use store::State;
 use store::emit;
+use store::states::COUNTS;
 use tables::Blocks;
 use tables::Guard;
 use tables::Ranges;
@@ -72,51 +74,52 @@ fn tried(w: Guard) -> bool
 }
 
 // The guard at node `g` and the jump to place `to`, if it is tried.
-fn try_one(s: &[u8], l: Layout, x: &mut [u32], st: State, w: Guard, g: u32, to: u32) -> State
-    ensures { λ r. ⌜ (Right (now (s .entry)) → Valid (now (s .entry)) g
-        → Does (now (s .entry)) l (now (x .entry)) st (now (x .exit)) r
+fn try_one(s: &[u8], t: &[u8; 125], c: &mut [u32; COUNTS], x: &mut [u32], w: Guard, g: u32, to: u32)
+    ensures { λ _. ⌜ ((l : Layout) → now (t .entry) ≡ effectTable → Right (now (s .entry))
+        → Valid (now (s .entry)) g
+        → Does (now (s .entry)) l (now (x .entry)) (stateOf (now (c .entry))) (now (x .exit)) (stateOf (now (c .exit)))
         (parts.tryOne (guardIn w) (now (s .entry)) (lowered maxDepth (now (s .entry))) to g)) ⌝ }
 {
     if tried(w) {
-        let q = expression(MAX_DEPTH, s, l, x, st, g);
-        return emit(l, x, q, Op::JumpIfTrue(to), position(s, g), 0);
+        expression(MAX_DEPTH, s, t, c, x, g);
+        emit(t, c, x, Op::JumpIfTrue(to), position(s, g), 0);
     }
-    st
 }
 
 // The chain of a list of blocks.
 pub fn arm(
     s: &[u8],
-    l: Layout,
+    t: &[u8; 125],
+    c: &mut [u32; COUNTS],
     x: &mut [u32],
-    st: State,
-    t: Targets,
+    aims: Targets,
     ks: Blocks,
     fallback: u32,
     drop: bool,
-) -> State
-    ensures { λ r. ⌜ (Ready (now (s .entry)) → Named (now (s .entry)) (take (ks .n) (ks .at))
-        → Does (now (s .entry)) l (now (x .entry)) st (now (x .exit)) r
-        (change.armTo (now (s .entry)) (lowered maxDepth (now (s .entry))) (parts.placeIn t) fallback drop (take (ks .n) (ks .at)))) ⌝ }
+)
+    ensures { λ _. ⌜ ((l : Layout) → now (t .entry) ≡ effectTable → Ready (now (s .entry))
+        → Named (now (s .entry)) (take (ks .n) (ks .at))
+        → Does (now (s .entry)) l (now (x .entry)) (stateOf (now (c .entry))) (now (x .exit)) (stateOf (now (c .exit)))
+        (change.armTo (now (s .entry)) (lowered maxDepth (now (s .entry))) (parts.placeIn aims) fallback drop (take (ks .n) (ks .at)))) ⌝ }
 {
     let n = capped(ks.n);
     let at = ks.at;
-    let mut q = st;
     let mut any = false;
     let mut i = 0;
     while i < n {
         let k = at[i];
         let g = guard_of(s, k);
         let w = guard_kind(s, g);
-        let to = place(t, k);
+        let to = place(aims, k);
         if always(w) {
-            return end_arm(l, x, q, any, false, to);
+            end_arm(t, c, x, any, false, to);
+            return;
         }
-        q = try_one(s, l, x, q, w, g, to);
+        try_one(s, t, c, x, w, g, to);
         any = any | tried(w);
         i += 1;
     }
-    end_arm(l, x, q, any, drop, fallback)
+    end_arm(t, c, x, any, drop, fallback);
 }
 
 // A list of blocks has a guard to try.
@@ -167,57 +170,54 @@ fn last_case(s: &[u8], h: Blocks) -> usize
 // The chains of the Cases `h`; `falls` says that the fallback follows.
 pub fn case_arms(
     s: &[u8],
-    l: Layout,
+    t: &[u8; 125],
+    c: &mut [u32; COUNTS],
     x: &mut [u32],
-    st: State,
-    t: Targets,
+    aims: Targets,
     h: Blocks,
     falls: bool,
-) -> State
-    ensures { λ r. ⌜ (Ready (now (s .entry)) → NamedAll (now (s .entry)) (keys (caseKey (now (s .entry))) (take (h .n) (h .at)))
-        → Does (now (s .entry)) l (now (x .entry)) st (now (x .exit)) r
-        (change.armsTo (now (s .entry)) (lowered maxDepth (now (s .entry))) (parts.placeIn t) (t .fallback) falls
+)
+    ensures { λ _. ⌜ ((l : Layout) → now (t .entry) ≡ effectTable → Ready (now (s .entry))
+        → NamedAll (now (s .entry)) (keys (caseKey (now (s .entry))) (take (h .n) (h .at)))
+        → Does (now (s .entry)) l (now (x .entry)) (stateOf (now (c .entry))) (now (x .exit)) (stateOf (now (c .exit)))
+        (change.armsTo (now (s .entry)) (lowered maxDepth (now (s .entry))) (parts.placeIn aims) (aims .fallback) falls
         (keys (caseKey (now (s .entry))) (take (h .n) (h .at))))) ⌝ }
 {
     let n = capped(h.n);
     let last = last_case(s, h);
     let a = h.at;
-    let mut q = st;
     let mut i = 0;
     while i < n {
         let ks = case_blocks(s, a[i]);
-        q = arm(s, l, x, q, t, ks, t.fallback, falls & (last <= i + 1));
+        arm(s, t, c, x, aims, ks, aims.fallback, falls & (last <= i + 1));
         i += 1;
     }
-    q
 }
 
 // The chains of the runs `h`.
 pub fn range_arms(
     s: &[u8],
-    l: Layout,
+    t: &[u8; 125],
+    c: &mut [u32; COUNTS],
     x: &mut [u32],
-    st: State,
-    t: Targets,
+    aims: Targets,
     g: Ranges,
     p: Points,
     h: Runs,
-) -> State
-    ensures { λ r. ⌜ (Ready (now (s .entry))
+)
+    ensures { λ _. ⌜ ((l : Layout) → now (t .entry) ≡ effectTable → Ready (now (s .entry))
         → NamedAll (now (s .entry)) (keys (runKey (rangesIn (g .at) (g .n)) (points.held (p .at) (p .n))) (take (h .n) (h .at)))
-        → Does (now (s .entry)) l (now (x .entry)) st (now (x .exit)) r
-        (change.armsTo (now (s .entry)) (lowered maxDepth (now (s .entry))) (parts.placeIn t) (t .default) false
+        → Does (now (s .entry)) l (now (x .entry)) (stateOf (now (c .entry))) (now (x .exit)) (stateOf (now (c .exit)))
+        (change.armsTo (now (s .entry)) (lowered maxDepth (now (s .entry))) (parts.placeIn aims) (aims .default) false
         (keys (runKey (rangesIn (g .at) (g .n)) (points.held (p .at) (p .n))) (take (h .n) (h .at))))) ⌝ }
 {
     let n = capped_runs(h.n);
     let a = h.at;
-    let mut q = st;
     let mut i = 0;
     while i < n {
         let y = a[i];
         let ks = piece_blocks(g, p, y.first);
-        q = arm(s, l, x, q, t, ks, t.default, false);
+        arm(s, t, c, x, aims, ks, aims.default, false);
         i += 1;
     }
-    q
 }

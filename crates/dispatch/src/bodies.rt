@@ -4,6 +4,9 @@ ghost use Prim.Native.Nat.{ℕ, _<_};
 ghost use mathlib.Core.List.{List};
 ghost use Rattle.sheet.specs.Limits.{maxDepth};
 ghost use Rattle.lowering.specs.SwitchSheet.{blockCount};
+ghost use Rattle.bytecode.specs.Table.{effectTable};
+ghost use Rattle.scratch.specs.declared.Layout.{Layout};
+ghost use Rattle.store.specs.States.{stateOf};
 ghost use Rattle.emission.specs.Made.{lowered};
 ghost use Rattle.switching.specs.Change as change;
 ghost use Rattle.switching.specs.LastLaws.{lastOf};
@@ -17,24 +20,31 @@ use bytecode::Op;
 use compile::expression;
 use sheet::field_a;
 use sheet::limits::MAX_DEPTH;
-use store::Layout;
-use store::State;
-use store::at_depth;
 use store::emit;
+use store::states::COUNTS;
+use store::states::at_depth;
 use tables::body_of;
 
 // The body of block `k` over the subject, and the jump to the end, if the body is wanted.
-fn body(s: &[u8], l: Layout, x: &mut [u32], st: State, t: Targets, drop: bool, k: u32) -> State
-    ensures { λ r. ⌜ (Ready (now (s .entry)) → k < blockCount (now (s .entry))
-        → From (now (s .entry)) l (now (x .entry)) st (now (x .exit)) r
-        (parts.bodyIf (parts.wantIn t) (now (s .entry)) (lowered maxDepth (now (s .entry))) (t .end) drop k)) ⌝ }
+fn body(
+    s: &[u8],
+    t: &[u8; 125],
+    c: &mut [u32; COUNTS],
+    x: &mut [u32],
+    aims: Targets,
+    drop: bool,
+    k: u32,
+)
+    ensures { λ _. ⌜ ((l : Layout) → now (t .entry) ≡ effectTable → Ready (now (s .entry))
+        → k < blockCount (now (s .entry))
+        → From (now (s .entry)) l (now (x .entry)) (stateOf (now (c .entry))) (now (x .exit)) (stateOf (now (c .exit)))
+        (parts.bodyIf (parts.wantIn aims) (now (s .entry)) (lowered maxDepth (now (s .entry))) (aims .end) drop k)) ⌝ }
 {
-    if wants(t, k) {
-        let p = at_depth(st, 1);
-        let q = expression(MAX_DEPTH, s, l, x, p, body_of(s, k));
-        return jump(l, x, q, drop, t.end);
+    if wants(aims, k) {
+        at_depth(c, 1);
+        expression(MAX_DEPTH, s, t, c, x, body_of(s, k));
+        jump(t, c, x, drop, aims.end);
     }
-    st
 }
 
 // Number `k` plus 1 if it passes, else what was found before.
@@ -45,51 +55,58 @@ fn later(last: u64, k: u32, t: bool) -> u64
 }
 
 // The last block below `n` whose body is wanted, plus 1; 0 where there is none.
-fn last_wanted(t: Targets, n: u32) -> u64
-    ensures { λ r. ⌜ r ≡ lastOf (parts.wantIn t) n ⌝ }
+fn last_wanted(aims: Targets, n: u32) -> u64
+    ensures { λ r. ⌜ r ≡ lastOf (parts.wantIn aims) n ⌝ }
 {
     let mut last = 0;
     let mut k: u32 = 0;
     while k < n {
-        last = later(last, k, wants(t, k));
+        last = later(last, k, wants(aims, k));
         k += 1;
     }
     last
 }
 
 // The bodies; `falls` says that the end follows.
-pub fn bodies(s: &[u8], l: Layout, x: &mut [u32], st: State, t: Targets, falls: bool) -> State
-    ensures { λ r. ⌜ (Ready (now (s .entry))
-        → From (now (s .entry)) l (now (x .entry)) st (now (x .exit)) r
-        (change.bodiesTo (now (s .entry)) (lowered maxDepth (now (s .entry))) (parts.wantIn t) (t .end) falls (blockCount (now (s .entry))) 0)) ⌝ }
+pub fn bodies(
+    s: &[u8],
+    t: &[u8; 125],
+    c: &mut [u32; COUNTS],
+    x: &mut [u32],
+    aims: Targets,
+    falls: bool,
+)
+    ensures { λ _. ⌜ ((l : Layout) → now (t .entry) ≡ effectTable → Ready (now (s .entry))
+        → From (now (s .entry)) l (now (x .entry)) (stateOf (now (c .entry))) (now (x .exit)) (stateOf (now (c .exit)))
+        (change.bodiesTo (now (s .entry)) (lowered maxDepth (now (s .entry))) (parts.wantIn aims) (aims .end) falls
+        (blockCount (now (s .entry))) 0)) ⌝ }
 {
     let n = field_a(s, 0);
-    let last = last_wanted(t, n);
-    let mut q = st;
+    let last = last_wanted(aims, n);
     let mut k: u32 = 0;
     while k < n {
-        q = body(s, l, x, q, t, falls & (last <= (k as u64) + 1), k);
+        body(s, t, c, x, aims, falls & (last <= (k as u64) + 1), k);
         k += 1;
     }
-    q
 }
 
 // Unit for a missing default.
-pub fn missing(l: Layout, x: &mut [u32], st: State, def: u32) -> State
-    ensures { λ r. ⌜ ((s : List ℕ) → From s l (now (x .entry)) st (now (x .exit)) r (change.missingTo def)) ⌝ }
+pub fn missing(t: &[u8; 125], c: &mut [u32; COUNTS], x: &mut [u32], def: u32)
+    ensures { λ _. ⌜ ((l : Layout) → now (t .entry) ≡ effectTable → (s : List ℕ)
+        → From s l (now (x .entry)) (stateOf (now (c .entry))) (now (x .exit)) (stateOf (now (c .exit))) (change.missingTo def)) ⌝ }
 {
     if def == 0 {
-        let p = at_depth(st, 1);
-        return emit(l, x, p, Op::Unit, 0, 0);
+        at_depth(c, 1);
+        emit(t, c, x, Op::Unit, 0, 0);
     }
-    st
 }
 
 // The subject goes from below the value.
-pub fn close(l: Layout, x: &mut [u32], st: State) -> State
-    ensures { λ r. ⌜ ((s : List ℕ) → From s l (now (x .entry)) st (now (x .exit)) r change.closeTo) ⌝ }
+pub fn close(t: &[u8; 125], c: &mut [u32; COUNTS], x: &mut [u32])
+    ensures { λ _. ⌜ ((l : Layout) → now (t .entry) ≡ effectTable → (s : List ℕ)
+        → From s l (now (x .entry)) (stateOf (now (c .entry))) (now (x .exit)) (stateOf (now (c .exit))) change.closeTo) ⌝ }
 {
-    let p = at_depth(st, 2);
-    let q = emit(l, x, p, Op::Rotate(1), 0, 0);
-    emit(l, x, q, Op::Pop, 0, 0)
+    at_depth(c, 2);
+    emit(t, c, x, Op::Rotate(1), 0, 0);
+    emit(t, c, x, Op::Pop, 0, 0);
 }

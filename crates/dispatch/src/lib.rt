@@ -1,9 +1,12 @@
-// The lowering of the Switch at node 0 into the lent scratch, with the targets of its jumps given. Each function does to the scratch what its
-// definition in crate switching does to what has been made so far.
+// The lowering of the Switch at node 0 into the lent scratch, with the targets of its jumps given. Each function does to the scratch what
+// its definition in crate switching does to what has been made so far.
 ghost use mathlib.Core.Path.{_≡_};
 ghost use Rattle.sheet.specs.Limits.{maxDepth};
 ghost use Rattle.cases.specs.Split.{split};
 ghost use Rattle.lowering.specs.SwitchSheet.{casesOf, rangesOf, defaultBlock};
+ghost use Rattle.bytecode.specs.Table.{effectTable};
+ghost use Rattle.scratch.specs.declared.Layout.{Layout};
+ghost use Rattle.store.specs.States.{stateOf};
 ghost use Rattle.emission.specs.Made.{lowered};
 ghost use Rattle.store.specs.Does.{Does};
 ghost use Rattle.switching.specs.Change as change;
@@ -23,10 +26,9 @@ use sheet::field_b;
 use sheet::field_c;
 use sheet::limits::MAX_DEPTH;
 use sheet::next;
-use store::Layout;
-use store::State;
 use store::add_const;
 use store::emit;
+use store::states::COUNTS;
 use switches::first_case;
 use tables::case_heads;
 use tables::cuts_of;
@@ -44,11 +46,11 @@ pub struct Targets {
 }
 
 // Where the body of block `k` stands.
-pub fn place(t: Targets, k: u32) -> u32
-    ensures { λ r. ⌜ r ≡ parts.placeIn t k ⌝ }
+pub fn place(aims: Targets, k: u32) -> u32
+    ensures { λ r. ⌜ r ≡ parts.placeIn aims k ⌝ }
 {
     let i = k as usize;
-    let a = t.body;
+    let a = aims.body;
     if i < 64 {
         return a[i];
     }
@@ -56,11 +58,11 @@ pub fn place(t: Targets, k: u32) -> u32
 }
 
 // The body of block `k` is wanted.
-pub fn wants(t: Targets, k: u32) -> bool
-    ensures { λ r. ⌜ r ≡ parts.wantIn t k ⌝ }
+pub fn wants(aims: Targets, k: u32) -> bool
+    ensures { λ r. ⌜ r ≡ parts.wantIn aims k ⌝ }
 {
     let i = k as usize;
-    let a = t.want;
+    let a = aims.want;
     if i < 64 {
         return a[i];
     }
@@ -68,21 +70,19 @@ pub fn wants(t: Targets, k: u32) -> bool
 }
 
 // The constants of the Cases.
-pub fn case_consts(s: &[u8], l: Layout, x: &mut [u32], st: State) -> State
-    ensures { λ r. ⌜ (Ready (now (s .entry))
-        → Does (now (s .entry)) l (now (x .entry)) st (now (x .exit)) r (change.casesTo (now (s .entry)) (casesOf (now (s .entry))))) ⌝ }
+pub fn case_consts(s: &[u8], c: &mut [u32; COUNTS], x: &mut [u32])
+    ensures { λ _. ⌜ ((l : Layout) → Ready (now (s .entry))
+        → Does (now (s .entry)) l (now (x .entry)) (stateOf (now (c .entry))) (now (x .exit)) (stateOf (now (c .exit)))
+        (change.casesTo (now (s .entry)) (casesOf (now (s .entry))))) ⌝ }
 {
     let n = field_b(s, 0);
-    let mut q = st;
     let mut j = first_case(s);
     let mut i: u32 = 0;
     while i < n {
-        let p = add_const(s, l, x, q, child(j));
-        q = p.st;
+        add_const(s, c, x, child(j));
         j = next(s, j);
         i += 1;
     }
-    q
 }
 
 // There is a default block; `def` is its number plus 1, or 0.
@@ -96,43 +96,46 @@ fn has_default(def: u32) -> bool
 }
 
 // The subject, and the first Switch.
-fn subject(s: &[u8], l: Layout, x: &mut [u32], st: State) -> State
-    ensures { λ r. ⌜ (Ready (now (s .entry))
-        → Does (now (s .entry)) l (now (x .entry)) st (now (x .exit)) r (change.subjectTo (lowered maxDepth (now (s .entry))))) ⌝ }
+fn subject(s: &[u8], t: &[u8; 125], c: &mut [u32; COUNTS], x: &mut [u32])
+    ensures { λ _. ⌜ ((l : Layout) → now (t .entry) ≡ effectTable → Ready (now (s .entry))
+        → Does (now (s .entry)) l (now (x .entry)) (stateOf (now (c .entry))) (now (x .exit)) (stateOf (now (c .exit)))
+        (change.subjectTo (lowered maxDepth (now (s .entry))))) ⌝ }
 {
-    let q = expression(MAX_DEPTH, s, l, x, st, child(0));
-    emit(l, x, q, Op::Switch(0), 0, 0)
+    expression(MAX_DEPTH, s, t, c, x, child(0));
+    emit(t, c, x, Op::Switch(0), 0, 0);
 }
 
 // The chains of the cases; the second Switch and the chains of the ranges, if the split has entries.
-fn chains(s: &[u8], l: Layout, x: &mut [u32], st: State, t: Targets) -> State
-    ensures { λ r. ⌜ (Ready (now (s .entry))
-        → Does (now (s .entry)) l (now (x .entry)) st (now (x .exit)) r
-        (change.chainsTo (now (s .entry)) (lowered maxDepth (now (s .entry))) (parts.targetsIn t) (split (rangesOf (now (s .entry)))))) ⌝ }
+fn chains(s: &[u8], t: &[u8; 125], c: &mut [u32; COUNTS], x: &mut [u32], aims: Targets)
+    ensures { λ _. ⌜ ((l : Layout) → now (t .entry) ≡ effectTable → Ready (now (s .entry))
+        → Does (now (s .entry)) l (now (x .entry)) (stateOf (now (c .entry))) (now (x .exit)) (stateOf (now (c .exit)))
+        (change.chainsTo (now (s .entry)) (lowered maxDepth (now (s .entry))) (parts.targetsIn aims)
+        (split (rangesOf (now (s .entry)))))) ⌝ }
 {
     let h = case_heads(s);
     let g = ranges_of(s);
     let p = cuts_of(g);
     let e = runs_of(g, p);
     if e.n == 0 {
-        return case_arms(s, l, x, st, t, h, false);
+        case_arms(s, t, c, x, aims, h, false);
+        return;
     }
-    let u = case_arms(s, l, x, st, t, h, true);
-    let v = emit(l, x, u, Op::Switch(1), 0, 0);
-    range_arms(s, l, x, v, t, g, p, run_heads(g, p, e))
+    case_arms(s, t, c, x, aims, h, true);
+    emit(t, c, x, Op::Switch(1), 0, 0);
+    range_arms(s, t, c, x, aims, g, p, run_heads(g, p, e));
 }
 
 // The Switch.
-pub fn switch(s: &[u8], l: Layout, x: &mut [u32], st: State, t: Targets) -> State
-    ensures { λ r. ⌜ (Ready (now (s .entry))
-        → Does (now (s .entry)) l (now (x .entry)) st (now (x .exit)) r
-        (change.switchTo (now (s .entry)) (lowered maxDepth (now (s .entry))) (parts.targetsIn t) (split (rangesOf (now (s .entry))))
-        (defaultBlock (now (s .entry))) (parts.wantIn t))) ⌝ }
+pub fn switch(s: &[u8], t: &[u8; 125], c: &mut [u32; COUNTS], x: &mut [u32], aims: Targets)
+    ensures { λ _. ⌜ ((l : Layout) → now (t .entry) ≡ effectTable → Ready (now (s .entry))
+        → Does (now (s .entry)) l (now (x .entry)) (stateOf (now (c .entry))) (now (x .exit)) (stateOf (now (c .exit)))
+        (change.switchTo (now (s .entry)) (lowered maxDepth (now (s .entry))) (parts.targetsIn aims) (split (rangesOf (now (s .entry))))
+        (defaultBlock (now (s .entry))) (parts.wantIn aims))) ⌝ }
 {
     let def = field_c(s, 0);
-    let a = subject(s, l, x, st);
-    let b = chains(s, l, x, a, t);
-    let c = bodies::bodies(s, l, x, b, t, has_default(def));
-    let d = bodies::missing(l, x, c, def);
-    bodies::close(l, x, d)
+    subject(s, t, c, x);
+    chains(s, t, c, x, aims);
+    bodies::bodies(s, t, c, x, aims, has_default(def));
+    bodies::missing(t, c, x, def);
+    bodies::close(t, c, x);
 }

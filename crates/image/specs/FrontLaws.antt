@@ -1,9 +1,9 @@
 -- What is held of the front of an image: each part of the scratch that is read lies within it, and gives its section.
-use Prim.Native.Nat.{ℕ, _+_, _*_, _≤_, _<_, min}
+use Prim.Native.Nat.{ℕ, _+_, _-_, _*_, _≤_, _<_, min}
 use mathlib.Core.Path.{_≡_, sym, ap, _∙_, subst}
 use mathlib.Core.List.{List, [], _∷_, _++_, map}
 use native.Mathlib.Omega.{arith}
-use lib.ListN.{length, length-append, length-map}
+use lib.ListN.{length, take, drop, length-append, length-map}
 use Rattle.sheet.specs.Node.{fieldC}
 use Rattle.bytecode.specs.Chain.{chainWords}
 use Rattle.lowering.specs.Limits.{maxStackCap}
@@ -16,13 +16,14 @@ use Rattle.chains.specs.KeptLaws.{chains-length, all-steps-length}
 use Rattle.chains.specs.WordsLaws.{steps-six}
 use Rattle.keys.specs.Keys.{nameOf}
 use Rattle.emission.specs.Made.{Made}
-use Rattle.store.specs.declared.Layout.{Layout}
+use Rattle.scratch.specs.declared.Layout.{Layout}
 use Rattle.store.specs.declared.State.{State}
-use Rattle.store.specs.Places.{positionsAt, residualsAt, constsAt, tokensAt, chainsAt, namesAt, region}
-use Rattle.store.specs.RegionLaws.{region-length}
+use Rattle.scratch.specs.Places.{positionsAt, residualsAt, constsAt, tokensAt, chainsAt, namesAt, region}
+use Rattle.scratch.proofs.RegionLaws.{region-length, part-is}
+use Rattle.index.specs.Held.{namesHeld, NamesHold}
+use Rattle.index.proofs.IndexesLaws.{indexes-names}
 use Rattle.store.specs.Holds.{Holds}
 use Rattle.store.specs.AddLaws.{keys-few}
-use Rattle.sections.specs.ChainRows.{steps-most}
 use Rattle.image.specs.Front.{frontSizes, front}
 use Rattle.image.specs.Puts.{Puts, puts-as}
 use Rattle.image.specs.RowLengths.{consts-length, names-length, chain-words-length}
@@ -68,18 +69,15 @@ module _ {s : List ℕ} {l : Layout} {xs : List ℕ} {st : State} {a : Made} (h 
       ∙ chains-length s (a .pools .names) 0 (region (chainsAt l) (st .chains) xs)
       ∙ h .pooled .chain-keys .count
 
-  steps-count : length (a .pools .steps) ≡ stepCount s (region (chainsAt l) (st .chains) xs)
-  steps-count = ap length (h .pooled .chains .steps) ∙ all-steps-length s (a .pools .names) (region (chainsAt l) (st .chains) xs)
+  pub steps-count : st .steps ≡ stepCount s (region (chainsAt l) (st .chains) xs)
+  steps-count =
+      h .laid .steps
+      ∙ ap length (h .pooled .chains .steps)
+      ∙ all-steps-length s (a .pools .names) (region (chainsAt l) (st .chains) xs)
 
-  pub steps-few : stepCount s (region (chainsAt l) (st .chains) xs) < 4294967296
-  steps-few =
-      omega (
-        arith,
-        steps-most s (region (chainsAt l) (st .chains) xs),
-        h .pooled .chain-keys .count,
-        keys-few (h .pooled .chain-keys),
-        h .fit .small,
-      )
+  -- so many chains have fewer steps than a word counts
+  pub chains-few : 67108863 < st .chains → ⊥
+  chains-few m = omega (arith, keys-few (h .pooled .chain-keys), h .fit .small)
 
   -- sections
   pub consts-held : section constWords (map (constOf s) (region (constsAt l) (st .consts) xs)) ≡ section constWords (a .pools .consts)
@@ -88,26 +86,33 @@ module _ {s : List ℕ} {l : Layout} {xs : List ℕ} {st : State} {a : Made} (h 
   pub names-held : section nameWords (map (nameOf s) (region (namesAt l) (st .names) xs)) ≡ section nameWords (a .pools .names)
   names-held = ap (section nameWords) (sym (h .pooled .names))
 
-  pub chains-held :
-      section chainWords (chainsFrom s (map (nameOf s) (region (namesAt l) (st .names) xs)) 0 (region (chainsAt l) (st .chains) xs))
-      ≡ section chainWords (a .pools .chains)
-  chains-held = rw (sym (h .pooled .names)) (ap (section chainWords) (sym (h .pooled .chains .chains)))
+  -- the names, with their index and their memos
+  pub names-hold : NamesHold s l (st .names) xs
+  names-hold = indexes-names (h .index)
 
-  pub steps-held :
-      stepsWords (stepsFrom s (map (nameOf s) (region (namesAt l) (st .names) xs)) (region (chainsAt l) (st .chains) xs))
-      ≡ stepsWords (a .pools .steps)
-  steps-held = rw (sym (h .pooled .names)) (ap stepsWords (sym (h .pooled .chains .steps)))
+  names-are : namesHeld s l (st .names) xs ≡ a .pools .names
+  unfolding namesHeld
+  names-are = sym (h .pooled .names)
+
+  chains-held :
+      section chainWords (chainsFrom s (namesHeld s l (st .names) xs) 0 (region (chainsAt l) (st .chains) xs))
+      ≡ section chainWords (a .pools .chains)
+  chains-held = rw names-are (ap (section chainWords) (sym (h .pooled .chains .chains)))
+
+  steps-held :
+      stepsWords (stepsFrom s (namesHeld s l (st .names) xs) (region (chainsAt l) (st .chains) xs)) ≡ stepsWords (a .pools .steps)
+  steps-held = rw names-are (ap stepsWords (sym (h .pooled .chains .steps)))
 
   -- the sizes
   pub sizes-held :
-      (n k sw ca ra : ℕ) → n ≡ stepCount s (region (chainsAt l) (st .chains) xs) → k ≡ min (st .emitted) maxStackCap
+      (k sw ca ra : ℕ) → k ≡ min (st .emitted) maxStackCap
       → (st .code
       ∷ st .consts
       ∷ st .names
       ∷ st .tokens
       ∷ st .residuals
       ∷ st .chains
-      ∷ n
+      ∷ st .steps
       ∷ sw
       ∷ ca
       ∷ ra
@@ -116,15 +121,14 @@ module _ {s : List ℕ} {l : Layout} {xs : List ℕ} {st : State} {a : Made} (h 
       ∷ [])
       ≡ frontSizes a sw ca ra
   unfolding frontSizes maxStack
-  sizes-held n k sw ca ra e m =
+  sizes-held k sw ca ra m =
       rw (
         m,
         consts-count,
         names-count,
         tokens-count,
         chains-count,
-        steps-count,
-        ← e,
+        h .laid .steps,
         h .counts .code,
         h .counts .residuals,
         h .counts .emitted,
@@ -139,10 +143,11 @@ module _ {s : List ℕ} {l : Layout} {xs : List ℕ} {st : State} {a : Made} (h 
   positions-length = ap length (sym (h .emitted .positions)) ∙ region-length (positionsAt l) (st .code) xs positions-fit
 
   pub front-length :
-      (n sw ca ra : ℕ) → n ≡ stepCount s (region (chainsAt l) (st .chains) xs)
-      → 12 + 5 * st .code + (3 * st .consts + 2 * st .names + st .tokens) + st .residuals + (6 * st .chains + 6 * n) ≡ length (front a sw ca ra)
+      (sw ca ra : ℕ)
+      → 12 + 5 * st .code + (3 * st .consts + 2 * st .names + st .tokens) + st .residuals + (6 * st .chains + 6 * st .steps)
+      ≡ length (front a sw ca ra)
   unfolding front frontSizes
-  front-length n sw ca ra e =
+  front-length sw ca ra =
       let p = a .pools in
       let cs = section constWords (p .consts) in
       let ns = section nameWords (p .names) in
@@ -153,7 +158,6 @@ module _ {s : List ℕ} {l : Layout} {xs : List ℕ} {st : State} {a : Made} (h 
       let f₃ = f₂ ++ cs ++ ns in
       omega (
         arith,
-        e,
         length-append (frontSizes a sw ca ra) (codeWords (a .code)),
         length-append f₁ (positions (a .code)),
         length-append f₂ cs,
@@ -173,18 +177,40 @@ module _ {s : List ℕ} {l : Layout} {xs : List ℕ} {st : State} {a : Made} (h 
         chain-words-length s (p .chains),
         chains-count,
         steps-six (p .steps),
-        steps-count,
+        h .laid .steps,
       )
 
-  -- what a call with its keys at place p gives
-  pub steps-at :
-      (p r : ℕ) → p ≡ chainsAt l
-      → (p + st .chains ≤ length xs → stepCount s (region p (st .chains) xs) < 4294967296 → r ≡ stepCount s (region p (st .chains) xs))
-      → r ≡ stepCount s (region (chainsAt l) (st .chains) xs)
-  steps-at p r e f =
-      let P : ℕ → Type 0 =
-      λ (q : ℕ). q + st .chains ≤ length xs → stepCount s (region q (st .chains) xs) < 4294967296 → r ≡ stepCount s (region q (st .chains) xs) in
-      subst P e f chains-fit steps-few
+  -- the chains and the steps, with the keys of the chains at place p
+  pub chain-rows : length (section chainWords (a .pools .chains)) ≡ 6 * st .chains
+  chain-rows = chain-words-length s (a .pools .chains) ∙ ap (λ (i : ℕ). 6 * i) chains-count
+
+  pub step-rows : length (stepsWords (a .pools .steps)) ≡ 6 * st .steps
+  step-rows = steps-six (a .pools .steps) ∙ ap (λ (i : ℕ). 6 * i) (sym (h .laid .steps))
+
+  module _ (p : ℕ) (e : p ≡ chainsAt l) where
+    pub chains-inside : length xs < p + st .chains → ⊥
+    chains-inside m = omega (arith, e, chains-fit)
+
+    pub chains-written :
+        (ws : List ℕ)
+        → (NamesHold s l (st .names) xs
+        → ws ≡ section chainWords (chainsFrom s (namesHeld s l (st .names) xs) 0 (take ((p + st .chains) - p) (drop p xs))))
+        → ws ≡ section chainWords (a .pools .chains)
+    chains-written ws f =
+        f names-hold
+        ∙ ap (λ (js : List ℕ). section chainWords (chainsFrom s (namesHeld s l (st .names) xs) 0 js)) (part-is p (chainsAt l) (st .chains) xs e)
+        ∙ chains-held
+
+    pub steps-written :
+        (n : ℕ) (ws : List ℕ)
+        → (NamesHold s l (st .names) xs → n ≡ 6 * stepCount s (take ((p + st .chains) - p) (drop p xs))
+        → ws ≡ stepsWords (stepsFrom s (namesHeld s l (st .names) xs) (take ((p + st .chains) - p) (drop p xs))))
+        → n ≡ 6 * st .steps → ws ≡ stepsWords (a .pools .steps)
+    steps-written n ws f m =
+        let part = part-is p (chainsAt l) (st .chains) xs e in
+        f names-hold (m ∙ ap (λ (i : ℕ). 6 * i) (steps-count ∙ ap (stepCount s) (sym part)))
+        ∙ ap (λ (js : List ℕ). stepsWords (stepsFrom s (namesHeld s l (st .names) xs) js)) part
+        ∙ steps-held
 
   module _ {x y : List ℕ} {at r : ℕ} where
     pub code-put : (0 + 4 * st .code ≤ length xs → Puts x y at r (region 0 (4 * st .code) xs)) → Puts x y at r (codeWords (a .code))
@@ -228,27 +254,3 @@ module _ {s : List ℕ} {l : Layout} {xs : List ℕ} {st : State} {a : Made} (h 
     tokens-put p e f =
         let P : ℕ → Type 0 = λ (q : ℕ). q + st .tokens ≤ length xs → Puts x y at r (map (fieldC s) (region q (st .tokens) xs)) in
         puts-as _ (a .pools .tokens) (sym (h .pooled .tokens)) (subst P e f tokens-fit)
-
-    pub chains-put :
-        (p q : ℕ) → p ≡ chainsAt l → q ≡ namesAt l
-        → (p + st .chains ≤ length xs → q + st .names ≤ length xs → stepCount s (region p (st .chains) xs) < 4294967296
-        → Puts x y at r (section chainWords (chainsFrom s (map (nameOf s) (region q (st .names) xs)) 0 (region p (st .chains) xs))))
-        → Puts x y at r (section chainWords (a .pools .chains))
-    chains-put p q e d f =
-        let P : ℕ → ℕ → Type 0 =
-        λ (i j : ℕ). i + st .chains ≤ length xs → j + st .names ≤ length xs → stepCount s (region i (st .chains) xs) < 4294967296
-        → Puts x y at r (section chainWords (chainsFrom s (map (nameOf s) (region j (st .names) xs)) 0 (region i (st .chains) xs))) in
-        puts-as _ (section chainWords (a .pools .chains)) chains-held
-        (subst (P (chainsAt l)) d (subst (λ (i : ℕ). P i q) e f) chains-fit names-fit steps-few)
-
-    pub steps-put :
-        (p q : ℕ) → p ≡ chainsAt l → q ≡ namesAt l
-        → (p + st .chains ≤ length xs → q + st .names ≤ length xs
-        → Puts x y at r (stepsWords (stepsFrom s (map (nameOf s) (region q (st .names) xs)) (region p (st .chains) xs))))
-        → Puts x y at r (stepsWords (a .pools .steps))
-    steps-put p q e d f =
-        let P : ℕ → ℕ → Type 0 =
-        λ (i j : ℕ). i + st .chains ≤ length xs → j + st .names ≤ length xs
-        → Puts x y at r (stepsWords (stepsFrom s (map (nameOf s) (region j (st .names) xs)) (region i (st .chains) xs))) in
-        puts-as _ (stepsWords (a .pools .steps)) steps-held
-        (subst (P (chainsAt l)) d (subst (λ (i : ℕ). P i q) e f) chains-fit names-fit)

@@ -8,11 +8,8 @@ use lib.Seq.{length-take-le}
 use mir.Syntax.{w32, w64}
 use mir.Val.{Fits}
 use Rattle.sheet.specs.Limits.{maxDepth}
-use Rattle.lowering.specs.Pools.{Name, stepsWords}
-use Rattle.chains.specs.Steps.{stepsFrom}
 use Rattle.chains.specs.Kept.{stepCount}
 use Rattle.sections.specs.ChainRows.{steps-most}
-use Rattle.image.specs.RowLengths.{step-rows}
 use Rattle.image.specs.Puts.{Puts, puts-none}
 
 module _ (m b n : ℕ) (h : b + n ≤ m) where
@@ -40,9 +37,6 @@ module _ (n : ℕ) (f : Fits w32 n) where
   pub three-fits : Fits w64 (3 * n)
   three-fits = record { fits = omega (arith, few) }
 
-  pub six-fits : Fits w64 (6 * n)
-  six-fits = record { fits = omega (arith, few) }
-
 -- the length of a part
 module _ (xs : List ℕ) (b n : ℕ) (h : b + n ≤ length xs) where
   pub part-length : length (take ((b + n) - b) (drop b xs)) ≡ n
@@ -54,38 +48,20 @@ module _ (xs : List ℕ) (b n : ℕ) (h : b + n ≤ length xs) where
       left : (b + n) - b ≡ n
       left = omega arith
 
-  pub part-few : Fits w32 n → length (take ((b + n) - b) (drop b xs)) < 4294967296
-  part-few f = less (length (take ((b + n) - b) (drop b xs))) part-length (f .fits)
-    where
-      less : (k : ℕ) → k ≡ n → n < 2 ^ 32 → k < 4294967296
-      less k e f = omega arith
-
 -- a part of the image is as long as so many rows
 pub rows-length : (xs ys : List ℕ) (at b k n m : ℕ) → at + m ≤ length ys → b + n ≤ length xs → m ≡ k * n
     → length (take ((at + m) - at) (drop at ys)) ≡ k * length (take ((b + n) - b) (drop b xs))
 rows-length xs ys at b k n m h g e = part-length ys at m h ∙ e ∙ ap (λ (i : ℕ). k * i) (sym (part-length xs b n g))
 
--- a count that is told, against a bound
-module _ (r v m : ℕ) (e : r ≡ v) where
-  pub told-below : r < m → v < m
-  told-below h = omega arith
-
-  pub told-above : m ≤ r → v < m → ⊥
-  told-above h l = omega arith
-
--- the words of all steps of a part
-pub steps-fit : (s xs : List ℕ) (b n r : ℕ) → b + n ≤ length xs → Fits w32 n → r ≡ stepCount s (take ((b + n) - b) (drop b xs)) → Fits w64 (6 * r)
-steps-fit s xs b n r h f e = record {
-  fits = less (length (take ((b + n) - b) (drop b xs))) (stepCount s (take ((b + n) - b) (drop b xs))) (part-few xs b n h f)
-      (steps-most s (take ((b + n) - b) (drop b xs))) e;
-}
+-- so few chains have fewer steps than a word counts
+pub few-steps :
+    (s xs : List ℕ) (b n : ℕ) → b + n ≤ length xs → n ≤ 67108863 → stepCount s (take ((b + n) - b) (drop b xs)) < 4294967296
+few-steps s xs b n h f =
+    less (length (take ((b + n) - b) (drop b xs))) (stepCount s (take ((b + n) - b) (drop b xs))) (part-length xs b n h)
+    (steps-most s (take ((b + n) - b) (drop b xs)))
   where
-    less : (k v : ℕ) → k < 4294967296 → v ≤ maxDepth * k → r ≡ v → 6 * r < 2 ^ 64
-    less k v l d e = omega arith
-
--- the words of steps that are counted
-pub steps-told : (s : List ℕ) (ns : List Name) (js : List ℕ) (r : ℕ) → r ≡ stepCount s js → length (stepsWords (stepsFrom s ns js)) ≡ 6 * r
-steps-told s ns js r e = step-rows s ns js ∙ ap (λ (i : ℕ). 6 * i) (sym e)
+    less : (k v : ℕ) → k ≡ n → v ≤ maxDepth * k → v < 4294967296
+    less k v e d = omega (arith, f)
 
 -- rows that do not fit are left out
 pub none-puts : (x : List ℕ) (at k : ℕ) (ys : List ℕ) → length ys ≡ k → length x < at + k → Puts x x at at ys

@@ -6,15 +6,13 @@ use lib.ListN.{length, length-map}
 use Rattle.sheet.specs.Node.{fieldC}
 use Rattle.bytecode.specs.declared.Chain.{Chain}
 use Rattle.bytecode.specs.Chain.{chainWords}
-use Rattle.lowering.specs.Pools.{Const, Name, constOf, stepsWords}
+use Rattle.lowering.specs.Pools.{Const, Name, constOf}
 use Rattle.lowering.specs.Image.{section, constWords, nameWords}
-use Rattle.chains.specs.Steps.{chainIn, chainsFrom, stepsFrom}
-use Rattle.chains.specs.Kept.{stepCount}
-use Rattle.chains.specs.KeptLaws.{chains-length, all-steps-length}
-use Rattle.chains.specs.WordsLaws.{chain-six, steps-six}
+use Rattle.chains.specs.Steps.{chainIn}
+use Rattle.chains.specs.WordsLaws.{chain-six}
 use Rattle.keys.specs.Keys.{nameOf}
-use Rattle.store.specs.Places.{region}
-use Rattle.store.specs.RegionLaws.{region-length}
+use Rattle.scratch.specs.Places.{region}
+use Rattle.scratch.proofs.RegionLaws.{region-length}
 use Rattle.sections.specs.RowLaws.{section-length}
 
 const-three : (c : Const) → length (constWords c) ≡ 3
@@ -45,11 +43,3 @@ module _ (s x : List ℕ) (b n : ℕ) (h : b + n ≤ length x) where
 
   pub token-rows : length (map (fieldC s) (region b n x)) ≡ n
   token-rows = length-map (region b n x) (fieldC s) ∙ region-length b n x h
-
-  pub chain-rows : (ns : List Name) → length (section chainWords (chainsFrom s ns 0 (region b n x))) ≡ 6 * n
-  chain-rows ns =
-      chain-words-length s (chainsFrom s ns 0 (region b n x))
-      ∙ ap (λ (i : ℕ). 6 * i) (chains-length s ns 0 (region b n x) ∙ region-length b n x h)
-
-pub step-rows : (s : List ℕ) (ns : List Name) (js : List ℕ) → length (stepsWords (stepsFrom s ns js)) ≡ 6 * stepCount s js
-step-rows s ns js = steps-six (stepsFrom s ns js) ∙ ap (λ (i : ℕ). 6 * i) (all-steps-length s ns js)

@@ -1,6 +1,6 @@
 // The finished image, written from what the scratch holds. Each section goes to its own part of the image; what does not fit is left out.
 ghost use mathlib.Core.Path.{_≡_};
-ghost use Prim.Native.Nat.{ℕ, _+_, _*_, _≤_, _<_, min};
+ghost use Prim.Native.Nat.{ℕ, _+_, _≤_, min};
 ghost use mathlib.Core.List.{List, _++_, map};
 ghost use lib.ListN.{length, drop};
 ghost use Rattle.sheet.specs.Node as nodes;
@@ -8,29 +8,30 @@ ghost use Rattle.bytecode.specs.Chain.{chainWords};
 ghost use Rattle.lowering.specs.Limits.{maxStackCap};
 ghost use Rattle.lowering.specs.Pools as pools;
 ghost use Rattle.lowering.specs.Image.{section, constWords, nameWords};
-ghost use Rattle.chains.specs.Steps as chained;
-ghost use Rattle.chains.specs.Kept as kept;
 ghost use Rattle.keys.specs.Keys.{nameOf};
 ghost use Rattle.emission.specs.Made.{Made};
-ghost use Rattle.store.specs.Places.{region};
+ghost use Rattle.scratch.specs.Places.{region};
 ghost use Rattle.store.specs.Holds.{Holds};
+ghost use Rattle.scratch.specs.declared.Layout.{Layout};
 ghost use Rattle.image.specs.Front as fronts;
 ghost use Rattle.image.specs.Puts.{Puts};
 ghost use Rattle.image.specs.Reach.{Reach};
+use scratch::Layout;
+use scratch::OP;
+use scratch::chains_at;
+use scratch::consts_at;
+use scratch::names_at;
+use scratch::positions_at;
+use scratch::residuals_at;
+use scratch::tokens_at;
 use sections::copy;
-use sections::step_count;
-use store::Layout;
 use store::State;
-use store::places::OP;
-use store::places::chains_at;
-use store::places::consts_at;
-use store::places::names_at;
-use store::places::positions_at;
-use store::places::residuals_at;
-use store::places::tokens_at;
 
 // Where `max_stack` is capped.
 const MAX_STACK: u32 = 65535;
+
+// So many chains have at most 4294967232 steps.
+const MAX_CHAINS: usize = 67108863;
 
 // `n` elements from `at` on reach beyond `m`.
 pub fn beyond(m: usize, at: usize, n: usize) -> bool
@@ -118,96 +119,47 @@ fn put_tokens(s: &[u8], x: &[u32], b: usize, n: u32, image: &mut [u32], at: usiz
     e
 }
 
-// How many steps the chains of `n` nodes have.
-fn held_steps(s: &[u8], x: &[u32], b: usize, n: u32) -> u32
+// The chains. So many that their steps might not fit a word are left out.
+fn put_chains(s: &[u8], l: Layout, x: &[u32], st: State, image: &mut [u32], at: usize) -> usize
     ensures { λ r. ⌜
-        (b + n ≤ length (now (x .entry)) → kept.stepCount (now (s .entry)) (region b n (now (x .entry))) < 4294967296
-        → r ≡ kept.stepCount (now (s .entry)) (region b n (now (x .entry)))) ⌝ }
+        ((a : Made) → Holds (now (s .entry)) l (now (x .entry)) st a
+        → Puts (now (image .entry)) (now (image .exit)) at r (section chainWords (a .pools .chains))) ⌝ }
 {
-    let k = n as usize;
+    let b = chains_at(l);
+    let k = st.chains as usize;
     if beyond(x.len(), b, k) {
-        return 0;
-    }
-    let f = b + k;
-    let i = step_count(s, &x[b..f]);
-    if i < 4294967296 {
-        return i as u32;
-    }
-    0
-}
-
-// The chains of `n` nodes, over the `m` names from `c` on.
-fn put_chains(
-    s: &[u8],
-    x: &[u32],
-    b: usize,
-    n: u32,
-    c: usize,
-    m: u32,
-    image: &mut [u32],
-    at: usize,
-) -> usize
-    ensures { λ r. ⌜
-        (b + n ≤ length (now (x .entry)) → c + m ≤ length (now (x .entry))
-        → kept.stepCount (now (s .entry)) (region b n (now (x .entry))) < 4294967296
-        → Puts (now (image .entry)) (now (image .exit)) at r
-        (section chainWords (chained.chainsFrom (now (s .entry))
-        (map (nameOf (now (s .entry))) (region c m (now (x .entry)))) 0 (region b n (now (x .entry)))))) ⌝ }
-{
-    let k = n as usize;
-    let i = m as usize;
-    if beyond(x.len(), b, k) {
-        return at;
-    }
-    if beyond(x.len(), c, i) {
         return at;
     }
     if beyond(image.len(), at, 6 * k) {
         return at;
     }
-    let f = b + k;
-    if step_count(s, &x[b..f]) < 4294967296 {
-        let g = c + i;
-        let e = at + 6 * k;
-        sections::chains(s, &mut image[at..e], &x[b..f], &x[c..g]);
-        return e;
+    if MAX_CHAINS < k {
+        return at;
     }
-    at
+    let f = b + k;
+    let e = at + 6 * k;
+    sections::chains(s, &mut image[at..e], &x[b..f], x, l, st.names);
+    e
 }
 
-// The steps of the chains of `n` nodes, over the `m` names from `c` on.
-fn put_steps(
-    s: &[u8],
-    x: &[u32],
-    b: usize,
-    n: u32,
-    c: usize,
-    m: u32,
-    image: &mut [u32],
-    at: usize,
-) -> usize
+// The steps, which are counted already.
+fn put_steps(s: &[u8], l: Layout, x: &[u32], st: State, image: &mut [u32], at: usize) -> usize
     ensures { λ r. ⌜
-        (b + n ≤ length (now (x .entry)) → c + m ≤ length (now (x .entry))
-        → Puts (now (image .entry)) (now (image .exit)) at r
-        (pools.stepsWords (chained.stepsFrom (now (s .entry))
-        (map (nameOf (now (s .entry))) (region c m (now (x .entry)))) (region b n (now (x .entry)))))) ⌝ }
+        ((a : Made) → Holds (now (s .entry)) l (now (x .entry)) st a
+        → Puts (now (image .entry)) (now (image .exit)) at r (pools.stepsWords (a .pools .steps))) ⌝ }
 {
-    let k = n as usize;
-    let i = m as usize;
+    let b = chains_at(l);
+    let k = st.chains as usize;
     if beyond(x.len(), b, k) {
         return at;
     }
-    if beyond(x.len(), c, i) {
-        return at;
-    }
-    let f = b + k;
-    let w = 6 * step_count(s, &x[b..f]);
+    let w = 6 * (st.steps as usize);
     if beyond(image.len(), at, w) {
         return at;
     }
-    let g = c + i;
+    let f = b + k;
     let e = at + w;
-    sections::steps(s, &mut image[at..e], &x[b..f], &x[c..g]);
+    sections::steps(s, &mut image[at..e], &x[b..f], x, l, st.names);
     e
 }
 
@@ -219,10 +171,10 @@ fn capped(n: u32) -> u32
 }
 
 // The twelve sizes.
-fn front_sizes(s: &[u8], l: Layout, x: &[u32], st: State, sw: u32, ca: u32, ra: u32) -> [u32; 12]
-    ensures { λ r. ⌜ ((a : Made) → Holds (now (s .entry)) l (now (x .entry)) st a → r ≡ fronts.frontSizes a sw ca ra) ⌝ }
+fn front_sizes(st: State, sw: u32, ca: u32, ra: u32) -> [u32; 12]
+    ensures { λ r. ⌜
+        ((s : List ℕ) (l : Layout) (xs : List ℕ) (a : Made) → Holds s l xs st a → r ≡ fronts.frontSizes a sw ca ra) ⌝ }
 {
-    let steps = held_steps(s, x, chains_at(l), st.chains);
     [
         st.code,
         st.consts,
@@ -230,7 +182,7 @@ fn front_sizes(s: &[u8], l: Layout, x: &[u32], st: State, sw: u32, ca: u32, ra: 
         st.tokens,
         st.residuals,
         st.chains,
-        steps,
+        st.steps,
         sw,
         ca,
         ra,
@@ -280,16 +232,13 @@ fn put_linked(s: &[u8], l: Layout, x: &[u32], st: State, image: &mut [u32], at: 
         ((a : Made) → Holds (now (s .entry)) l (now (x .entry)) st a
         → Puts (now (image .entry)) (now (image .exit)) at r (fronts.chainsPart a)) ⌝ }
 {
-    let b = chains_at(l);
-    let c = names_at(l);
-    let e = put_chains(s, x, b, st.chains, c, st.names, image, at);
-    put_steps(s, x, b, st.chains, c, st.names, image, e)
+    let e = put_chains(s, l, x, st, image, at);
+    put_steps(s, l, x, st, image, e)
 }
 
 // The front of the image with `sw`, `ca` and `ra` as the sizes of the tables, and the place behind it.
 pub fn put_front(
     s: &[u8],
-    l: Layout,
     x: &[u32],
     st: State,
     image: &mut [u32],
@@ -298,10 +247,14 @@ pub fn put_front(
     ra: u32,
 ) -> usize
     ensures { λ r. ⌜
-        ((a : Made) → Holds (now (s .entry)) l (now (x .entry)) st a
+        ((l : Layout) (a : Made) → Holds (now (s .entry)) l (now (x .entry)) st a
         → Puts (now (image .entry)) (now (image .exit)) 0 r (fronts.front a sw ca ra)) ⌝ }
 {
-    let n = front_sizes(s, l, x, st, sw, ca, ra);
+    let l = Layout {
+        most: st.most,
+        nodes: st.nodes,
+    };
+    let n = front_sizes(st, sw, ca, ra);
     let e = put_sizes(image, n);
     let f = put_code(l, x, st, image, e);
     let g = put_pools(s, l, x, st, image, f);
@@ -309,32 +262,23 @@ pub fn put_front(
 }
 
 // The front of the image; what stood behind it stays.
-pub fn write_front(
-    s: &[u8],
-    l: Layout,
-    x: &[u32],
-    st: State,
-    image: &mut [u32],
-    sw: u32,
-    ca: u32,
-    ra: u32,
-)
+pub fn write_front(s: &[u8], x: &[u32], st: State, image: &mut [u32], sw: u32, ca: u32, ra: u32)
     ensures { λ _. ⌜
-        ((a : Made) → Holds (now (s .entry)) l (now (x .entry)) st a
+        ((l : Layout) (a : Made) → Holds (now (s .entry)) l (now (x .entry)) st a
         → length (fronts.front a sw ca ra) ≤ length (now (image .entry))
         → now (image .exit) ≡ fronts.front a sw ca ra ++ drop (length (fronts.front a sw ca ra)) (now (image .entry))) ⌝ }
 {
-    let _e = put_front(s, l, x, st, image, sw, ca, ra);
+    let _e = put_front(s, x, st, image, sw, ca, ra);
 }
 
 // The count of the image's words, of which `tables` stand behind the front.
-pub fn image_len(s: &[u8], l: Layout, x: &[u32], st: State, tables: u32) -> usize
+pub fn image_len(st: State, tables: u32) -> usize
     ensures { λ r. ⌜
-        ((a : Made) → Holds (now (s .entry)) l (now (x .entry)) st a → (sw ca ra : ℕ) → r ≡ length (fronts.front a sw ca ra) + tables) ⌝ }
+        ((s : List ℕ) (l : Layout) (xs : List ℕ) (a : Made) → Holds s l xs st a → (sw ca ra : ℕ)
+        → r ≡ length (fronts.front a sw ca ra) + tables) ⌝ }
 {
-    let steps = held_steps(s, x, chains_at(l), st.chains);
     let code = 5 * (st.code as usize);
     let keys = 3 * (st.consts as usize) + 2 * (st.names as usize) + (st.tokens as usize);
-    let linked = 6 * (st.chains as usize) + 6 * (steps as usize);
+    let linked = 6 * (st.chains as usize) + 6 * (st.steps as usize);
     12 + code + keys + (st.residuals as usize) + linked + (tables as usize)
 }

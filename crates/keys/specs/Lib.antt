@@ -1,4 +1,5 @@
 pub mod Keys
+pub mod Used
 pub mod SeekLaws
 pub mod BangLaws
 pub mod KeyLaws

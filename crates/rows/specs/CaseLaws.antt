@@ -3,7 +3,7 @@ use Prim.Native.Nat.{ℕ, zero, suc, _+_, _*_, _≤_, _<_}
 use mathlib.Core.Path.{_≡_, refl, sym, ap, ap₂, _∙_}
 use mathlib.Core.List.{List, [], _∷_, map}
 use native.Mathlib.Omega.{arith}
-use lib.ListN.{length, getD, length-map}
+use lib.ListN.{length, getD}
 use Rattle.sheet.specs.Node.{child, next}
 use Rattle.sheet.specs.Walk.{skip}
 use Rattle.sheet.specs.WalkLaws.{skip-add}
@@ -17,8 +17,15 @@ use Rattle.lowering.specs.SwitchSheet.{casesOf, caseBlocks}
 use Rattle.lowering.specs.SwitchLayout.{Layout}
 use Rattle.lowering.specs.SwitchTables.{entryOf, target, casePools, caseRows, caseTable, rangeTable}
 use Rattle.chains.specs.Grow.{Grows, grows-refl, grows-trans}
-use Rattle.chains.specs.FindLaws.{added-grows, added-same, added-within, grown-same, first-within}
+use Rattle.chains.specs.FindLaws.{added-grows, added-same, added-within, grown-same}
 use Rattle.keys.specs.ConstLaws.{const-self}
+use Rattle.keys.specs.SeekLaws.{first-map}
+use Rattle.scratch.specs.declared.Layout as scratch
+use Rattle.scratch.specs.Places.{constsAt, constIndex, region}
+use Rattle.index.specs.Lookup.{Finds}
+use Rattle.index.specs.Consts.{constSlot, sameConstOf, constHash}
+use Rattle.index.specs.Indexes.{Indexes}
+use Rattle.index.proofs.IndexesLaws.{const-found}
 use Rattle.tables.specs.NodesLaws.{nodes-length, cases-are}
 use Rattle.tables.specs.Whole.{case-at}
 use Rattle.sections.specs.Written.{Written}
@@ -93,15 +100,17 @@ module _ (x y : List ℕ) (n fallback m default : ℕ) (e : length x ≡ 4 * tab
 
 -- ---- the rows of cases
 
--- the place of a constant, as a 32-bit number
-module _ (s ks : List ℕ) (j : ℕ) where
-  pub place-is :
-      (c r : ℕ) → j ≡ child c → r ≡ firstWhere (sameConst s (constOf s j)) (map (constOf s) ks) → r ≡ placeIn s ks c
-  unfolding placeIn
-  place-is c r e q = q ∙ ap (λ (n : ℕ). firstWhere (sameConst s (constOf s n)) (map (constOf s) ks)) e
-
-  pub place-within : firstWhere (sameConst s (constOf s j)) (map (constOf s) ks) ≤ length ks
-  place-within = omega (arith, first-within (sameConst s (constOf s j)) (map (constOf s) ks), length-map ks (constOf s))
+-- the place of the constant of node j, by its hash g
+pub place-found :
+    {s : List ℕ} {l : scratch.Layout} {n ts hs ns : ℕ} {xs : List ℕ} → Indexes s l n ts hs ns xs → (j g c r : ℕ) → j ≡ child c
+    → g ≡ constHash s j → Finds (sameConstOf s j) (constHash s) constSlot (constIndex l) n g xs r
+    → r ≡ placeIn s (region (constsAt l) n xs) c
+unfolding placeIn
+place-found {s} {l} {n} {xs = xs} h j g c r e q f =
+    let ks = region (constsAt l) n xs in
+    const-found h j g r q f
+    ∙ sym (first-map (sameConst s (constOf s j)) (constOf s) ks)
+    ∙ ap (λ (i : ℕ). firstWhere (sameConst s (constOf s i)) (map (constOf s) ks)) e
 
 case-two : (c : SwitchCase) → length (caseWords c) ≡ 2
 unfolding caseWords

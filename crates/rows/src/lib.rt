@@ -1,7 +1,7 @@
 // The sections of a switch's tables. Each function writes the whole of a part that is lent to it, of just the length that the section has.
 ghost use mathlib.Core.Path.{_≡_};
 ghost use mathlib.Core.List.{List};
-ghost use Prim.Native.Nat.{ℕ, _+_, _*_, _<_, _≤_};
+ghost use Prim.Native.Nat.{ℕ, _+_, _*_, _≤_};
 ghost use lib.ListN.{length};
 ghost use Rattle.switches.specs.Switch.{caseCount};
 ghost use Rattle.cases.specs.Held as points;
@@ -11,11 +11,15 @@ ghost use Rattle.lowering.specs.Image.{section};
 ghost use Rattle.lowering.specs.SwitchTables.{oneIf};
 ghost use Rattle.tables.specs.Runs.{entryOf};
 ghost use Rattle.sections.specs.PutLaws.{putPart};
+ghost use Rattle.scratch.specs.Places.{constsAt, region};
+ghost use Rattle.index.specs.Indexes.{Indexes};
 ghost use Rattle.rows.specs.Rows.{rowsOf, tablesOf, tableCount, placeIn, caseRow, rangeRow, runRow};
 use cases::Points;
 use cases::high_word;
 use cases::low_word;
-use keys::find_const;
+use index::const_hash;
+use index::find_const;
+use scratch::Layout;
 use sections::copy;
 use sections::put_six;
 use sections::put_two;
@@ -49,29 +53,28 @@ pub fn switch_rows(out: &mut [u32], cases: u32, fallback: u32, ranges: u32, defa
     }
 }
 
-// Where the value of Case `c` stands among the constants of the nodes `ks`.
-fn place(s: &[u8], ks: &[u32], c: u32) -> u32
-    requires { ⌜ length (now ks) < 4294967296 ⌝ }
-    ensures { λ r. ⌜ r ≡ placeIn (now (s .entry)) (now (ks .entry)) c ⌝ }
+// Where the value of Case `c` stands among the `n` constants that the scratch holds.
+fn place(s: &[u8], x: &[u32], l: Layout, n: u32, c: u32) -> u32
+    ensures { λ r. let sheet = now (s .entry) in let words = now (x .entry) in ⌜
+        ((ts hs ns : ℕ) → Indexes sheet l n ts hs ns words → r ≡ placeIn sheet (region (constsAt l) n words) c) ⌝ }
 {
     let v = child(c);
-    find_const(s, ks, v) as u32
+    find_const(s, x, l, n, v, const_hash(s, v))
 }
 
-// The rows of the Cases, at most 64, over the constants of the nodes `ks`.
-pub fn case_rows(s: &[u8], out: &mut [u32], ks: &[u32], targets: [u32; 64])
+// The rows of the Cases, at most 64, over the `n` constants that the scratch holds.
+pub fn case_rows(s: &[u8], out: &mut [u32], x: &[u32], l: Layout, n: u32, targets: [u32; 64])
     requires { ⌜ length (now out) ≡ 2 * caseCount (now s) ⌝ }
     requires { ⌜ caseCount (now s) ≤ 64 ⌝ }
-    requires { ⌜ length (now ks) < 4294967296 ⌝ }
-    ensures { λ _. ⌜
-        now (out .exit) ≡ section caseWords
-        (rowsOf (caseRow (now (s .entry)) (now (ks .entry)) targets) (caseCount (now (s .entry)))) ⌝ }
+    ensures { λ _. let sheet = now (s .entry) in let words = now (x .entry) in ⌜
+        ((ts hs ns : ℕ) → Indexes sheet l n ts hs ns words
+        → now (out .exit) ≡ section caseWords (rowsOf (caseRow sheet (region (constsAt l) n words) targets) (caseCount sheet))) ⌝ }
 {
-    let n = field_b(s, 0) as usize;
+    let m = field_b(s, 0) as usize;
     let mut j = first_case(s);
     let mut i = 0;
-    while i < n {
-        put_two(out, 2 * i, targets[i], place(s, ks, j));
+    while i < m {
+        put_two(out, 2 * i, targets[i], place(s, x, l, n, j));
         j = next(s, j);
         i += 1;
     }

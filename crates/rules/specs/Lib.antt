@@ -1,3 +1,4 @@
 pub mod Answers
 pub mod Inverse
+pub mod Keywords
 pub mod RuleLaws

@@ -7,20 +7,18 @@ use mathlib.Core.List.{List}
 use lib.Dec.{eqb, leb}
 use lib.ListN.{getD}
 use borrow.Author.Tests.{eq-eqb, ne-eqb}
-use Rattle.text.specs.Keyword.{isEval}
 use Rattle.sheet.specs.Node.{kind, fieldA, fieldB, fieldC, count, child}
 use Rattle.sheet.specs.Text.{text}
 use Rattle.lowering.specs.Slots.{resolve}
 use Rattle.lowering.specs.Expression.{Rule, rules, rule, residual}
 use Rattle.lowering.specs.Call as Call
-use Rattle.lowering.specs.Call.{callee, isFnPtr, isFnPtrCall, isLowerableCall, callRule, variableFirst, receiver}
+use Rattle.lowering.specs.Call.{variableFirst, receiver}
 use Rattle.lowering.specs.Flatten.{restOf, goesOn, operandOf, dotRule, stepRule}
 use Rattle.slots.specs.declared.Found.the-variants.{At, Nothing}
 use Rattle.slots.specs.Found.{found}
-use Rattle.rules.specs.declared.calls.CallRule as Calls
 use Rattle.rules.specs.declared.calls.First as Firsts
 use Rattle.rules.specs.declared.chains.StepRule as StepRules
-use Rattle.rules.specs.Answers.{ruleOf, callRuleOf, firstOf, stepRuleOf}
+use Rattle.rules.specs.Answers.{ruleOf, firstOf, stepRuleOf}
 
 -- ---- nodes
 
@@ -61,26 +59,6 @@ rule-other (suc (suc (suc (suc (suc (suc (suc (suc (suc (suc (suc (suc (suc (suc
 -- ---- calls
 
 module _ (s : List ℕ) (j : ℕ) where
-  pub call-fn-ptr : isFnPtr s j ≡ true → Calls.the-variants.FnPtr ≡ callRuleOf (callRule s j)
-  unfolding callRule callRuleOf
-  call-fn-ptr h = rw (h, callRule)
-
-  pub call-fn-ptr-call : isFnPtr s j ≡ false → isFnPtrCall s j ≡ true → Calls.the-variants.FnPtrCall ≡ callRuleOf (callRule s j)
-  unfolding callRule callRuleOf
-  call-fn-ptr-call h i = rw (h, i, callRule)
-
-  pub call-lowerable : isFnPtr s j ≡ false → isFnPtrCall s j ≡ false → isLowerableCall s j ≡ true → Calls.the-variants.Lowerable ≡ callRuleOf (callRule s j)
-  unfolding callRule callRuleOf
-  call-lowerable h i k = rw (h, i, k, callRule)
-
-  pub call-eval : isFnPtr s j ≡ false → isFnPtrCall s j ≡ false → isLowerableCall s j ≡ false → isEval (callee s j) ≡ true → Calls.the-variants.Eval ≡ callRuleOf (callRule s j)
-  unfolding callRule callRuleOf
-  call-eval h i k l = rw (h, i, k, l, callRule)
-
-  pub call-residual : isFnPtr s j ≡ false → isFnPtrCall s j ≡ false → isLowerableCall s j ≡ false → isEval (callee s j) ≡ false → Calls.the-variants.Residual ≡ callRuleOf (callRule s j)
-  unfolding callRule callRuleOf
-  call-residual h i k l = rw (h, i, k, l, callRule)
-
   -- a variable that is a local, or is not
   pub variable-local : (slot : ℕ) → found (resolve s (text s (fieldA s j))) ≡ At slot → Firsts.the-variants.Local slot ≡ firstOf (variableFirst s j)
   unfolding variableFirst found firstOf

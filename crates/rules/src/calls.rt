@@ -3,6 +3,9 @@ ghost use mathlib.Core.Path.{_≡_};
 ghost use Prim.Native.Nat.{_-_};
 ghost use Rattle.lowering.specs.Call as calls;
 ghost use Rattle.rules.specs.Answers as answers;
+use crate::keywords::as_call;
+use crate::keywords::keyword_of;
+use crate::keywords::rule_by;
 use crate::kinds::THIS;
 use crate::kinds::VARIABLE;
 use lowering::MAX_ARGS;
@@ -13,10 +16,6 @@ use sheet::field_b;
 use sheet::field_c;
 use sheet::kind;
 use slots::Found;
-use text::is_call;
-use text::is_curry;
-use text::is_eval;
-use text::is_fn;
 
 // Which rule lowers a call: `Fn`, `call`, generic dispatch, `eval`; or the call is kept.
 pub enum CallRule {
@@ -35,53 +34,20 @@ pub enum First {
     Value,
 }
 
-// A name with a meaning of its own.
-fn syntactic(name: &[u8]) -> bool
-    ensures { λ r. ⌜ r ≡ calls.syntactic (now (name .entry)) ⌝ }
-{
-    is_eval(name) | is_fn(name) | is_call(name) | is_curry(name)
-}
-
 // Generic dispatch takes the call.
 pub fn is_lowerable_call(s: &[u8], j: u32) -> bool
     ensures { λ r. ⌜ r ≡ calls.isLowerableCall (now (s .entry)) j ⌝ }
 {
-    let named = syntactic(sheet::text(s, field_a(s, j)));
-    (count(s, j) <= MAX_ARGS) & !named
-}
-
-// `Fn(name)`.
-fn is_fn_ptr(s: &[u8], j: u32) -> bool
-    ensures { λ r. ⌜ r ≡ calls.isFnPtr (now (s .entry)) j ⌝ }
-{
-    is_fn(sheet::text(s, field_a(s, j))) & (count(s, j) == 1)
-}
-
-// `call(f, ..)`.
-fn is_fn_ptr_call(s: &[u8], j: u32) -> bool
-    ensures { λ r. ⌜ r ≡ calls.isFnPtrCall (now (s .entry)) j ⌝ }
-{
-    let n = count(s, j);
-    is_call(sheet::text(s, field_a(s, j))) & (1 <= n) & (n <= MAX_ARGS + 1)
+    let word = keyword_of(sheet::text(s, field_a(s, j)));
+    (count(s, j) <= MAX_ARGS) & as_call(word)
 }
 
 // The rule of call `j`.
 pub fn call_rule(s: &[u8], j: u32) -> CallRule
     ensures { λ r. ⌜ r ≡ answers.callRuleOf (calls.callRule (now (s .entry)) j) ⌝ }
 {
-    if is_fn_ptr(s, j) {
-        return CallRule::FnPtr;
-    }
-    if is_fn_ptr_call(s, j) {
-        return CallRule::FnPtrCall;
-    }
-    if is_lowerable_call(s, j) {
-        return CallRule::Lowerable;
-    }
-    if is_eval(sheet::text(s, field_a(s, j))) {
-        return CallRule::Eval;
-    }
-    CallRule::Residual
+    let word = keyword_of(sheet::text(s, field_a(s, j)));
+    rule_by(word, count(s, j))
 }
 
 // A variable as a first argument.

@@ -3,7 +3,8 @@ ghost use mathlib.Core.Path.{_≡_};
 ghost use Rattle.lowering.specs.Flatten as chains;
 ghost use Rattle.lowering.specs.Steps as steps;
 ghost use Rattle.rules.specs.Answers as answers;
-use crate::calls::is_lowerable_call;
+use crate::keywords::as_method;
+use crate::keywords::keyword_of;
 use crate::kinds::DOT;
 use crate::kinds::INDEX;
 use crate::kinds::METHOD_CALL;
@@ -14,8 +15,6 @@ use sheet::count;
 use sheet::field_a;
 use sheet::kind;
 use sheet::next;
-use text::is_call;
-use text::is_curry;
 
 // What step a link has. A dot onto anything but a property or a method has none.
 pub enum StepRule {
@@ -99,7 +98,6 @@ pub fn step_rule(s: &[u8], c: u32) -> StepRule
 pub fn is_lowerable_method(s: &[u8], x: u32) -> bool
     ensures { λ r. ⌜ r ≡ steps.isLowerableMethod (now (s .entry)) x ⌝ }
 {
-    let name = sheet::text(s, field_a(s, x));
-    let own = is_call(name) | is_curry(name);
-    (own | is_lowerable_call(s, x)) & (count(s, x) <= MAX_ARGS)
+    let word = keyword_of(sheet::text(s, field_a(s, x)));
+    (count(s, x) <= MAX_ARGS) & as_method(word)
 }

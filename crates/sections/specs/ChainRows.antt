@@ -2,9 +2,9 @@
 use Prim.Native.Nat.{ℕ, zero, suc, _+_, _-_, _*_, _≤_, _<_}
 use mathlib.Core.Path.{_≡_, refl, sym, ap, subst, _∙_}
 use mathlib.Core.Bool.{Bool, true, false}
-use mathlib.Core.List.{List, [], _∷_, _++_, map}
+use mathlib.Core.List.{List, [], _∷_, _++_}
 use native.Mathlib.Omega.{arith}
-use lib.ListN.{length, take, drop, getD, length-map, take-append-drop}
+use lib.ListN.{length, take, drop, getD, take-append-drop}
 use lib.Seq.{length-take-le}
 use borrow.Author.Tests.{ne-eqb}
 use Rattle.sheet.specs.Limits.{maxDepth}
@@ -13,30 +13,26 @@ use Rattle.bytecode.specs.declared.Chain.{Chain}
 use Rattle.bytecode.specs.Chain.{chainWords}
 use Rattle.lowering.specs.Kinds.{variableKind}
 use Rattle.lowering.specs.Flatten.{goesOn, restOf, links}
-use Rattle.lowering.specs.Pools.{Name, sameName, name, firstWhere}
+use Rattle.lowering.specs.Pools.{Name, name}
 use Rattle.lowering.specs.Image.{section}
-use Rattle.chains.specs.FindLaws.{first-within}
-use Rattle.chains.specs.LinkLaws.{links-more, links-last, links-none}
+use Rattle.chains.specs.LinkLaws.{links-most}
 use Rattle.chains.specs.Steps.{nameIn, rootWith, rootIn, chainRoot, linkCount, chainWith, chainIn, chainsFrom}
 use Rattle.chains.specs.Kept.{stepCount}
 use Rattle.chains.specs.KeptLaws.{chains-length, chains-snoc}
 use Rattle.chains.specs.StayLaws.{root-nameless}
 use Rattle.chains.specs.WordsLaws.{chain-six}
-use Rattle.keys.specs.Keys.{nameOf}
-use Rattle.keys.specs.KeyLaws.{find-in}
+use Rattle.scratch.specs.declared.Layout.{Layout}
+use Rattle.index.specs.Held.{namesHeld, NamesHold, FindsName}
 use Rattle.sections.specs.Written.{Written}
 use Rattle.sections.specs.PutLaws.{putPart, written-next, written-all}
 use Rattle.sections.specs.RowLaws.{take-more, take-whole, section-snoc, section-length}
 
--- where a name stands, as a 32-bit number
-pub place-in : (s ks : List ℕ) (t : ℕ) → nameIn s (map (nameOf s) ks) t ≤ length ks
+-- where a name stands
+pub placed :
+    {s : List ℕ} {l : Layout} {n : ℕ} {xs : List ℕ} {t r : ℕ} → FindsName s l n (name t 0) xs r → NamesHold s l n xs
+    → r ≡ nameIn s (namesHeld s l n xs) t
 unfolding nameIn
-place-in s ks t = omega (arith, first-within (sameName s (name t 0)) (map (nameOf s) ks), length-map ks (nameOf s))
-
-pub place-fits :
-    {r : ℕ} (s ks : List ℕ) (t : ℕ) → r ≡ firstWhere (sameName s (name t 0)) (map (nameOf s) ks) → length ks < 4294967296
-    → r < 4294967296
-place-fits s ks t e h = omega (arith, find-in s t ks, place-in s ks t)
+placed f h = f .found h
 
 -- the root of node v, by the place of its name or, where it has none, by any
 module _ (s : List ℕ) (ns : List Name) where
@@ -56,20 +52,6 @@ module _ (s : List ℕ) (ns : List Name) where
 
 -- how many steps
 module _ (s : List ℕ) where
-  few-links : (n c : ℕ) → length (links n s c) ≤ n
-  few-links zero c = rw (links-none s 0 c (omega arith)) (omega arith)
-  few-links (suc n) c = by (goesOn s c) refl (few-links n (restOf s c))
-    where
-      by : (g : Bool) → goesOn s c ≡ g → length (links n s (restOf s c)) ≤ n → length (links (suc n) s c) ≤ suc n
-      by true g r =
-          let n′ : suc n - 1 ≡ n = omega arith in
-          rw (links-more s (suc n) c (omega arith) g, n′) (omega arith)
-      by false g r = rw (links-last s (suc n) c (omega arith) g) (omega arith)
-
-  pub links-most : (j : ℕ) → linkCount s j ≤ maxDepth
-  unfolding linkCount
-  links-most j = few-links maxDepth j
-
   count-append : (is js : List ℕ) → stepCount s (is ++ js) ≡ stepCount s is + stepCount s js
   unfolding stepCount
   count-append [] js = omega arith
@@ -78,7 +60,7 @@ module _ (s : List ℕ) where
   pub steps-most : (js : List ℕ) → stepCount s js ≤ maxDepth * length js
   unfolding stepCount
   steps-most [] = omega arith
-  steps-most (j ∷ js) = omega (arith, links-most j, steps-most js)
+  steps-most (j ∷ js) = omega (arith, links-most s j, steps-most js)
 
   -- one chain more
   pub count-more : (js : List ℕ) (i : ℕ) → i < length js → stepCount s (take (i + 1) js) ≡ stepCount s (take i js) + linkCount s (getD js i 0)
@@ -87,9 +69,6 @@ module _ (s : List ℕ) where
 
   pub count-part : (js : List ℕ) (i : ℕ) → stepCount s (take i js) ≤ stepCount s js
   count-part js i = omega (arith, sym (count-append (take i js) (drop i js)) ∙ ap (stepCount s) (take-append-drop i js))
-
-  pub count-whole : (js : List ℕ) (i : ℕ) → length js ≤ i → stepCount s (take i js) ≡ stepCount s js
-  count-whole js i h = ap (stepCount s) (take-whole js i h)
 
 -- the section
 abbrev pub chainRows : List ℕ → List Name → List ℕ → ℕ → List ℕ

@@ -6,7 +6,7 @@ use mathlib.Core.List.{List, [], _∷_, _++_, append-assoc, append-nil}
 use native.Mathlib.Omega.{arith}
 use native.Mathlib.Numerals.{add-one}
 use lib.ListN.{length, take, drop, set, length-append, length-drop}
-use lib.Seq.{take-at, drop-at, drop-drop, drop-length, sets, sets-eq}
+use lib.Seq.{length-take-le, take-at, drop-at, drop-drop, drop-length, sets, sets-eq}
 use Rattle.sections.specs.Written.{Written}
 
 -- what the k elements from the a-th on become
@@ -19,6 +19,22 @@ put-behind x done rest ys a k e l =
     ap (λ (z : List ℕ). putPart z a k ys) e
     ∙ ap₂ (λ (p q : List ℕ). p ++ (ys ++ drop k q)) (take-at done rest a l) (drop-at done rest a l)
     ∙ sym (append-assoc done ys (drop k rest))
+
+-- as many elements as before stand in a part
+pub put-length :
+    (x ys : List ℕ) (a k : ℕ) → a + k ≤ length x → length ys ≡ length (take k (drop a x)) → length (putPart x a k ys) ≡ length x
+put-length x ys a k h e =
+    let d = drop k (drop a x) in
+    omega (
+      arith,
+      e,
+      length-append (take a x) (ys ++ d),
+      length-append ys d,
+      length-take-le a x (omega arith),
+      length-take-le k (drop a x) (omega (arith, length-drop a x)),
+      length-drop k (drop a x),
+      length-drop a x,
+    )
 
 -- nothing is written
 pub written-none : (x : List ℕ) → Written x x []

@@ -11,6 +11,7 @@ ghost use Rattle.lowering.specs.Image.{section, constWords, nameWords};
 ghost use Rattle.chains.specs.Steps as chains;
 ghost use Rattle.chains.specs.Kept as kept;
 ghost use Rattle.keys.specs.Keys.{nameOf};
+ghost use Rattle.index.specs.Held.{NamesHold, namesHeld};
 ghost use Rattle.sections.specs.PutLaws.{putPart};
 use bytecode::Chain;
 use bytecode::Step;
@@ -20,7 +21,7 @@ use chains::link_count;
 use chains::step_of;
 use chains::step_words;
 use chains::width;
-use keys::find_text;
+use index::text_place;
 use keys::mark_of;
 use keys::text_of;
 use rules::chains::StepRule;
@@ -28,6 +29,7 @@ use rules::chains::goes_on;
 use rules::chains::operand_of;
 use rules::chains::rest_of;
 use rules::chains::step_rule;
+use scratch::Layout;
 use sheet::child;
 use sheet::field_a;
 use sheet::field_b;
@@ -124,92 +126,82 @@ pub fn tokens(s: &[u8], out: &mut [u32], ks: &[u32])
     }
 }
 
-// Where the name with text `t` stands among the names with keys `ks`.
-fn place(s: &[u8], ks: &[u32], t: u32) -> u32
-    requires { ⌜ length (now ks) < 4294967296 ⌝ }
-    ensures { λ r. ⌜ r ≡ chains.nameIn (now (s .entry)) (map (nameOf (now (s .entry))) (now (ks .entry))) t ⌝ }
-{
-    find_text(s, ks, t) as u32
-}
-
-// Where the name of root `v` stands. Only a variable has one.
-fn root_place(s: &[u8], ks: &[u32], v: u32) -> u32
-    requires { ⌜ length (now ks) < 4294967296 ⌝ }
-    ensures { λ r. ⌜ chains.rootWith (now (s .entry)) v r ≡ chains.rootIn (now (s .entry)) (map (nameOf (now (s .entry))) (now (ks .entry))) v ⌝ }
+// Where the name of root `v` stands among the `n` names. Only a variable has one.
+fn root_place(s: &[u8], x: &[u32], l: Layout, n: u32, v: u32) -> u32
+    ensures { λ r. let sheet = now (s .entry) in let words = now (x .entry) in ⌜
+        (NamesHold sheet l n words → chains.rootWith sheet v r ≡ chains.rootIn sheet (namesHeld sheet l n words) v) ⌝ }
 {
     if kind(s, v) == VARIABLE {
-        return place(s, ks, field_a(s, v));
+        return text_place(s, x, l, n, field_a(s, v));
     }
     0
 }
 
 // The chain of node `j`, with `first` steps before it.
-fn chain_at(s: &[u8], ks: &[u32], j: u32, first: u32) -> Chain
-    requires { ⌜ length (now ks) < 4294967296 ⌝ }
-    ensures { λ r. ⌜ r ≡ chains.chainIn (now (s .entry)) (map (nameOf (now (s .entry))) (now (ks .entry))) first j ⌝ }
+fn chain_at(s: &[u8], x: &[u32], l: Layout, n: u32, j: u32, first: u32) -> Chain
+    ensures { λ r. let sheet = now (s .entry) in let words = now (x .entry) in ⌜
+        (NamesHold sheet l n words → r ≡ chains.chainIn sheet (namesHeld sheet l n words) first j) ⌝ }
 {
-    let name = root_place(s, ks, child(j));
+    let name = root_place(s, x, l, n, child(j));
     chain_of(s, j, name, first)
 }
 
-// The chains of the nodes `js`, over the names with keys `ks`.
-pub fn chains(s: &[u8], out: &mut [u32], js: &[u32], ks: &[u32])
+// The chains of the nodes `js`, over the `n` names that the scratch holds.
+pub fn chains(s: &[u8], out: &mut [u32], js: &[u32], x: &[u32], l: Layout, n: u32)
     requires { ⌜ length (now out) ≡ 6 * length (now js) ⌝ }
-    requires { ⌜ length (now ks) < 4294967296 ⌝ }
     requires { ⌜ kept.stepCount (now s) (now js) < 4294967296 ⌝ }
-    ensures { λ _. ⌜
-        now (out .exit) ≡ section chainWords
-        (chains.chainsFrom (now (s .entry)) (map (nameOf (now (s .entry))) (now (ks .entry))) 0 (now (js .entry))) ⌝ }
+    ensures { λ _. let sheet = now (s .entry) in let words = now (x .entry) in ⌜
+        (NamesHold sheet l n words → now (out .exit) ≡ section chainWords
+        (chains.chainsFrom sheet (namesHeld sheet l n words) 0 (now (js .entry)))) ⌝ }
 {
     let mut i = 0;
     let mut first: u32 = 0;
     while i < js.len() {
         let j = js[i];
-        let c = chain_at(s, ks, j, first);
+        let c = chain_at(s, x, l, n, j, first);
         put_six(out, 6 * i, chain_words(c));
         first += link_count(s, j);
         i += 1;
     }
 }
 
-// The step of link `c`, with `n` operands before it. Places are looked for only where the step has names.
-fn step_at(s: &[u8], ks: &[u32], c: u32, n: u32) -> Step
-    requires { ⌜ length (now ks) < 4294967296 ⌝ }
-    ensures { λ r. ⌜
-        r ≡ chains.stepAs (flatten.stepRule (now (s .entry)) c) (now (s .entry)) (map (nameOf (now (s .entry))) (now (ks .entry))) c n ⌝ }
+// The step of link `c`, with `k` operands before it. Places are looked for only where the step has names.
+fn step_at(s: &[u8], x: &[u32], l: Layout, n: u32, c: u32, k: u32) -> Step
+    ensures { λ r. let sheet = now (s .entry) in let words = now (x .entry) in ⌜
+        (NamesHold sheet l n words → r ≡ chains.stepAs (flatten.stepRule sheet c) sheet (namesHeld sheet l n words) c k) ⌝ }
 {
     let r = step_rule(s, c);
-    let x = operand_of(s, c);
+    let o = operand_of(s, c);
     match r {
-        StepRule::Index => step_of(s, c, n, 0, 0, 0),
+        StepRule::Index => step_of(s, c, k, 0, 0, 0),
         StepRule::Property => step_of(
             s,
             c,
-            n,
-            place(s, ks, field_a(s, x)),
-            place(s, ks, field_b(s, x)),
-            place(s, ks, field_c(s, x)),
+            k,
+            text_place(s, x, l, n, field_a(s, o)),
+            text_place(s, x, l, n, field_b(s, o)),
+            text_place(s, x, l, n, field_c(s, o)),
         ),
-        StepRule::Method => step_of(s, c, n, place(s, ks, field_a(s, x)), 0, 0),
-        StepRule::Nothing => step_of(s, c, n, 0, 0, 0),
+        StepRule::Method => step_of(s, c, k, text_place(s, x, l, n, field_a(s, o)), 0, 0),
+        StepRule::Nothing => step_of(s, c, k, 0, 0, 0),
     }
 }
 
 // The steps of the chain of node `j`.
-fn chain_steps(s: &[u8], out: &mut [u32], j: u32, ks: &[u32])
+fn chain_steps(s: &[u8], out: &mut [u32], j: u32, x: &[u32], l: Layout, n: u32)
     requires { ⌜ length (now out) ≡ 6 * chains.linkCount (now s) j ⌝ }
-    requires { ⌜ length (now ks) < 4294967296 ⌝ }
-    ensures { λ _. ⌜ now (out .exit) ≡ stepsWords (chains.chainSteps (now (s .entry)) (map (nameOf (now (s .entry))) (now (ks .entry))) j) ⌝ }
+    ensures { λ _. let sheet = now (s .entry) in let words = now (x .entry) in ⌜
+        (NamesHold sheet l n words → now (out .exit) ≡ stepsWords (chains.chainSteps sheet (namesHeld sheet l n words) j)) ⌝ }
 {
     let mut left = MAX_DEPTH;
     let mut c = j;
-    let mut n: u32 = 0;
+    let mut k: u32 = 0;
     let mut i = 0;
     while 0 < left {
-        let x = step_at(s, ks, c, n);
-        put_six(out, 6 * i, step_words(x));
+        let w = step_at(s, x, l, n, c, k);
+        put_six(out, 6 * i, step_words(w));
         i += 1;
-        n += width(s, c);
+        k += width(s, c);
         if goes_on(s, c) {
             c = rest_of(s, c);
             left -= 1;
@@ -219,34 +211,22 @@ fn chain_steps(s: &[u8], out: &mut [u32], j: u32, ks: &[u32])
     }
 }
 
-// The steps of the chains of the nodes `js`, over the names with keys `ks`.
-pub fn steps(s: &[u8], out: &mut [u32], js: &[u32], ks: &[u32])
-    requires { ⌜ length (now out) ≡ 6 * kept.stepCount (now s) (now js) ⌝ }
-    requires { ⌜ length (now ks) < 4294967296 ⌝ }
-    ensures { λ _. ⌜
-        now (out .exit) ≡ stepsWords (chains.stepsFrom (now (s .entry)) (map (nameOf (now (s .entry))) (now (ks .entry))) (now (js .entry))) ⌝ }
+// The steps of the chains of the nodes `js`, over the `n` names that the scratch holds. A part of another length is not filled.
+pub fn steps(s: &[u8], out: &mut [u32], js: &[u32], x: &[u32], l: Layout, n: u32)
+    ensures { λ _. let sheet = now (s .entry) in let words = now (x .entry) in ⌜
+        (NamesHold sheet l n words → length (now (out .entry)) ≡ 6 * kept.stepCount sheet (now (js .entry))
+        → now (out .exit) ≡ stepsWords (chains.stepsFrom sheet (namesHeld sheet l n words) (now (js .entry)))) ⌝ }
 {
     let mut at = 0;
     let mut i = 0;
     while i < js.len() {
         let j = js[i];
         let e = at + 6 * (link_count(s, j) as usize);
-        chain_steps(s, &mut out[at..e], j, ks);
+        if out.len() < e {
+            return;
+        }
+        chain_steps(s, &mut out[at..e], j, x, l, n);
         at = e;
         i += 1;
     }
-}
-
-// How many steps the chains of the nodes `js` have.
-pub fn step_count(s: &[u8], js: &[u32]) -> usize
-    requires { ⌜ length (now js) < 4294967296 ⌝ }
-    ensures { λ r. ⌜ r ≡ kept.stepCount (now (s .entry)) (now (js .entry)) ⌝ }
-{
-    let mut n: usize = 0;
-    let mut i = 0;
-    while i < js.len() {
-        n += link_count(s, js[i]) as usize;
-        i += 1;
-    }
-    n
 }

@@ -14,28 +14,40 @@ use Rattle.lowering.specs.Pools.{Pools, Const, Name, firstWhere, added, constOf
 use Rattle.lowering.specs.Code.{codeWords, positions, greatest}
 use Rattle.lowering.specs.Flatten.{links}
 use Rattle.chains.specs.FindLaws.{first-within, added-new, added-old}
-use Rattle.chains.specs.Steps.{chainRoot, chainSteps, chainOperands}
+use Rattle.chains.specs.Steps.{chainRoot, chainSteps, chainOperands, linkCount}
 use Rattle.chains.specs.Same.{sameSteps, sameLinks, sameRoot, sameNodes}
 use Rattle.chains.specs.SameLaws.{lazy-of, steps-words}
 use Rattle.chains.specs.RootLaws.{root-words}
 use Rattle.chains.specs.Pooled as pooled
 use Rattle.chains.specs.WalkLaws.{ChainGives}
 use Rattle.chains.specs.Kept.{Kept}
-use Rattle.chains.specs.KeptLaws.{chains-length, kept-const, kept-name, kept-token, chain-at, push-kept, push-names}
+use Rattle.chains.specs.LinkLaws.{links-most}
+use Rattle.chains.specs.KeptLaws.{steps-length, chains-length, kept-const, kept-name, kept-token, chain-at, push-kept, push-names}
 use Rattle.keys.specs.Keys.{nameOf}
+use Rattle.keys.specs.Used.{ConstKey, TokenKey, ChainKey, NameKey}
 use Rattle.keys.specs.KeyLaws.{name-self}
 use Rattle.keys.specs.ConstLaws.{const-self}
 use Rattle.keys.specs.SeekLaws.{first-map}
 use Rattle.emission.specs.Made.{Made, made, addConst, addName, addToken}
 use Rattle.emission.specs.Construct.{addChain, chainPlace}
-use Rattle.store.specs.declared.Layout.{Layout}
+use Rattle.scratch.specs.declared.Layout.{Layout}
+use Rattle.scratch.specs.declared.Index.{Index}
+use Rattle.index.specs.Table.{notedBy}
+use Rattle.index.specs.Consts.{constSlot, constHash, tokenHash}
+use Rattle.index.specs.Names.{nameHash, nameSlot}
+use Rattle.index.specs.Held.{namesHeld}
+use Rattle.index.specs.Chains.{chainHash}
+use Rattle.index.specs.Indexes.{Indexes, addedTo, constAdded, tokenAdded, chainAdded, nameAdded}
+use Rattle.index.proofs.IndexesLaws.{const-lists, token-lists, chain-lists, name-lists}
+use Rattle.index.proofs.IndexesLaws.{indexes-const, indexes-token, indexes-chain, indexes-name}
 use Rattle.store.specs.declared.State.{State}
-use Rattle.store.specs.Places.{positionsAt, residualsAt, constsAt, tokensAt, chainsAt, namesAt, region}
+use Rattle.scratch.specs.Places.{Small, positionsAt, residualsAt, constsAt, tokensAt, chainsAt, namesAt, linksAt, region}
+use Rattle.scratch.specs.Places.{constIndex, tokenIndex, chainIndex, nameIndex}
 use Rattle.store.specs.Distinct.{Distinct, Below, Apart, distinct-snoc, all-snoc, distinct-few, distinct-room, first-apart}
-use Rattle.store.specs.RegionLaws.{region-before, region-behind, region-push}
-use Rattle.store.specs.Holds.{Keys, Fit, Counts, CodeHeld, PoolsHeld, Holds}
+use Rattle.scratch.proofs.RegionLaws.{region-before, region-behind, region-push}
+use Rattle.store.specs.Holds.{Keys, Fit, Counts, Laid, CodeHeld, PoolsHeld, Lists, Holds}
 use Rattle.store.specs.States as states
-use Rattle.store.specs.FrameLaws.{fit-same, keys-same}
+use Rattle.store.specs.FrameLaws.{fit-same, laid-same, keys-same, pools-same}
 
 -- keys
 module _ {at n k : ℕ} {xs : List ℕ} (h : Keys at n k xs) where
@@ -133,6 +145,57 @@ module _ {s : List ℕ} {l : Layout} {xs : List ℕ} {st r : State} {a b : Made}
             ∙ sym (e .residuals-made);
       }
 
+-- other words with the same lists
+module _ {s : List ℕ} {l : Layout} {zs : List ℕ} {st : State} {a : Made} where
+  pub lists-same :
+      (ys : List ℕ) → length ys ≡ length zs → ((at k : ℕ) → at + k ≤ linksAt l → region at k ys ≡ region at k zs) → Lists s l zs st a
+      → Lists s l ys st a
+  lists-same ys e same h =
+      let c = h .counts in
+      let k = h .pooled in
+      let c1 = c .standing in
+      let c2 = c .within in
+      let c3 = c .kept in
+      record {
+        fit = fit-same e (h .fit);
+        counts = c;
+        laid = h .laid;
+        emitted = record {
+          code = same 0 (4 * st .code) (omega arith) ∙ h .emitted .code;
+          positions = same (positionsAt l) (st .code) (omega arith) ∙ h .emitted .positions;
+          residuals = same (residualsAt l) (st .residuals) (omega arith) ∙ h .emitted .residuals;
+        };
+        pooled =
+            pools-same
+            (record {
+              consts = same (constsAt l) (st .consts) (let few = keys-few (k .const-keys) in omega arith);
+              tokens = same (tokensAt l) (st .tokens) (let few = keys-few (k .token-keys) in omega arith);
+              chains = same (chainsAt l) (st .chains) (let few = keys-few (k .chain-keys) in omega arith);
+              names = same (namesAt l) (st .names) (let few = keys-few (k .name-keys) in omega arith);
+            })
+            (record { consts = refl; tokens = refl; names = refl; chains = λ ks q. q })
+            k;
+      }
+
+-- with the indexes, and without them
+pub lists-of : {s : List ℕ} {l : Layout} {xs : List ℕ} {st : State} {a : Made} → Holds s l xs st a → Lists s l xs st a
+lists-of h = record { fit = h .fit; counts = h .counts; laid = h .laid; emitted = h .emitted; pooled = h .pooled }
+
+pub holds-by :
+    {s : List ℕ} {l : Layout} {xs : List ℕ} {st : State} {a : Made} → Lists s l xs st a
+    → Indexes s l (st .consts) (st .tokens) (st .chains) (st .names) xs → Holds s l xs st a
+holds-by h x = record { fit = h .fit; counts = h .counts; laid = h .laid; emitted = h .emitted; pooled = h .pooled; index = x }
+
+pub small-of : {s : List ℕ} {l : Layout} {xs : List ℕ} {st : State} {a : Made} → Holds s l xs st a → Small l
+small-of h = record { few = h .fit .few; small = h .fit .small }
+
+added-length : (ix : Index) (at slot h n j : ℕ) (xs : List ℕ) → length (addedTo ix at slot h n j xs) ≡ length (set xs (at + n) j)
+unfolding notedBy
+added-length ix at slot h n j xs = simp length-set
+
+one-more : (n m : ℕ) → n < m → m ≤ 4294967295 → (n + 1) % 4294967296 ≡ n + 1
+one-more n m h k = omega arith
+
 -- a const
 module _ {s : List ℕ} {l : Layout} {xs : List ℕ} {st : State} {a : Made} (v : ℕ) (h : Holds s l xs st a) where
   pub const-place : firstWhere (sameConst s (constOf s v)) (map (constOf s) (region (constsAt l) (st .consts) xs)) ≡ constAt s (constOf s v) (a .pools)
@@ -148,9 +211,9 @@ module _ {s : List ℕ} {l : Layout} {xs : List ℕ} {st : State} {a : Made} (v 
       subst (Holds s l xs st) (sym (ap (λ (c : List Const). made (a .code) (pools c (a .pools .names) (a .pools .tokens) (a .pools .residuals) (a .pools .chains) (a .pools .steps) (a .pools .emitted) (a .pools .defeated)) (a .depth)) e)) h
 
   module _ (g : v < l .nodes) (j : st .consts ≤ firstWhere (sameConst s (constOf s v)) (map (constOf s) (region (constsAt l) (st .consts) xs))) where
-    pub const-new : Holds s l (set xs (constsAt l + st .consts) v) (states.withConst st) (addConst s (constOf s v) a)
+    const-listed : Lists s l (set xs (constsAt l + st .consts) v) (states.withConst st) (addConst s (constOf s v) a)
     unfolding addConst pushConst
-    const-new =
+    const-listed =
         let k = h .pooled in
         let i = constsAt l + st .consts in
         let space = h .fit .space in
@@ -171,6 +234,7 @@ module _ {s : List ℕ} {l : Layout} {xs : List ℕ} {st : State} {a : Made} (v 
         record {
           fit = fit-same (length-set xs i v) (h .fit);
           counts = counts-rest rest h;
+          laid = laid-same (states.withConst st) (addConst s (constOf s v) a) refl refl refl (omega arith) refl (h .laid);
           emitted = code-rest rest h i v (omega arith);
           pooled = record {
             const-keys = subst (λ (m : ℕ). Keys (constsAt l) (l .nodes) m (set xs i v)) (sym count) (keys-push (k .const-keys) v g far end);
@@ -183,6 +247,28 @@ module _ {s : List ℕ} {l : Layout} {xs : List ℕ} {st : State} {a : Made} (v 
             chains = subst (Kept s ((addConst s (constOf s v) a) .pools)) (sym chain-same) (kept-const s (constOf s v) (a .pools) (k .chains));
           };
         }
+
+-- with its link and its head
+module _ {s : List ℕ} {l : Layout} {xs : List ℕ} {st : State} {a : Made} (v : ℕ) (h : Holds s l xs st a) (u : ConstKey s v) where
+  pub const-new :
+      st .consts ≤ firstWhere (sameConst s (constOf s v)) (map (constOf s) (region (constsAt l) (st .consts) xs))
+      → Holds s l (constAdded s l (st .consts) v xs) (states.withConst st) (addConst s (constOf s v) a)
+  const-new j =
+      let ks = region (constsAt l) (st .consts) xs in
+      let key = h .pooled .const-keys in
+      let n = key .count in
+      let nodes = h .fit .nodes in
+      let few = h .fit .small in
+      let g : v < l .nodes = let b = u .below in omega arith in
+      let far = other (sameConst s (constOf s v)) (constOf s) v ks (omega arith) (const-self s (constOf s v)) in
+      let room = keys-room key v g far in
+      let count = one-more (st .consts) (l .nodes) room (omega arith) in
+      let none = subst (λ (m : ℕ). st .consts ≤ m) (first-map (sameConst s (constOf s v)) (constOf s) ks) j in
+      holds-by
+      (lists-same (constAdded s l (st .consts) v xs) (added-length (constIndex l) (constsAt l) (constSlot v) (constHash s v) (st .consts) v xs)
+      (λ at k q. const-lists (small-of h) nodes (st .consts) v at k xs q u) (const-listed v h g j))
+      (subst (λ (m : ℕ). Indexes s l m (st .tokens) (st .chains) (st .names) (constAdded s l (st .consts) v xs)) (sym count)
+      (indexes-const (h .index) v u none room))
 
 -- a token
 module _ {s : List ℕ} {l : Layout} {xs : List ℕ} {st : State} {a : Made} (v : ℕ) (h : Holds s l xs st a) where
@@ -199,9 +285,9 @@ module _ {s : List ℕ} {l : Layout} {xs : List ℕ} {st : State} {a : Made} (v 
       subst (Holds s l xs st) (sym (ap (λ (c : List ℕ). made (a .code) (pools (a .pools .consts) (a .pools .names) c (a .pools .residuals) (a .pools .chains) (a .pools .steps) (a .pools .emitted) (a .pools .defeated)) (a .depth)) e)) h
 
   module _ (g : v < l .nodes) (j : st .tokens ≤ firstWhere (eqb (fieldC s v)) (map (fieldC s) (region (tokensAt l) (st .tokens) xs))) where
-    pub token-new : Holds s l (set xs (tokensAt l + st .tokens) v) (states.withToken st) (addToken (fieldC s v) a)
+    token-listed : Lists s l (set xs (tokensAt l + st .tokens) v) (states.withToken st) (addToken (fieldC s v) a)
     unfolding addToken pushToken
-    token-new =
+    token-listed =
         let k = h .pooled in
         let i = tokensAt l + st .tokens in
         let space = h .fit .space in
@@ -222,6 +308,7 @@ module _ {s : List ℕ} {l : Layout} {xs : List ℕ} {st : State} {a : Made} (v 
         record {
           fit = fit-same (length-set xs i v) (h .fit);
           counts = counts-rest rest h;
+          laid = laid-same (states.withToken st) (addToken (fieldC s v) a) refl refl refl (omega arith) refl (h .laid);
           emitted = code-rest rest h i v (omega arith);
           pooled = record {
             const-keys = keys-same (set xs i v) const-same (k .const-keys);
@@ -234,6 +321,28 @@ module _ {s : List ℕ} {l : Layout} {xs : List ℕ} {st : State} {a : Made} (v 
             chains = subst (Kept s ((addToken (fieldC s v) a) .pools)) (sym chain-same) (kept-token s (fieldC s v) (a .pools) (k .chains));
           };
         }
+
+-- with its link and its head
+module _ {s : List ℕ} {l : Layout} {xs : List ℕ} {st : State} {a : Made} (v : ℕ) (h : Holds s l xs st a) (u : TokenKey s v) where
+  pub token-new :
+      st .tokens ≤ firstWhere (eqb (fieldC s v)) (map (fieldC s) (region (tokensAt l) (st .tokens) xs))
+      → Holds s l (tokenAdded s l (st .tokens) v xs) (states.withToken st) (addToken (fieldC s v) a)
+  token-new j =
+      let ks = region (tokensAt l) (st .tokens) xs in
+      let key = h .pooled .token-keys in
+      let n = key .count in
+      let nodes = h .fit .nodes in
+      let few = h .fit .small in
+      let g : v < l .nodes = let b = u .below in omega arith in
+      let far = other (eqb (fieldC s v)) (fieldC s) v ks (omega arith) (eq-eqb (fieldC s v) (fieldC s v) refl) in
+      let room = keys-room key v g far in
+      let count = one-more (st .tokens) (l .nodes) room (omega arith) in
+      let none = subst (λ (m : ℕ). st .tokens ≤ m) (first-map (eqb (fieldC s v)) (fieldC s) ks) j in
+      holds-by
+      (lists-same (tokenAdded s l (st .tokens) v xs) (added-length (tokenIndex l) (tokensAt l) (constSlot v) (tokenHash s v) (st .tokens) v xs)
+      (λ at k q. token-lists (small-of h) nodes (st .tokens) v at k xs q u) (token-listed v h g j))
+      (subst (λ (m : ℕ). Indexes s l (st .consts) m (st .chains) (st .names) (tokenAdded s l (st .tokens) v xs)) (sym count)
+      (indexes-token (h .index) v u none room))
 
 -- a name
 module _ {s : List ℕ} {l : Layout} {xs : List ℕ} {st : State} {a : Made} (v : ℕ) (h : Holds s l xs st a) where
@@ -250,9 +359,9 @@ module _ {s : List ℕ} {l : Layout} {xs : List ℕ} {st : State} {a : Made} (v 
       subst (Holds s l xs st) (sym (ap (λ (c : List Name). made (a .code) (pools (a .pools .consts) c (a .pools .tokens) (a .pools .residuals) (a .pools .chains) (a .pools .steps) (a .pools .emitted) (a .pools .defeated)) (a .depth)) e)) h
 
   module _ (g : v < 3 * l .nodes) (j : st .names ≤ firstWhere (sameName s (nameOf s v)) (map (nameOf s) (region (namesAt l) (st .names) xs))) where
-    pub name-new : Holds s l (set xs (namesAt l + st .names) v) (states.withName st) (addName s (nameOf s v) a)
+    name-listed : Lists s l (set xs (namesAt l + st .names) v) (states.withName st) (addName s (nameOf s v) a)
     unfolding addName pushName
-    name-new =
+    name-listed =
         let k = h .pooled in
         let i = namesAt l + st .names in
         let space = h .fit .space in
@@ -273,6 +382,7 @@ module _ {s : List ℕ} {l : Layout} {xs : List ℕ} {st : State} {a : Made} (v 
         record {
           fit = fit-same (length-set xs i v) (h .fit);
           counts = counts-rest rest h;
+          laid = laid-same (states.withName st) (addName s (nameOf s v) a) refl refl refl (omega arith) refl (h .laid);
           emitted = code-rest rest h i v (omega arith);
           pooled = record {
             const-keys = keys-same (set xs i v) const-same (k .const-keys);
@@ -285,6 +395,35 @@ module _ {s : List ℕ} {l : Layout} {xs : List ℕ} {st : State} {a : Made} (v 
             chains = subst (Kept s ((addName s (nameOf s v) a) .pools)) (sym chain-same) (kept-name s (nameOf s v) (a .pools) (k .chains));
           };
         }
+
+-- with its link and its head
+module _ {s : List ℕ} {l : Layout} {xs : List ℕ} {st : State} {a : Made} (v : ℕ) (h : Holds s l xs st a) (u : NameKey s v) where
+  -- the chains held have their names
+  chains-named : pooled.All (pooled.Pooled s (namesHeld s l (st .names) xs)) (region (chainsAt l) (st .chains) xs)
+  unfolding namesHeld
+  chains-named =
+      subst (λ (ns : List Name). pooled.All (pooled.Pooled s ns) (region (chainsAt l) (st .chains) xs)) (h .pooled .names)
+      (h .pooled .chains .pooled)
+
+  pub name-new :
+      st .names ≤ firstWhere (sameName s (nameOf s v)) (map (nameOf s) (region (namesAt l) (st .names) xs))
+      → Holds s l (nameAdded s l (st .names) v xs) (states.withName st) (addName s (nameOf s v) a)
+  name-new j =
+      let ks = region (namesAt l) (st .names) xs in
+      let key = h .pooled .name-keys in
+      let n = key .count in
+      let nodes = h .fit .nodes in
+      let few = h .fit .small in
+      let g : v < 3 * l .nodes = let b = u .below in omega arith in
+      let far = other (sameName s (nameOf s v)) (nameOf s) v ks (omega arith) (name-self s (nameOf s v)) in
+      let room = keys-room key v g far in
+      let count = one-more (st .names) (3 * l .nodes) room (omega arith) in
+      let none = subst (λ (m : ℕ). st .names ≤ m) (first-map (sameName s (nameOf s v)) (nameOf s) ks) j in
+      holds-by
+      (lists-same (nameAdded s l (st .names) v xs) (added-length (nameIndex l) (namesAt l) (nameSlot v) (nameHash s v) (st .names) v xs)
+      (λ at k q. name-lists (small-of h) nodes (st .names) v at k xs q u) (name-listed v h g j))
+      (subst (λ (m : ℕ). Indexes s l (st .consts) (st .tokens) (st .chains) m (nameAdded s l (st .names) v xs)) (sym count)
+      (indexes-name (h .index) v u chains-named none room))
 
 -- a chain: its nodes are the same as themselves, since its names are pooled
 pub nodes-self : (s : List ℕ) (ns : List Name) (j : ℕ) → pooled.Pooled s ns j → sameNodes s j j ≡ true
@@ -354,9 +493,9 @@ module _ {s : List ℕ} {l : Layout} {xs : List ℕ} {st : State} {a : Made} (v 
         rw (sym pushed-new, sym (added-new (sameNodes s v) v ks t))
         (push-kept s (a .pools) (h .pooled .chains) v (chainRoot s (a .pools .names) v) (chainSteps s (a .pools .names) v) (chainOperands s v) gives)
 
-    new-holds : Holds s l (set xs (chainsAt l + st .chains) v) (states.withChain st) (made (a .code) (newChain (chainRoot s (a .pools .names) v) (chainSteps s (a .pools .names) v) (chainOperands s v) (a .pools)) (a .depth))
+    chain-listed : Lists s l (set xs (chainsAt l + st .chains) v) (states.withChain st (linkCount s v)) (made (a .code) (newChain (chainRoot s (a .pools .names) v) (chainSteps s (a .pools .names) v) (chainOperands s v) (a .pools)) (a .depth))
     unfolding newChain
-    new-holds =
+    chain-listed =
         let k = h .pooled in
         let i = chainsAt l + st .chains in
         let space = h .fit .space in
@@ -370,11 +509,19 @@ module _ {s : List ℕ} {l : Layout} {xs : List ℕ} {st : State} {a : Made} (v 
         let const-same = region-behind (constsAt l) (st .consts) i v xs (let few = keys-few (k .const-keys) in omega arith) in
         let token-same = region-behind (tokensAt l) (st .tokens) i v xs (let few = keys-few (k .token-keys) in omega arith) in
         let name-same = region-before (namesAt l) (st .names) i v xs (omega arith) in
-        let rest : SameRest st (states.withChain st) a b =
+        let links = steps-length s (a .pools .names) v in
+        let more = length-append (a .pools .steps) (chainSteps s (a .pools .names) v) in
+        let most = links-most s v in
+        let laid = h .laid in
+        let few = laid .few in
+        let steps : (st .steps + linkCount s v) % 4294967296 ≡ length (a .pools .steps ++ chainSteps s (a .pools .names) v) =
+        let e = laid .steps in omega arith in
+        let rest : SameRest st (states.withChain st (linkCount s v)) a b =
         record { code = refl; residuals = refl; emitted = refl; depth = refl; deepest = refl; code-made = refl; residuals-made = refl; emitted-made = refl; depth-made = refl } in
         record {
           fit = fit-same (length-set xs i v) (h .fit);
           counts = counts-rest rest h;
+          laid = record { most = laid .most; nodes = laid .nodes; steps = steps; few = let z = laid .steps in omega arith };
           emitted = code-rest rest h i v (omega arith);
           pooled = record {
             const-keys = keys-same (set xs i v) const-same (k .const-keys);
@@ -388,7 +535,24 @@ module _ {s : List ℕ} {l : Layout} {xs : List ℕ} {st : State} {a : Made} (v 
           };
         }
 
-    pub chain-new : Holds s l (set xs (chainsAt l + st .chains) v) (states.withChain st) (addChain s v a)
+    -- with its link and its head
+    pub chain-new :
+        ChainKey s v
+        → Holds s l (chainAdded s l (namesHeld s l (st .names) xs) (st .chains) v xs) (states.withChain st (linkCount s v)) (addChain s v a)
     unfolding addChain
-    chain-new =
-        subst (λ (q : Pools). Holds s l (set xs (chainsAt l + st .chains) v) (states.withChain st) (made (a .code) q (a .depth))) (sym pushed-new) new-holds
+    chain-new u =
+        let key = h .pooled .chain-keys in
+        let self = nodes-self s (a .pools .names) v w in
+        let far = first-apart (sameNodes s v) v (region (chainsAt l) (st .chains) xs) self at-end in
+        let room = keys-room key v g far in
+        let few = h .fit .small in
+        let nodes = h .fit .nodes in
+        let names = namesHeld s l (st .names) xs in
+        let ys = chainAdded s l names (st .chains) v xs in
+        let count = one-more (st .chains) (l .nodes) room (omega arith) in
+        let listed =
+        lists-same ys (added-length (chainIndex l) (chainsAt l) (constSlot v) (chainHash s names v) (st .chains) v xs)
+        (λ at k q. chain-lists (small-of h) nodes (st .chains) v at k xs q names u) chain-listed in
+        subst (λ (q : Pools). Holds s l ys (states.withChain st (linkCount s v)) (made (a .code) q (a .depth))) (sym pushed-new)
+        (holds-by listed
+        (subst (λ (m : ℕ). Indexes s l (st .consts) (st .tokens) m (st .names) ys) (sym count) (indexes-chain (h .index) v self u j room)))

@@ -1,30 +1,38 @@
 -- An entry added to a pool as the code does it: sought among the keys, and its key written where it is not found.
-use Prim.Native.Nat.{ℕ, _+_, _*_, _≤_, _<_}
+use Prim.Native.Nat.{ℕ, _+_, _≤_, _<_}
 use mathlib.Core.Path.{_≡_, refl, sym, ap, _∙_, subst}
 use mathlib.Core.Bool.{Bool}
 use mathlib.Core.List.{List, map}
 use native.Mathlib.Omega.{arith}
 use lib.Dec.{eqb}
 use lib.ListN.{length, set}
-use Rattle.sheet.specs.Layout.{nodeCount}
-use Rattle.sheet.specs.Node.{fieldC}
-use Rattle.lowering.specs.Nodes.{Valid}
+use Rattle.sheet.specs.Node.{fieldC, child}
 use Rattle.lowering.specs.Pools.{firstWhere, constOf, sameConst, constAt, sameName, nameAt, tokenAt}
 use Rattle.chains.specs.FindLaws.{first-within}
-use Rattle.chains.specs.Same.{sameNodes}
+use Rattle.chains.specs.Same.{sameNodes, RootLocal}
+use Rattle.chains.specs.Steps.{linkCount}
 use Rattle.keys.specs.Keys.{nameOf}
+use Rattle.keys.specs.SeekLaws.{first-map}
+use Rattle.keys.specs.Used.{ConstKey, TokenKey, NameKey}
 use Rattle.emission.specs.Made.{Made, addConst, addName, addToken}
-use Rattle.store.specs.declared.Layout.{Layout}
+use Rattle.scratch.specs.declared.Layout.{Layout}
 use Rattle.store.specs.declared.State.{State}
-use Rattle.store.specs.declared.Placed.{Placed}
-use Rattle.store.specs.Places.{constsAt, tokensAt, chainsAt, namesAt, region}
+use Rattle.scratch.specs.declared.Index.{Index}
+use Rattle.scratch.specs.Places.{constsAt, tokensAt, chainsAt, namesAt, constIndex, tokenIndex, chainIndex, nameIndex, region}
+use Rattle.index.specs.Table.{headAt, linkAt, tagOf, notedBy}
+use Rattle.index.specs.Lookup.{Finds}
+use Rattle.index.specs.Consts.{constSlot, sameConstOf, constHash, sameTokenOf, tokenHash}
+use Rattle.index.specs.Names.{isName, nameWith, nameHashOf, nameHash, nameSlot}
+use Rattle.index.specs.Held.{namesHeld}
+use Rattle.index.specs.Chains.{chainHash, ByNames, FindsChain}
+use Rattle.index.specs.Indexes.{constAdded, tokenAdded, chainAdded, nameAdded}
+use Rattle.index.proofs.HeldLaws.{name-searched, name-same}
+use Rattle.index.proofs.IndexesLaws.{const-found, token-found, chain-found, name-found, indexes-names}
 use Rattle.store.specs.Holds.{Keys, Holds}
 use Rattle.store.specs.States as states
-use Rattle.store.specs.Does.{Does, Adds, AddsChain}
+use Rattle.store.specs.States.{stateOf, Full}
+use Rattle.store.specs.Does.{Does, Adds, AddsChain, held-full}
 use Rattle.store.specs.AddLaws.{map-length, keys-few, const-place, const-old, const-new, token-place, token-old, token-new, name-place, name-old, name-new, chain-place, chain-old, chain-new}
-
-abbrev pub placed : State → ℕ → Placed
-placed st at = record { st = st; at = at }
 
 -- what is not found before the end is found at the end
 at-end : {A : Type 0} (test : A → Bool) (f : ℕ → A) (ks : List ℕ) (n : ℕ) → length ks ≡ n → n ≤ firstWhere test (map f ks) → n ≡ firstWhere test (map f ks)
@@ -33,69 +41,165 @@ at-end test f ks n e h = let w = first-within test (map f ks) in let m = map-len
 keys-end : (test : ℕ → Bool) (ks : List ℕ) (n : ℕ) → length ks ≡ n → n ≤ firstWhere test ks → n ≡ firstWhere test ks
 keys-end test ks n e h = let w = first-within test ks in omega arith
 
-module _ {s : List ℕ} (l : Layout) (xs : List ℕ) (st : State) (v i : ℕ) (sought : constsAt l + st .consts ≤ length xs → i ≡ firstWhere (sameConst s (constOf s v)) (map (constOf s) (region (constsAt l) (st .consts) xs))) where
-  const-fits : (a : Made) → Holds s l xs st a → i ≡ firstWhere (sameConst s (constOf s v)) (map (constOf s) (region (constsAt l) (st .consts) xs))
-  const-fits a h = let space = h .fit .space in let few = keys-few (h .pooled .const-keys) in sought (omega arith)
+-- a search in the index that the layout gives
+pub finds-at :
+    {P : ℕ → Bool} {hash slot : ℕ → ℕ} {ix jx : Index} {n h : ℕ} {xs : List ℕ} {r : ℕ} → ix ≡ jx → Finds P hash slot ix n h xs r
+    → Finds P hash slot jx n h xs r
+finds-at {P} {hash} {slot} {n = n} {h} {xs} {r} e f = subst (λ (i : Index). Finds P hash slot i n h xs r) e f
 
-  pub const-adds-old : i < st .consts → Adds s l xs st xs (placed st i) (Valid s v) (addConst s (constOf s v)) (λ a. constAt s (constOf s v) (a .pools))
-  const-adds-old less = record {
-    does = λ g. record { holds = λ a h f. let e = const-fits a h in const-old v h (omega arith) };
-    place = λ a h. const-fits a h ∙ const-place v h;
-  }
+-- the words as the code leaves them: a key at place p, its link at place at, its head
+words-by :
+    (n v slot : ℕ) (xs : List ℕ) {h h₂ p q at : ℕ} {ix ix₂ : Index} {ys zs : List ℕ} → ix ≡ ix₂ → h ≡ h₂ → p ≡ q → at ≡ linkAt ix slot → ys ≡ set xs p v
+    → zs ≡ notedBy (headAt ix h) at (tagOf h) n ys → zs ≡ notedBy (headAt ix₂ h₂) (linkAt ix₂ slot) (tagOf h₂) n (set xs q v)
+words-by n v slot xs e g k f y z = rw (z, y, f, e, g, k)
 
-  pub const-adds-new : (at : ℕ) (ys : List ℕ) (r : State) → st .consts ≤ i → at ≡ constsAt l → ys ≡ set xs (at + st .consts) v → r ≡ states.withConst st → Adds s l xs st ys (placed r (st .consts)) (Valid s v) (addConst s (constOf s v)) (λ a. constAt s (constOf s v) (a .pools))
-  const-adds-new at ys r less e y q = record {
-    does = λ g. record { holds = λ a h f. let z = const-fits a h in let n = h .fit .nodes in rw (q, y, e) (const-new v h (omega arith) (omega arith)) };
-    place = λ a h. let z = const-fits a h in at-end (sameConst s (constOf s v)) (constOf s) (region (constsAt l) (st .consts) xs) (st .consts) (h .pooled .const-keys .count) (omega arith) ∙ const-place v h;
-  }
+module _
+    (s : List ℕ) (l : Layout) (xs c : List ℕ) (v h i : ℕ) (hashed : h ≡ constHash s v)
+    (sought : Finds (sameConstOf s v) (constHash s) constSlot (constIndex l) (stateOf c .consts) h xs i)
+  where
+    abbrev keys : List ℕ
+    keys = region (constsAt l) (stateOf c .consts) xs
 
-module _ {s : List ℕ} (l : Layout) (xs : List ℕ) (st : State) (v i t : ℕ) (is : t ≡ fieldC s v) (sought : tokensAt l + st .tokens ≤ length xs → i ≡ firstWhere (eqb t) (map (fieldC s) (region (tokensAt l) (st .tokens) xs))) where
-  token-fits : (a : Made) → Holds s l xs st a → i ≡ firstWhere (eqb (fieldC s v)) (map (fieldC s) (region (tokensAt l) (st .tokens) xs))
-  token-fits a h =
-      let space = h .fit .space in
-      let few = keys-few (h .pooled .token-keys) in
-      sought (omega arith) ∙ ap (λ (k : ℕ). firstWhere (eqb k) (map (fieldC s) (region (tokensAt l) (st .tokens) xs))) is
+    const-fits : (a : Made) → Holds s l xs (stateOf c) a → i ≡ firstWhere (sameConst s (constOf s v)) (map (constOf s) keys)
+    const-fits a q = const-found (q .index) v h i hashed sought ∙ sym (first-map (sameConst s (constOf s v)) (constOf s) keys)
 
-  pub token-adds-old : i < st .tokens → Adds s l xs st xs (placed st i) (Valid s v) (addToken (fieldC s v)) (λ a. tokenAt (fieldC s v) (a .pools))
-  token-adds-old less = record {
-    does = λ g. record { holds = λ a h f. let e = token-fits a h in token-old v h (omega arith) };
-    place = λ a h. token-fits a h ∙ token-place v h;
-  }
+    pub const-adds-old :
+        i < stateOf c .consts
+        → Adds s l xs (stateOf c) xs (stateOf c) i (ConstKey s v) (addConst s (constOf s v)) (λ a. constAt s (constOf s v) (a .pools))
+    const-adds-old less = record {
+      does = λ g. record { holds = λ a q f. let e = const-fits a q in const-old v q (omega arith) };
+      place = λ a q. const-fits a q ∙ const-place v q;
+    }
 
-  pub token-adds-new : (at : ℕ) (ys : List ℕ) (r : State) → st .tokens ≤ i → at ≡ tokensAt l → ys ≡ set xs (at + st .tokens) v → r ≡ states.withToken st → Adds s l xs st ys (placed r (st .tokens)) (Valid s v) (addToken (fieldC s v)) (λ a. tokenAt (fieldC s v) (a .pools))
-  token-adds-new at ys r less e y q = record {
-    does = λ g. record { holds = λ a h f. let z = token-fits a h in let n = h .fit .nodes in rw (q, y, e) (token-new v h (omega arith) (omega arith)) };
-    place = λ a h. let z = token-fits a h in at-end (eqb (fieldC s v)) (fieldC s) (region (tokensAt l) (st .tokens) xs) (st .tokens) (h .pooled .token-keys .count) (omega arith) ∙ token-place v h;
-  }
+    pub const-adds-new :
+        {p at : ℕ} {ix : Index} {ys zs : List ℕ} (r : State) → stateOf c .consts ≤ i → p ≡ constsAt l + stateOf c .consts → ys ≡ set xs p v
+        → ix ≡ constIndex l → at ≡ linkAt ix (constSlot v) → zs ≡ notedBy (headAt ix h) at (tagOf h) (stateOf c .consts) ys
+        → (Full c → r ≡ states.withConst (stateOf c))
+        → Adds s l xs (stateOf c) zs r (stateOf c .consts) (ConstKey s v) (addConst s (constOf s v))
+        (λ a. constAt s (constOf s v) (a .pools))
+    const-adds-new {zs = zs} r less e y x f z w = record {
+      does = λ g. record {
+        holds = λ a q _.
+            let k = const-fits a q in
+            let words : zs ≡ constAdded s l (stateOf c .consts) v xs = words-by (stateOf c .consts) v (constSlot v) xs x hashed e f y z in
+            rw (w (held-full c q), words) (const-new v q g (omega arith));
+      };
+      place = λ a q.
+          let k = const-fits a q in
+          at-end (sameConst s (constOf s v)) (constOf s) keys (stateOf c .consts) (q .pooled .const-keys .count) (omega arith)
+          ∙ const-place v q;
+    }
 
-module _ {s : List ℕ} (l : Layout) (xs : List ℕ) (st : State) (v i : ℕ) (sought : namesAt l + st .names ≤ length xs → i ≡ firstWhere (sameName s (nameOf s v)) (map (nameOf s) (region (namesAt l) (st .names) xs))) where
-  name-fits : (a : Made) → Holds s l xs st a → i ≡ firstWhere (sameName s (nameOf s v)) (map (nameOf s) (region (namesAt l) (st .names) xs))
-  name-fits a h = let space = h .fit .space in let few = keys-few (h .pooled .name-keys) in sought (omega arith)
+module _
+    (s : List ℕ) (l : Layout) (xs c : List ℕ) (v h i : ℕ) (hashed : h ≡ tokenHash s v)
+    (sought : Finds (sameTokenOf s v) (tokenHash s) constSlot (tokenIndex l) (stateOf c .tokens) h xs i)
+  where
+    abbrev token-keys : List ℕ
+    token-keys = region (tokensAt l) (stateOf c .tokens) xs
 
-  pub name-adds-old : i < st .names → Adds s l xs st xs (placed st i) (v < 3 * nodeCount s) (addName s (nameOf s v)) (λ a. nameAt s (nameOf s v) (a .pools))
-  name-adds-old less = record {
-    does = λ g. record { holds = λ a h f. let e = name-fits a h in name-old v h (omega arith) };
-    place = λ a h. name-fits a h ∙ name-place v h;
-  }
+    token-fits : (a : Made) → Holds s l xs (stateOf c) a → i ≡ firstWhere (eqb (fieldC s v)) (map (fieldC s) token-keys)
+    token-fits a q = token-found (q .index) v h i hashed sought ∙ sym (first-map (eqb (fieldC s v)) (fieldC s) token-keys)
 
-  pub name-adds-new : (at : ℕ) (ys : List ℕ) (r : State) → st .names ≤ i → at ≡ namesAt l → ys ≡ set xs (at + st .names) v → r ≡ states.withName st → Adds s l xs st ys (placed r (st .names)) (v < 3 * nodeCount s) (addName s (nameOf s v)) (λ a. nameAt s (nameOf s v) (a .pools))
-  name-adds-new at ys r less e y q = record {
-    does = λ g. record { holds = λ a h f. let z = name-fits a h in let n = h .fit .nodes in rw (q, y, e) (name-new v h (omega arith) (omega arith)) };
-    place = λ a h. let z = name-fits a h in at-end (sameName s (nameOf s v)) (nameOf s) (region (namesAt l) (st .names) xs) (st .names) (h .pooled .name-keys .count) (omega arith) ∙ name-place v h;
-  }
+    pub token-adds-old :
+        i < stateOf c .tokens
+        → Adds s l xs (stateOf c) xs (stateOf c) i (TokenKey s v) (addToken (fieldC s v)) (λ a. tokenAt (fieldC s v) (a .pools))
+    token-adds-old less = record {
+      does = λ g. record { holds = λ a q f. let e = token-fits a q in token-old v q (omega arith) };
+      place = λ a q. token-fits a q ∙ token-place v q;
+    }
 
-module _ {s : List ℕ} (l : Layout) (xs : List ℕ) (st : State) (v i : ℕ) (sought : chainsAt l + st .chains ≤ length xs → i ≡ firstWhere (sameNodes s v) (region (chainsAt l) (st .chains) xs)) where
-  chain-fits : (a : Made) → Holds s l xs st a → i ≡ firstWhere (sameNodes s v) (region (chainsAt l) (st .chains) xs)
-  chain-fits a h = let space = h .fit .space in let few = keys-few (h .pooled .chain-keys) in sought (omega arith)
+    pub token-adds-new :
+        {p at : ℕ} {ix : Index} {ys zs : List ℕ} (r : State) → stateOf c .tokens ≤ i → p ≡ tokensAt l + stateOf c .tokens → ys ≡ set xs p v
+        → ix ≡ tokenIndex l → at ≡ linkAt ix (constSlot v) → zs ≡ notedBy (headAt ix h) at (tagOf h) (stateOf c .tokens) ys
+        → (Full c → r ≡ states.withToken (stateOf c))
+        → Adds s l xs (stateOf c) zs r (stateOf c .tokens) (TokenKey s v) (addToken (fieldC s v)) (λ a. tokenAt (fieldC s v) (a .pools))
+    token-adds-new {zs = zs} r less e y x f z w = record {
+      does = λ g. record {
+        holds = λ a q _.
+            let k = token-fits a q in
+            let words : zs ≡ tokenAdded s l (stateOf c .tokens) v xs = words-by (stateOf c .tokens) v (constSlot v) xs x hashed e f y z in
+            rw (w (held-full c q), words) (token-new v q g (omega arith));
+      };
+      place = λ a q.
+          let k = token-fits a q in
+          at-end (eqb (fieldC s v)) (fieldC s) token-keys (stateOf c .tokens) (q .pooled .token-keys .count) (omega arith)
+          ∙ token-place v q;
+    }
 
-  pub chain-adds-old : i < st .chains → AddsChain s l xs st xs (placed st i) v
-  chain-adds-old less = record {
-    holds = λ g a h w. let e = chain-fits a h in chain-old v h w (omega arith);
-    place = λ a h w. chain-fits a h ∙ chain-place v h w;
-  }
+module _
+    (s : List ℕ) (l : Layout) (xs c : List ℕ) (v t h i : ℕ) (m : Bool) (is : nameWith s t m ≡ nameOf s v)
+    (hashed : h ≡ nameHashOf s (nameWith s t m))
+    (sought : Finds (isName s (nameWith s t m)) (nameHash s) nameSlot (nameIndex l) (stateOf c .names) h xs i)
+  where
+    abbrev name-keys : List ℕ
+    name-keys = region (namesAt l) (stateOf c .names) xs
 
-  pub chain-adds-new : (at : ℕ) (ys : List ℕ) (r : State) → st .chains ≤ i → at ≡ chainsAt l → ys ≡ set xs (at + st .chains) v → r ≡ states.withChain st → AddsChain s l xs st ys (placed r (st .chains)) v
-  chain-adds-new at ys r less e y q = record {
-    holds = λ g a h w. let z = chain-fits a h in let n = h .fit .nodes in rw (q, y, e) (chain-new v h w (omega arith) (omega arith));
-    place = λ a h w. let z = chain-fits a h in keys-end (sameNodes s v) (region (chainsAt l) (st .chains) xs) (st .chains) (h .pooled .chain-keys .count) (omega arith) ∙ chain-place v h w;
-  }
+    hash-is : h ≡ nameHash s v
+    hash-is = hashed ∙ ap (nameHashOf s) is
+
+    name-fits : (a : Made) → Holds s l xs (stateOf c) a → i ≡ firstWhere (sameName s (nameOf s v)) (map (nameOf s) name-keys)
+    name-fits a q =
+        name-found (q .index) v i
+        (name-same s l (stateOf c .names) xs is (name-searched s l (stateOf c .names) xs (nameWith s t m) h i hashed sought))
+        ∙ sym (first-map (sameName s (nameOf s v)) (nameOf s) name-keys)
+
+    pub name-adds-old :
+        i < stateOf c .names
+        → Adds s l xs (stateOf c) xs (stateOf c) i (NameKey s v) (addName s (nameOf s v)) (λ a. nameAt s (nameOf s v) (a .pools))
+    name-adds-old less = record {
+      does = λ g. record { holds = λ a q f. let e = name-fits a q in name-old v q (omega arith) };
+      place = λ a q. name-fits a q ∙ name-place v q;
+    }
+
+    pub name-adds-new :
+        {p at : ℕ} {ix : Index} {ys zs : List ℕ} (r : State) → stateOf c .names ≤ i → p ≡ namesAt l + stateOf c .names → ys ≡ set xs p v
+        → ix ≡ nameIndex l → at ≡ linkAt ix (nameSlot v) → zs ≡ notedBy (headAt ix h) at (tagOf h) (stateOf c .names) ys
+        → (Full c → r ≡ states.withName (stateOf c))
+        → Adds s l xs (stateOf c) zs r (stateOf c .names) (NameKey s v) (addName s (nameOf s v)) (λ a. nameAt s (nameOf s v) (a .pools))
+    name-adds-new {zs = zs} r less e y x f z w = record {
+      does = λ g. record {
+        holds = λ a q _.
+            let k = name-fits a q in
+            let words : zs ≡ nameAdded s l (stateOf c .names) v xs = words-by (stateOf c .names) v (nameSlot v) xs x hash-is e f y z in
+            rw (w (held-full c q), words) (name-new v q g (omega arith));
+      };
+      place = λ a q.
+          let k = name-fits a q in
+          at-end (sameName s (nameOf s v)) (nameOf s) name-keys (stateOf c .names) (q .pooled .name-keys .count) (omega arith)
+          ∙ name-place v q;
+    }
+
+module _
+    (s : List ℕ) (l : Layout) (xs c : List ℕ) (v h i : ℕ) (local : Bool) (told : RootLocal s (child v) local)
+    (hashed : ByNames s l (stateOf c .names) xs (chainHash s (namesHeld s l (stateOf c .names) xs) v) h)
+    (sought : FindsChain s v local (chainIndex l) (stateOf c .chains) h xs i)
+  where
+    chain-hash-is : (a : Made) → Holds s l xs (stateOf c) a → h ≡ chainHash s (namesHeld s l (stateOf c .names) xs) v
+    chain-hash-is a q = hashed .is (indexes-names (q .index))
+
+    chain-fits : (a : Made) → Holds s l xs (stateOf c) a → i ≡ firstWhere (sameNodes s v) (region (chainsAt l) (stateOf c .chains) xs)
+    chain-fits a q = chain-found (q .index) v h i local told (chain-hash-is a q) sought
+
+    pub chain-adds-old : i < stateOf c .chains → AddsChain s l xs (stateOf c) xs (stateOf c) i v
+    chain-adds-old less = record {
+      holds = λ g a q w. let e = chain-fits a q in chain-old v q w (omega arith);
+      place = λ a q w. chain-fits a q ∙ chain-place v q w;
+    }
+
+    pub chain-adds-new :
+        {p at : ℕ} {ix : Index} {ys zs : List ℕ} (r : State) → stateOf c .chains ≤ i → p ≡ chainsAt l + stateOf c .chains → ys ≡ set xs p v
+        → ix ≡ chainIndex l → at ≡ linkAt ix (constSlot v) → zs ≡ notedBy (headAt ix h) at (tagOf h) (stateOf c .chains) ys
+        → (Full c → r ≡ states.withChain (stateOf c) (linkCount s v)) → AddsChain s l xs (stateOf c) zs r (stateOf c .chains) v
+    chain-adds-new {zs = zs} r less e y x f z w = record {
+      holds = λ g a q k.
+          let b = chain-fits a q in
+          let n = q .fit .nodes in
+          let low = g .below in
+          let words : zs ≡ chainAdded s l (namesHeld s l (stateOf c .names) xs) (stateOf c .chains) v xs =
+          words-by (stateOf c .chains) v (constSlot v) xs x (chain-hash-is a q) e f y z in
+          rw (w (held-full c q), words) (chain-new v q k (omega arith) (omega arith) g);
+      place = λ a q k.
+          let b = chain-fits a q in
+          keys-end (sameNodes s v) (region (chainsAt l) (stateOf c .chains) xs) (stateOf c .chains) (q .pooled .chain-keys .count) (omega arith)
+          ∙ chain-place v q k;
+    }

@@ -1,16 +1,17 @@
 -- A change of what has been made, done on the scratch: `Does` says that a call has done it, `Left` says what is left of it to do on the
 -- way. Both ask that what is emitted in the end has its room, and the way there needs no more than that.
 use Prim.Native.Nat.{ℕ, _≤_}
-use mathlib.Core.Path.{_≡_, refl, sym, ap, _∙_, subst}
+use mathlib.Core.Path.{_≡_, refl, sym, ap, ap₂, _∙_, subst}
 use mathlib.Core.List.{List}
 use native.Mathlib.Omega.{arith}
-use Rattle.lowering.specs.Nodes.{Valid}
 use Rattle.chains.specs.Pooled.{Pooled}
+use Rattle.keys.specs.Used.{ChainKey}
 use Rattle.emission.specs.Made.{Made}
 use Rattle.emission.specs.Construct.{addChain, chainPlace}
-use Rattle.store.specs.declared.Layout.{Layout}
+use Rattle.scratch.specs.declared.Layout.{Layout}
 use Rattle.store.specs.declared.State.{State}
-use Rattle.store.specs.declared.Placed.{Placed}
+use Rattle.store.specs.States.{stateOf, Full, layoutOf}
+use Rattle.store.specs.StateLaws.{full-by, greatest-least}
 use Rattle.store.specs.Holds.{Holds}
 
 -- what is emitted has its room
@@ -91,12 +92,47 @@ growing-none = record { each = λ a. omega arith }
 pub growing-seq : {F G : Made → Made} → Growing F → Growing G → Growing (λ a. G (F a))
 growing-seq {F} f g = record { each = λ a. let x = f .each a in let y = g .each (F a) in omega arith }
 
--- an entry added to a pool, and its place there; Asked is what is asked of the node
-pub record Adds (s : List ℕ) (l : Layout) (xs : List ℕ) (st : State) (ys : List ℕ) (p : Placed) (Asked : Type 0) (F : Made → Made) (P : Made → ℕ) : Type 0 where
-  pub does : Asked → Does s l xs st ys (p .st) F
-  pub place : (a : Made) → Holds s l xs st a → p .at ≡ P a
+-- an entry added to a pool on the way from (xs, st) to (ys, r), and its place there; Asked is what is asked of the node
+pub record Adds
+    (s : List ℕ) (l : Layout) (xs : List ℕ) (st : State) (ys : List ℕ) (r : State) (at : ℕ) (Asked : Type 0) (F : Made → Made) (P : Made → ℕ)
+    : Type 0 where
+  pub does : Asked → Does s l xs st ys r F
+  pub place : (a : Made) → Holds s l xs st a → at ≡ P a
 
 -- the same for the chain of node j, where its names are pooled
-pub record AddsChain (s : List ℕ) (l : Layout) (xs : List ℕ) (st : State) (ys : List ℕ) (p : Placed) (j : ℕ) : Type 0 where
-  pub holds : Valid s j → (a : Made) → Holds s l xs st a → Pooled s (a .pools .names) j → Holds s l ys (p .st) (addChain s j a)
-  pub place : (a : Made) → Holds s l xs st a → Pooled s (a .pools .names) j → p .at ≡ chainPlace s j a
+pub record AddsChain (s : List ℕ) (l : Layout) (xs : List ℕ) (st : State) (ys : List ℕ) (r : State) (at j : ℕ) : Type 0 where
+  pub holds : ChainKey s j → (a : Made) → Holds s l xs st a → Pooled s (a .pools .names) j → Holds s l ys r (addChain s j a)
+  pub place : (a : Made) → Holds s l xs st a → Pooled s (a .pools .names) j → at ≡ chainPlace s j a
+
+-- the layout that the counts tell is the layout that is held
+pub laid-is : {s : List ℕ} {l : Layout} {xs : List ℕ} {st : State} {a : Made} → Holds s l xs st a → layoutOf st ≡ l
+laid-is {l = l} h = ap₂ (λ (m n : ℕ). record { most = m; nodes = n }) (h .laid .most) (h .laid .nodes)
+
+-- counts that are held are all there
+pub held-full : {s : List ℕ} {l : Layout} {xs : List ℕ} {a : Made} (c : List ℕ) → Holds s l xs (stateOf c) a → Full c
+held-full {a = a} c h = full-by c (let d = h .counts .deepest in let g = greatest-least (a .code) in omega arith)
+
+-- so what is done with it is done with any that is held
+module _ {s xs ys : List ℕ} {st r : State} {m : Layout} (is : m ≡ layoutOf st) where
+  pub does-any : {F : Made → Made} → Does s m xs st ys r F → (l : Layout) → Does s l xs st ys r F
+  does-any {F} does l = record {
+    holds = λ a h f.
+        let e = is ∙ laid-is h in
+        subst (λ (k : Layout). Holds s k ys r (F a)) e
+        (does .holds a (subst (λ (k : Layout). Holds s k xs st a) (sym e) h) (subst (λ (k : Layout). Fits k (F a)) (sym e) f));
+  }
+
+  pub adds-any : {at : ℕ} {Asked : Type 0} {F : Made → Made} {P : Made → ℕ} → Adds s m xs st ys r at Asked F P → (l : Layout) → Adds s l xs st ys r at Asked F P
+  adds-any adds l = record {
+    does = λ q. does-any (adds .does q) l;
+    place = λ a h. adds .place a (subst (λ (k : Layout). Holds s k xs st a) (sym (is ∙ laid-is h)) h);
+  }
+
+  pub chain-any : {at j : ℕ} → AddsChain s m xs st ys r at j → (l : Layout) → AddsChain s l xs st ys r at j
+  chain-any {j = j} adds l = record {
+    holds = λ v a h p.
+        let e = is ∙ laid-is h in
+        subst (λ (k : Layout). Holds s k ys r (addChain s j a)) e
+        (adds .holds v a (subst (λ (k : Layout). Holds s k xs st a) (sym e) h) p);
+    place = λ a h p. adds .place a (subst (λ (k : Layout). Holds s k xs st a) (sym (is ∙ laid-is h)) h) p;
+  }

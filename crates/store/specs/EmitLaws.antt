@@ -12,17 +12,19 @@ use Rattle.lowering.specs.Code.{Code, Ins, ins, greatest, codeWords, positions}
 use Rattle.lowering.specs.Pools.{emits}
 use Rattle.chains.specs.KeptLaws.{kept-emits}
 use Rattle.emission.specs.Made.{Made, after, emit}
-use Rattle.store.specs.declared.Layout.{Layout}
+use Rattle.scratch.specs.declared.Layout.{Layout}
+use Rattle.index.specs.Indexes.{Indexes}
+use Rattle.index.proofs.IndexesLaws.{indexes-before, indexes-sets}
 use Rattle.store.specs.declared.State.{State}
-use Rattle.store.specs.Places.{opSize, positionsAt, residualsAt, constsAt, tokensAt, chainsAt, namesAt, region}
-use Rattle.store.specs.RegionLaws.{region-before, region-behind, region-push, regions-before, regions-behind, regions-push}
+use Rattle.scratch.specs.Places.{opSize, positionsAt, residualsAt, constsAt, tokensAt, chainsAt, namesAt, region}
+use Rattle.scratch.proofs.RegionLaws.{region-before, region-behind, region-push, regions-before, regions-behind, regions-push}
 use Rattle.store.specs.Effects.{afterWords}
 use Rattle.store.specs.EffectLaws.{after-op, op-four}
 use Rattle.store.specs.TableLaws.{after-least}
-use Rattle.store.specs.Holds.{Fit, Counts, CodeHeld, PoolsHeld, Holds}
-use Rattle.store.specs.States.{counted}
-use Rattle.store.specs.Does.{Fits, Does}
-use Rattle.store.specs.FrameLaws.{fit-same, SameKeys, SamePools, SameCounts, pools-same, pools-counts, same-keys, same-keys-then}
+use Rattle.store.specs.Holds.{Fit, Counts, Laid, CodeHeld, PoolsHeld, Holds}
+use Rattle.store.specs.States.{stateOf, Full, counted}
+use Rattle.store.specs.Does.{Fits, Does, held-full}
+use Rattle.store.specs.FrameLaws.{fit-same, laid-same, SameKeys, SamePools, SameCounts, pools-same, pools-counts, same-keys, same-keys-then}
 
 -- an instruction more
 pub code-snoc : (c : Code) (i : Ins) → codeWords (c ++ (i ∷ [])) ≡ codeWords c ++ opWords (i .op)
@@ -125,18 +127,33 @@ module _ {s : List ℕ} {l : Layout} {xs : List ℕ} {st : State} {a : Made} (op
   unfolding emit emits
   emit-pools = record { consts = refl; tokens = refl; names = refl; chains = λ ks k. kept-emits s 1 (a .pools) k }
 
+  emit-laid : Laid l (counted st (afterWords w n (st .depth))) (emit op pos n a)
+  unfolding emit emits
+  emit-laid = laid-same (counted st (afterWords w n (st .depth))) (emit op pos n a) refl refl refl (omega arith) refl (h .laid)
+
+  emit-index : Indexes s l (st .consts) (st .tokens) (st .chains) (st .names) (written l st w pos xs)
+  emit-index =
+      let c = h .counts in
+      let g = room in
+      indexes-before (indexes-sets w xs (4 * st .code) (omega arith) (h .index)) (positionsAt l + st .code) pos (omega arith)
+
   pub emit-holds : Holds s l (written l st w pos xs) (counted st (afterWords w n (st .depth))) (emit op pos n a)
   emit-holds = record {
     fit = emit-fit;
     counts = emit-counts;
+    laid = emit-laid;
     emitted = emit-code;
     pooled =
         pools-counts (counted st (afterWords w n (st .depth))) (record { consts = refl; tokens = refl; chains = refl; names = refl })
         (pools-same emit-keys emit-pools (h .pooled));
+    index = emit-index;
   }
 
 -- as the code does it
-pub emit-does : {s : List ℕ} (l : Layout) (xs : List ℕ) (st : State) (op : Op) (pos n : ℕ) (w mid ys : List ℕ) (d p : ℕ) (r : State) → w ≡ opWords op → d ≡ afterWords w n (st .depth) → p ≡ positionsAt l → mid ≡ sets xs (4 * st .code) w → ys ≡ set mid (p + st .code) pos → r ≡ counted st d → Does s l xs st ys r (emit op pos n)
-emit-does l xs st op pos n w mid ys d p r e g z m y q = record {
-  holds = λ a h f. rw (q, g, y, z, m) (emit-holds op pos n w e (ap length e ∙ op-four op) h f);
+pub emit-does :
+    {s : List ℕ} (l : Layout) (xs c : List ℕ) (op : Op) (pos n : ℕ) (w mid ys : List ℕ) (d p : ℕ) (r : State)
+    → w ≡ opWords op → d ≡ afterWords w n (stateOf c .depth) → p ≡ positionsAt l + stateOf c .code → mid ≡ sets xs (4 * stateOf c .code) w
+    → ys ≡ set mid p pos → (Full c → r ≡ counted (stateOf c) d) → Does s l xs (stateOf c) ys r (emit op pos n)
+emit-does l xs c op pos n w mid ys d p r e g z m y q = record {
+  holds = λ a h f. rw (q (held-full c h), g, y, z, m) (emit-holds op pos n w e (ap length e ∙ op-four op) h f);
 }

@@ -9,15 +9,26 @@ use Rattle.lowering.specs.Pools.{constOf}
 use Rattle.chains.specs.Kept.{Kept}
 use Rattle.keys.specs.Keys.{nameOf}
 use Rattle.emission.specs.Made.{Made}
-use Rattle.store.specs.declared.Layout.{Layout}
+use Rattle.scratch.specs.declared.Layout.{Layout}
 use Rattle.store.specs.declared.State.{State}
-use Rattle.store.specs.Places.{opSize, namesPerNode, positionsAt, residualsAt, constsAt, tokensAt, chainsAt, namesAt, wordsOf, region}
+use Rattle.scratch.specs.Places.{opSize, namesPerNode, positionsAt, residualsAt, constsAt, tokensAt, chainsAt, namesAt, wordsOf, region}
 use Rattle.store.specs.Distinct.{Distinct, Below}
-use Rattle.store.specs.RegionLaws.{region-before, region-behind}
-use Rattle.store.specs.Holds.{Keys, Fit, Counts, CodeHeld, PoolsHeld, Holds}
+use Rattle.scratch.proofs.RegionLaws.{region-before, region-behind}
+use Rattle.store.specs.Holds.{Keys, Fit, Counts, Laid, CodeHeld, PoolsHeld, Holds}
 
 pub fit-same : {s : List ℕ} {l : Layout} {xs ys : List ℕ} → length ys ≡ length xs → Fit s l xs → Fit s l ys
 fit-same e h = let k = h .space in record { space = omega arith; few = h .few; nodes = h .nodes; small = h .small }
+
+-- the counts of Laid and the steps are the same
+pub laid-same :
+    {l : Layout} {st : State} {a : Made} (r : State) (b : Made) → r .most ≡ st .most → r .nodes ≡ st .nodes → r .steps ≡ st .steps
+    → st .chains ≤ r .chains → b .pools .steps ≡ a .pools .steps → Laid l st a → Laid l r b
+laid-same r b m n k c e h = record {
+  most = m ∙ h .most;
+  nodes = n ∙ h .nodes;
+  steps = k ∙ h .steps ∙ ap length (sym e);
+  few = let f = h .few in omega arith;
+}
 
 pub keys-same : {at n k : ℕ} {xs : List ℕ} (ys : List ℕ) → region at k ys ≡ region at k xs → Keys at n k xs → Keys at n k ys
 keys-same {n = n} ys e h = record {

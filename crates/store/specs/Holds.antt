@@ -3,7 +3,7 @@ use Prim.Native.Nat.{ℕ, _+_, _*_, _≤_}
 use mathlib.Core.Path.{_≡_}
 use mathlib.Core.List.{List, map}
 use lib.ListN.{length}
-use Rattle.sheet.specs.Limits.{maxNodes}
+use Rattle.sheet.specs.Limits.{maxNodes, maxDepth}
 use Rattle.sheet.specs.Layout.{nodeCount}
 use Rattle.sheet.specs.Node.{fieldC}
 use Rattle.lowering.specs.Limits.{maxEmitted}
@@ -12,9 +12,10 @@ use Rattle.lowering.specs.Pools.{constOf}
 use Rattle.chains.specs.Kept.{Kept}
 use Rattle.keys.specs.Keys.{nameOf}
 use Rattle.emission.specs.Made.{Made}
-use Rattle.store.specs.declared.Layout.{Layout}
+use Rattle.scratch.specs.declared.Layout.{Layout}
+use Rattle.index.specs.Indexes.{Indexes}
 use Rattle.store.specs.declared.State.{State}
-use Rattle.store.specs.Places.{opSize, namesPerNode, positionsAt, residualsAt, constsAt, tokensAt, chainsAt, namesAt, wordsOf, region}
+use Rattle.scratch.specs.Places.{opSize, namesPerNode, positionsAt, residualsAt, constsAt, tokensAt, chainsAt, namesAt, wordsOf, region}
 use Rattle.store.specs.Distinct.{Distinct, Below}
 
 -- k keys from place at on: different numbers below n
@@ -48,7 +49,7 @@ pub record CodeHeld (l : Layout) (xs : List ℕ) (st : State) (a : Made) : Type 
   pub positions : region (positionsAt l) (st .code) xs ≡ positions (a .code)
   pub residuals : region (residualsAt l) (st .residuals) xs ≡ a .pools .residuals
 
--- the pools by the nodes that each entry was first met at; a name by 3 · node + field
+-- the pools by the nodes that each entry was first met at; a name by its key
 pub record PoolsHeld (s : List ℕ) (l : Layout) (xs : List ℕ) (st : State) (a : Made) : Type 0 where
   pub const-keys : Keys (constsAt l) (l .nodes) (st .consts) xs
   pub token-keys : Keys (tokensAt l) (l .nodes) (st .tokens) xs
@@ -59,8 +60,26 @@ pub record PoolsHeld (s : List ℕ) (l : Layout) (xs : List ℕ) (st : State) (a
   pub names : a .pools .names ≡ map (nameOf s) (region (namesAt l) (st .names) xs)
   pub chains : Kept s (a .pools) (region (chainsAt l) (st .chains) xs)
 
+-- the layout, and the steps of the chains
+pub record Laid (l : Layout) (st : State) (a : Made) : Type 0 where
+  pub most : st .most ≡ l .most
+  pub nodes : st .nodes ≡ l .nodes
+  pub steps : st .steps ≡ length (a .pools .steps)
+  pub few : st .steps ≤ maxDepth * st .chains
+
+-- what has been made, as lists
+pub record Lists (s : List ℕ) (l : Layout) (xs : List ℕ) (st : State) (a : Made) : Type 0 where
+  pub fit : Fit s l xs
+  pub counts : Counts l st a
+  pub laid : Laid l st a
+  pub emitted : CodeHeld l xs st a
+  pub pooled : PoolsHeld s l xs st a
+
+-- and the indexes of the pools
 pub record Holds (s : List ℕ) (l : Layout) (xs : List ℕ) (st : State) (a : Made) : Type 0 where
   pub fit : Fit s l xs
   pub counts : Counts l st a
+  pub laid : Laid l st a
   pub emitted : CodeHeld l xs st a
   pub pooled : PoolsHeld s l xs st a
+  pub index : Indexes s l (st .consts) (st .tokens) (st .chains) (st .names) xs

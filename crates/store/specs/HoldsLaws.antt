@@ -8,9 +8,9 @@ use Rattle.sheet.specs.Limits.{maxNodes}
 use Rattle.sheet.specs.Node.{fieldC}
 use Rattle.lowering.specs.Limits.{maxEmitted}
 use Rattle.emission.specs.Made.{Made}
-use Rattle.store.specs.declared.Layout.{Layout}
+use Rattle.scratch.specs.declared.Layout.{Layout}
 use Rattle.store.specs.declared.State.{State}
-use Rattle.store.specs.Places.{tokensAt, region}
+use Rattle.scratch.specs.Places.{tokensAt, region}
 use Rattle.store.specs.Holds.{Holds}
 use Rattle.store.specs.AddLaws.{keys-few}
 

@@ -1,6 +1,4 @@
-pub mod Places
 pub mod Distinct
-pub mod RegionLaws
 pub mod Holds
 pub mod Does
 pub mod States
@@ -9,9 +7,11 @@ pub mod GrowingLaws
 pub mod FrameLaws
 pub mod EmitLaws
 pub mod ResidualLaws
+pub mod StartLaws
 pub mod AddLaws
 pub mod AddsLaws
 pub mod Effects
 pub mod EffectLaws
 pub mod TableLaws
 pub mod HoldsLaws
+pub mod MemoLaws

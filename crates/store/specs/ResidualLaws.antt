@@ -12,15 +12,18 @@ use Rattle.lowering.specs.Pools.{noPools, emits, defeat, pushResidual}
 use Rattle.chains.specs.Grow.{Grows}
 use Rattle.chains.specs.KeptLaws.{kept-residual, kept-defeat, kept-none}
 use Rattle.emission.specs.Made.{Made, nothing, emit, addResidual, residual, defeated, atDepth, takeBack}
-use Rattle.store.specs.declared.Layout.{Layout}
+use Rattle.scratch.specs.declared.Layout.{Layout}
+use Rattle.index.specs.Indexes.{Indexes}
+use Rattle.index.proofs.IndexesLaws.{indexes-before}
 use Rattle.store.specs.declared.State.{State}
-use Rattle.store.specs.Places.{positionsAt, residualsAt, constsAt, tokensAt, chainsAt, namesAt, region}
-use Rattle.store.specs.RegionLaws.{region-none, region-behind, region-push, region-front}
+use Rattle.scratch.specs.Places.{positionsAt, residualsAt, constsAt, tokensAt, chainsAt, namesAt, region}
+use Rattle.scratch.proofs.RegionLaws.{region-none, region-behind, region-push, region-front}
 use Rattle.store.specs.EffectLaws.{op-four}
-use Rattle.store.specs.Holds.{Keys, Fit, Counts, CodeHeld, PoolsHeld, Holds}
+use Rattle.store.specs.Holds.{Keys, Fit, Counts, Laid, CodeHeld, PoolsHeld, Holds}
 use Rattle.store.specs.States as states
-use Rattle.store.specs.Does.{Fits, Does}
-use Rattle.store.specs.FrameLaws.{fit-same, SameKeys, SamePools, SameCounts, pools-same, pools-counts, same-keys}
+use Rattle.store.specs.States.{stateOf, Full}
+use Rattle.store.specs.Does.{Fits, Does, laid-is, held-full}
+use Rattle.store.specs.FrameLaws.{fit-same, laid-same, SameKeys, SamePools, SameCounts, pools-same, pools-counts, same-keys}
 
 -- one residual more, where more is emitted than is kept
 module _ {s : List ℕ} {l : Layout} {xs : List ℕ} {st : State} {a : Made} (j : ℕ) (h : Holds s l xs st a) (f : st .residuals < st .emitted) where
@@ -46,6 +49,7 @@ module _ {s : List ℕ} {l : Layout} {xs : List ℕ} {st : State} {a : Made} (j 
           low = c .low;
           within = c .within;
         };
+        laid = laid-same (states.withResidual st) (addResidual j a) refl refl refl (omega arith) refl (h .laid);
         emitted = record {
           code = region-behind 0 (4 * st .code) at j xs (omega arith) ∙ h .emitted .code;
           positions = region-behind (positionsAt l) (st .code) at j xs (omega arith) ∙ h .emitted .positions;
@@ -60,6 +64,7 @@ module _ {s : List ℕ} {l : Layout} {xs : List ℕ} {st : State} {a : Made} (j 
             (same-keys l st at j xs (omega arith))
             (record { consts = refl; tokens = refl; names = refl; chains = λ ks k. kept-residual s j (a .pools) k })
             (h .pooled));
+        index = indexes-before (h .index) at j (omega arith);
       }
 
 -- the instruction first, and then the node
@@ -67,26 +72,29 @@ pub residual-is : (j : ℕ) (a : Made) → residual j a ≡ addResidual j (emit 
 unfolding residual addResidual pushResidual emit emits
 residual-is j a = refl
 
-module _ {s : List ℕ} {l : Layout} {xs ys : List ℕ} {st r : State} (j p : ℕ) (zs : List ℕ) (t : State) where
-  pub residual-does : Does s l xs st ys r (emit (EvalAst (st .residuals)) 0 0) → p ≡ residualsAt l → zs ≡ set ys (p + r .residuals) j → t ≡ states.withResidual r → Does s l xs st zs t (residual j)
+module _ {s : List ℕ} {xs ys : List ℕ} {st : State} (c : List ℕ) (j p : ℕ) (zs : List ℕ) (t : State) where
+  pub residual-does :
+      ((l : Layout) → Does s l xs st ys (stateOf c) (emit (EvalAst (st .residuals)) 0 0)) → p ≡ residualsAt (states.layoutOf (stateOf c)) + stateOf c .residuals
+      → zs ≡ set ys p j → (Full c → t ≡ states.withResidual (stateOf c)) → (l : Layout) → Does s l xs st zs t (residual j)
   unfolding emit emits addResidual pushResidual
-  residual-does does w e q = record { holds = go }
+  residual-does does w e q l = record { holds = go }
     where
       go : (a : Made) → Holds s l xs st a → Fits l (residual j a) → Holds s l zs t (residual j a)
       go a h f =
           let op : EvalAst (st .residuals) ≡ EvalAst (length (a .pools .residuals)) = ap EvalAst (h .counts .residuals) in
           let room : Fits l (addResidual j (emit (EvalAst (length (a .pools .residuals))) 0 0 a)) = subst (Fits l) (residual-is j a) f in
-          let done : Holds s l ys r (emit (EvalAst (st .residuals)) 0 0 a) = does .holds a h (omega arith) in
-          let c = done .counts in
+          let done : Holds s l ys (stateOf c) (emit (EvalAst (st .residuals)) 0 0 a) = does l .holds a h (omega arith) in
+          let d = done .counts in
           let k = h .counts in
-          let less : r .residuals < r .emitted =
-          let c1 = c .residuals in let c2 = c .emitted in let k1 = k .residuals in let k2 = k .emitted in let k3 = k .kept in omega arith in
-          rw (e, w, q, residual-is j a, sym op) (push-residual j done less)
+          let less : stateOf c .residuals < stateOf c .emitted =
+          let c1 = d .residuals in let c2 = d .emitted in let k1 = k .residuals in let k2 = k .emitted in let k3 = k .kept in omega arith in
+          let at : p ≡ residualsAt l + stateOf c .residuals = w ∙ ap (λ (m : Layout). residualsAt m + stateOf c .residuals) (laid-is done) in
+          rw (e, at, q (held-full c done), residual-is j a, sym op) (push-residual j done less)
 
 -- the depth where a jump comes in
 pub depth-holds : {s : List ℕ} {l : Layout} {xs : List ℕ} {st : State} {a : Made} (d : ℕ) → d ≤ a .pools .emitted → Holds s l xs st a → Holds s l xs (states.atDepth st d) (atDepth d a)
 unfolding atDepth
-depth-holds {st = st} d f h =
+depth-holds {st = st} {a} d f h =
     let c = h .counts in
     record {
       fit = h .fit;
@@ -101,6 +109,7 @@ depth-holds {st = st} d f h =
         low = let e = c .emitted in omega arith;
         within = c .within;
       };
+      laid = laid-same (states.atDepth st d) (atDepth d a) refl refl refl (omega arith) refl (h .laid);
       emitted = record { code = h .emitted .code; positions = h .emitted .positions; residuals = h .emitted .residuals };
       pooled =
           let k = h .pooled in
@@ -114,12 +123,13 @@ depth-holds {st = st} d f h =
             names = k .names;
             chains = k .chains;
           };
+      index = h .index;
     }
 
 -- an eval that was reached is not looked at
 pub defeated-holds : {s : List ℕ} {l : Layout} {xs : List ℕ} {st : State} {a : Made} → Holds s l xs st a → Holds s l xs st (defeated a)
 unfolding defeated defeat
-defeated-holds {s} {a = a} h =
+defeated-holds {s} {st = st} {a} h =
     let c = h .counts in
     let k = h .pooled in
     record {
@@ -135,6 +145,7 @@ defeated-holds {s} {a = a} h =
         low = c .low;
         within = c .within;
       };
+      laid = laid-same st (defeated a) refl refl refl (omega arith) refl (h .laid);
       emitted = record { code = h .emitted .code; positions = h .emitted .positions; residuals = h .emitted .residuals };
       pooled = record {
         const-keys = k .const-keys;
@@ -146,6 +157,7 @@ defeated-holds {s} {a = a} h =
         names = k .names;
         chains = kept-defeat s (a .pools) (k .chains);
       };
+      index = h .index;
     }
 
 pub defeated-does : {s : List ℕ} {l : Layout} (xs : List ℕ) (st : State) → Does s l xs st xs st defeated
@@ -204,6 +216,7 @@ back-holds {l = l} {xs} {st = st} {saved} {a} {a₀} h₀ h g f =
         low = let z = c₀ .low in omega arith;
         within = c .within;
       };
+      laid = laid-same (states.takenBack st saved) (takeBack a₀ a) refl refl refl (omega arith) refl (h .laid);
       emitted = record {
         code =
             region-front 0 (4 * saved .code) (4 * st .code) xs (codeWords (a₀ .code)) (codeWords (g .more))
@@ -223,6 +236,7 @@ back-holds {l = l} {xs} {st = st} {saved} {a} {a₀} h₀ h g f =
         names = k .names;
         chains = k .chains;
       };
+      index = h .index;
     }
 
 -- the start
@@ -230,9 +244,9 @@ no-keys : (at n : ℕ) (xs : List ℕ) → Keys at n 0 xs
 unfolding region
 no-keys at n xs = record { distinct = tt; below = tt; count = refl }
 
-pub start-holds : {s : List ℕ} {l : Layout} {xs : List ℕ} → Fit s l xs → Holds s l xs states.start nothing
+pub start-holds : {s : List ℕ} {l : Layout} {xs : List ℕ} → Fit s l xs → Indexes s l 0 0 0 0 xs → Holds s l xs (states.start l) nothing
 unfolding nothing noPools codeWords positions greatest region
-start-holds {s} {l} {xs} fit = record {
+start-holds {s} {l} {xs} fit index = record {
   fit = fit;
   counts = record {
     code = refl;
@@ -245,6 +259,7 @@ start-holds {s} {l} {xs} fit = record {
     low = omega arith;
     within = omega arith;
   };
+  laid = record { most = refl; nodes = refl; steps = refl; few = omega arith };
   emitted = record { code = refl; positions = refl; residuals = refl };
   pooled = record {
     const-keys = no-keys (constsAt l) (l .nodes) xs;
@@ -256,4 +271,5 @@ start-holds {s} {l} {xs} fit = record {
     names = refl;
     chains = kept-none s;
   };
+  index = index;
 }

@@ -1,5 +1,5 @@
 -- The table of effects and the depth that is counted with it, in the shapes of the code.
-use Prim.Native.Nat.{ℕ, _+_, _-_, _≤_}
+use Prim.Native.Nat.{ℕ, _+_, _-_, _≤_, _<_}
 use mathlib.Core.Path.{_≡_}
 use mathlib.Core.List.{List, [], _∷_}
 use native.Mathlib.Omega.{arith}
@@ -17,17 +17,16 @@ pub call-ref-of : (name argc : ℕ) (r : Receiver) (w : List ℕ) (b : ℕ) → 
 unfolding receiverWords callRefWords
 call-ref-of name argc r w b e f = rw (f, e)
 
+-- what is popped is a word, whatever the table is
+pub pops-fit : {e0 c : ℕ} (e3 a b n : ℕ) → c ≡ counted e3 a b n → e0 < 4294967296 → Fits w32 a → Fits w32 n → Fits w64 (e0 + c)
+pops-fit e3 a b n k h0 ha hn =
+    let l = ha .fits in
+    let m = hn .fits in
+    let q = counted-small e3 a b n 4294967296 (omega arith) (omega arith) (omega arith) in
+    record { fits = omega arith }
+
 -- the depth, where more is there than is popped, and where not
 module _ (w : List ℕ) (n d e0 e1 e3 c : ℕ) (h0 : e0 ≡ entry (getD w 0 0) 0) (h3 : e3 ≡ entry (getD w 0 0) 3) (k : c ≡ counted e3 (getD w 1 0) (getD w 2 0) n) where
-  -- the sum fits
-  pub pops-fit : Fits w32 (getD w 1 0) → Fits w32 n → Fits w64 (e0 + c)
-  pops-fit ha hn =
-      let p = entry-small (getD w 0 0) 0 (omega arith) in
-      let l = ha .fits in
-      let m = hn .fits in
-      let q = counted-small e3 (getD w 1 0) (getD w 2 0) n 4294967296 (omega arith) (omega arith) (omega arith) in
-      record { fits = omega arith }
-
   module _ (h1 : e1 ≡ entry (getD w 0 0) 1) where
     pub after-some : d - (e0 + c) + e1 ≡ afterWords w n d
     unfolding afterWords

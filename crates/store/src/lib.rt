@@ -1,52 +1,82 @@
 // The lent scratch as growing lists: the code and the pools that have been made so far, with counts beside them. No call asks anything; what
 // it does is known where the scratch held something before (`Holds`), and what is emitted has its room (`Does`).
 ghost use mathlib.Core.Path.{_≡_};
-ghost use Prim.Native.Nat.{ℕ, _+_, _*_, _≤_, _<_};
+ghost use Prim.Native.Nat.{ℕ, _*_, _/_, _%_};
 ghost use mathlib.Core.List.{List, map};
 ghost use lib.ListN.{set, length};
 ghost use lib.Seq.{sets};
 ghost use lib.Dec.{eqb};
-ghost use Rattle.sheet.specs.Layout.{nodeCount};
 ghost use Rattle.sheet.specs.Node as nodes;
-ghost use Rattle.lowering.specs.Nodes.{Valid};
 ghost use Rattle.lowering.specs.Pools as pools;
 ghost use Rattle.chains.specs.Same as sames;
-ghost use Rattle.keys.specs.Keys.{nameOf};
-ghost use Rattle.store.specs.Places as places;
+ghost use Rattle.bytecode.specs.declared.Op.{Op};
+ghost use Rattle.bytecode.specs.Op.{opWords};
+ghost use Rattle.bytecode.specs.Table.{effectTable};
+ghost use Rattle.keys.specs.Keys.{isMarked, nameOf};
+ghost use Rattle.keys.specs.Used.{ConstKey, NameKey, TokenKey};
+ghost use Rattle.scratch.specs.declared.Layout.{Layout};
+ghost use Rattle.scratch.specs.Places as places;
 ghost use Rattle.emission.specs.Made as made;
 ghost use Rattle.store.specs.Effects.{Narrow};
 ghost use Rattle.store.specs.Holds.{Holds};
 ghost use Rattle.store.specs.Does.{Does, Adds, AddsChain};
 ghost use Rattle.store.specs.States as states;
 use bytecode::Op;
+use chains::link_count;
+use chains::root_local;
+use index::chain_hash;
+use index::const_hash;
+use index::find_chain;
+use index::find_token;
+use index::knows;
+use index::link;
+use index::name_hash;
+use index::name_link;
+use index::note;
+use index::recall;
+use index::remember;
+use index::seek_const;
+use index::seek_name;
+use index::token_hash;
+use keys::is_marked;
+use keys::text_of;
 use ops::after;
 use ops::op_words;
-use places::OP;
-use places::chains_at;
-use places::consts_at;
-use places::names_at;
-use places::positions_at;
-use places::residuals_at;
-use places::tokens_at;
-use states::counted;
-use states::with_chain;
-use states::with_const;
-use states::with_name;
-use states::with_residual;
-use states::with_token;
+use scratch::OP;
+use scratch::chain_index;
+use scratch::chain_place;
+use scratch::const_index;
+use scratch::const_place;
+use scratch::memos_at;
+use scratch::name_index;
+use scratch::name_place;
+use scratch::position_place;
+use scratch::put;
+use scratch::residual_place;
+use scratch::token_index;
+use scratch::token_place;
+use states::CHAINS;
+use states::CODE;
+use states::CONSTS;
+use states::COUNTS;
+use states::DEPTH;
+use states::NAMES;
+use states::RESIDUALS;
+use states::STEPS;
+use states::TOKENS;
+use states::count_one;
+use states::layout_of;
+use std::num::wrapping_add_u32;
 
 pub mod ops;
-pub mod places;
 pub mod states;
 
-// How many instructions may be emitted, and how many nodes the sheet has.
-pub struct Layout {
-    pub most: u32,
-    pub nodes: u32,
-}
+// A memo has a text's number plus 1, so this one has none.
+const NO_TEXT: u32 = 4294967295;
 
 // What the scratch holds: how many instructions stand, how many entries each pool has, how many instructions were emitted, the depth at the
-// next instruction, and the greatest depth before an instruction that stands (1 where none does).
+// next instruction, the greatest depth before an instruction that stands (1 where none does), the layout, and how many steps the chains
+// have. While it is filled, these counts stand in a lent array.
 pub struct State {
     pub code: u32,
     pub consts: u32,
@@ -57,215 +87,174 @@ pub struct State {
     pub emitted: u32,
     pub depth: u32,
     pub deepest: u32,
+    pub most: u32,
+    pub nodes: u32,
+    pub steps: u32,
 }
 
-// A state, and where in its pool an entry stands.
-pub struct Placed {
-    pub st: State,
-    pub at: u32,
-}
-
-// A word, where there is room.
-fn put(x: &mut [u32], i: usize, v: u32)
-    ensures { λ r. ⌜ now (x .exit) ≡ set (now (x .entry)) i v ⌝ }
-{
-    if i < x.len() {
-        x[i] = v;
-    }
-}
-
-// The words of an instruction at its place.
+// The words of an instruction at its place: one test where all of them have room.
 fn put_op(x: &mut [u32], code: u32, w: [u32; 4])
     ensures { λ r. ⌜ (length w ≡ 4 → now (x .exit) ≡ sets (now (x .entry)) (4 * code) w) ⌝ }
 {
     let at = OP * (code as usize);
+    if at + 3 < x.len() {
+        x[at] = w[0];
+        x[at + 1] = w[1];
+        x[at + 2] = w[2];
+        x[at + 3] = w[3];
+        return;
+    }
     put(x, at, w[0]);
     put(x, at + 1, w[1]);
     put(x, at + 2, w[2]);
     put(x, at + 3, w[3]);
 }
 
-// An instruction behind the code; `n` is what a chain takes.
-pub fn emit(l: Layout, x: &mut [u32], st: State, op: Op, pos: u32, n: u32) -> State
-    ensures { λ r. ⌜ ((s : List ℕ) → Narrow op → Does s l (now (x .entry)) st (now (x .exit)) r (made.emit op pos n)) ⌝ }
+// The instruction with words `w` behind the code, where `t` is the table of effects; `n` is what a chain takes.
+fn push(t: &[u8; 125], c: &mut [u32; COUNTS], x: &mut [u32], w: [u32; 4], pos: u32, n: u32)
+    ensures { λ _. ⌜
+        ((l : Layout) → now (t .entry) ≡ effectTable → (s : List ℕ) (op : Op) → w ≡ opWords op
+        → Does s l (now (x .entry)) (states.stateOf (now (c .entry))) (now (x .exit)) (states.stateOf (now (c .exit))) (made.emit op pos n)) ⌝ }
 {
-    let w = op_words(op);
-    let d = after(w, n, st.depth);
-    let at = positions_at(l) + (st.code as usize);
-    put_op(x, st.code, w);
+    let code = c[CODE];
+    let d = after(t, w, n, c[DEPTH]);
+    let at = position_place(layout_of(c), code);
+    put_op(x, code, w);
     put(x, at, pos);
-    counted(st, d)
+    count_one(c, d);
+}
+
+// An instruction behind the code. Its words are known where its kind is, so this is small where it is called.
+pub fn emit(t: &[u8; 125], c: &mut [u32; COUNTS], x: &mut [u32], op: Op, pos: u32, n: u32)
+    ensures { λ _. ⌜
+        ((l : Layout) → now (t .entry) ≡ effectTable → (s : List ℕ) → Narrow op
+        → Does s l (now (x .entry)) (states.stateOf (now (c .entry))) (now (x .exit)) (states.stateOf (now (c .exit))) (made.emit op pos n)) ⌝ }
+{
+    push(t, c, x, op_words(op), pos, n);
 }
 
 // Node `j` kept as it is.
-pub fn residual(l: Layout, x: &mut [u32], st: State, j: u32) -> State
-    ensures { λ r. ⌜ ((s : List ℕ) → Does s l (now (x .entry)) st (now (x .exit)) r (made.residual j)) ⌝ }
+pub fn residual(t: &[u8; 125], c: &mut [u32; COUNTS], x: &mut [u32], j: u32)
+    ensures { λ _. ⌜
+        ((l : Layout) → now (t .entry) ≡ effectTable → (s : List ℕ)
+        → Does s l (now (x .entry)) (states.stateOf (now (c .entry))) (now (x .exit)) (states.stateOf (now (c .exit))) (made.residual j)) ⌝ }
 {
-    let r = emit(l, x, st, Op::EvalAst(st.residuals), 0, 0);
-    let at = residuals_at(l) + (r.residuals as usize);
+    let e = c[RESIDUALS];
+    emit(t, c, x, Op::EvalAst(e), 0, 0);
+    let r = c[RESIDUALS];
+    let at = residual_place(layout_of(c), r);
     put(x, at, j);
-    with_residual(r)
-}
-
-// Where the const of node `j` stands among the first `n`.
-fn seek_const(s: &[u8], l: Layout, x: &[u32], n: u32, j: u32) -> usize
-    ensures { λ r. ⌜ (places.constsAt l + n ≤ length (now (x .entry)) → r ≡ pools.firstWhere (pools.sameConst (now (s .entry)) (pools.constOf (now (s .entry)) j)) (map (pools.constOf (now (s .entry))) (places.region (places.constsAt l) n (now (x .entry))))) ⌝ }
-{
-    let at = consts_at(l);
-    let end = at + (n as usize);
-    if end <= x.len() {
-        return keys::find_const(s, &x[at..end], j);
-    }
-    0
-}
-
-// Where token `j` stands among the first `n`.
-fn seek_token(s: &[u8], l: Layout, x: &[u32], n: u32, j: u32) -> usize
-    ensures { λ r. ⌜ (places.tokensAt l + n ≤ length (now (x .entry)) → r ≡ pools.firstWhere (eqb j) (map (nodes.fieldC (now (s .entry))) (places.region (places.tokensAt l) n (now (x .entry))))) ⌝ }
-{
-    let at = tokens_at(l);
-    let end = at + (n as usize);
-    if end <= x.len() {
-        return keys::find_token(s, &x[at..end], j);
-    }
-    0
-}
-
-// Where the name of key `j` stands among the first `n`.
-fn seek_name(s: &[u8], l: Layout, x: &[u32], n: u32, j: u32) -> usize
-    ensures { λ r. ⌜ (places.namesAt l + n ≤ length (now (x .entry)) → r ≡ pools.firstWhere (pools.sameName (now (s .entry)) (nameOf (now (s .entry)) j)) (map (nameOf (now (s .entry))) (places.region (places.namesAt l) n (now (x .entry))))) ⌝ }
-{
-    let at = names_at(l);
-    let end = at + (n as usize);
-    if end <= x.len() {
-        return keys::find_name(s, &x[at..end], j);
-    }
-    0
-}
-
-// Where the chain of node `j` stands among the first `n`.
-fn seek_chain(s: &[u8], l: Layout, x: &[u32], n: u32, j: u32) -> usize
-    ensures { λ r. ⌜ (places.chainsAt l + n ≤ length (now (x .entry)) → r ≡ pools.firstWhere (sames.sameNodes (now (s .entry)) j) ((places.region (places.chainsAt l) n (now (x .entry))))) ⌝ }
-{
-    let at = chains_at(l);
-    let end = at + (n as usize);
-    if end <= x.len() {
-        return keys::find_chain(s, &x[at..end], j);
-    }
-    0
+    c[RESIDUALS] = wrapping_add_u32(r, 1);
 }
 
 // The constant of node `j`, and its place.
-pub fn add_const(s: &[u8], l: Layout, x: &mut [u32], st: State, j: u32) -> Placed
-    ensures { λ r. ⌜ Adds (now (s .entry)) l (now (x .entry)) st (now (x .exit)) r (Valid (now (s .entry)) j) (made.addConst (now (s .entry)) (pools.constOf (now (s .entry)) j)) (λ a. pools.constAt (now (s .entry)) (pools.constOf (now (s .entry)) j) (a .pools)) ⌝ }
+pub fn add_const(s: &[u8], c: &mut [u32; COUNTS], x: &mut [u32], j: u32) -> u32
+    ensures { λ r. ⌜
+        ((l : Layout) → Adds (now (s .entry)) l (now (x .entry)) (states.stateOf (now (c .entry))) (now (x .exit)) (states.stateOf (now (c .exit))) r
+        (ConstKey (now (s .entry)) j)
+        (made.addConst (now (s .entry)) (pools.constOf (now (s .entry)) j))
+        (λ a. pools.constAt (now (s .entry)) (pools.constOf (now (s .entry)) j) (a .pools))) ⌝ }
 {
-    let i = seek_const(s, l, &x[..], st.consts, j);
-    if i < (st.consts as usize) {
-        return Placed { st, at: i as u32 };
+    let l = layout_of(c);
+    let n = c[CONSTS];
+    let h = const_hash(s, j);
+    let ix = const_index(l);
+    let i = seek_const(s, &x[..], ix, n, j, h);
+    if i < n {
+        return i;
     }
-    let at = consts_at(l) + (st.consts as usize);
-    put(x, at, j);
-    Placed {
-        st: with_const(st),
-        at: st.consts,
-    }
+    put(x, const_place(l, n), j);
+    note(x, ix, link(ix, j), h, n);
+    c[CONSTS] = wrapping_add_u32(n, 1);
+    n
 }
 
 // The token of node `j`, and its place.
-pub fn add_token(s: &[u8], l: Layout, x: &mut [u32], st: State, j: u32) -> Placed
-    ensures { λ r. ⌜ Adds (now (s .entry)) l (now (x .entry)) st (now (x .exit)) r (Valid (now (s .entry)) j) (made.addToken (nodes.fieldC (now (s .entry)) j)) (λ a. pools.tokenAt (nodes.fieldC (now (s .entry)) j) (a .pools)) ⌝ }
+pub fn add_token(s: &[u8], c: &mut [u32; COUNTS], x: &mut [u32], j: u32) -> u32
+    ensures { λ r. ⌜
+        ((l : Layout) → Adds (now (s .entry)) l (now (x .entry)) (states.stateOf (now (c .entry))) (now (x .exit)) (states.stateOf (now (c .exit))) r
+        (TokenKey (now (s .entry)) j)
+        (made.addToken (nodes.fieldC (now (s .entry)) j))
+        (λ a. pools.tokenAt (nodes.fieldC (now (s .entry)) j) (a .pools))) ⌝ }
 {
-    let i = seek_token(s, l, &x[..], st.tokens, sheet::field_c(s, j));
-    if i < (st.tokens as usize) {
-        return Placed { st, at: i as u32 };
+    let l = layout_of(c);
+    let n = c[TOKENS];
+    let h = token_hash(s, j);
+    let i = find_token(s, &x[..], l, n, j, h);
+    if i < n {
+        return i;
     }
-    let at = tokens_at(l) + (st.tokens as usize);
-    put(x, at, j);
-    Placed {
-        st: with_token(st),
-        at: st.tokens,
-    }
+    put(x, token_place(l, n), j);
+    let ix = token_index(l);
+    note(x, ix, link(ix, j), h, n);
+    c[TOKENS] = wrapping_add_u32(n, 1);
+    n
 }
 
-// The name with key `k` (3 · node + field), and its place.
-pub fn add_name(s: &[u8], l: Layout, x: &mut [u32], st: State, k: u32) -> Placed
-    ensures { λ r. ⌜ Adds (now (s .entry)) l (now (x .entry)) st (now (x .exit)) r (k < 3 * nodeCount (now (s .entry))) (made.addName (now (s .entry)) (nameOf (now (s .entry)) k)) (λ a. pools.nameAt (now (s .entry)) (nameOf (now (s .entry)) k) (a .pools)) ⌝ }
+// The name with key `k`, which has text `t` and `!` where `m` says, sought by its bytes, and its place.
+fn push_name(s: &[u8], c: &mut [u32; COUNTS], x: &mut [u32], k: u32, t: u32, m: bool) -> u32
+    ensures { λ r. ⌜
+        ((l : Layout) → t ≡ nameOf (now (s .entry)) k .text → m ≡ isMarked (now (s .entry)) (k / 3) (k % 3)
+        → Adds (now (s .entry)) l (now (x .entry)) (states.stateOf (now (c .entry))) (now (x .exit)) (states.stateOf (now (c .exit))) r
+        (NameKey (now (s .entry)) k)
+        (made.addName (now (s .entry)) (nameOf (now (s .entry)) k))
+        (λ a. pools.nameAt (now (s .entry)) (nameOf (now (s .entry)) k) (a .pools))) ⌝ }
 {
-    let i = seek_name(s, l, &x[..], st.names, k);
-    if i < (st.names as usize) {
-        return Placed { st, at: i as u32 };
+    let l = layout_of(c);
+    let n = c[NAMES];
+    let h = name_hash(s, t, m);
+    let ix = name_index(l);
+    let i = seek_name(s, &x[..], ix, n, t, m, h);
+    if i < n {
+        return i;
     }
-    let at = names_at(l) + (st.names as usize);
-    put(x, at, k);
-    Placed {
-        st: with_name(st),
-        at: st.names,
+    put(x, name_place(l, n), k);
+    note(x, ix, name_link(ix, k), h, n);
+    c[NAMES] = wrapping_add_u32(n, 1);
+    n
+}
+
+// The name with key `k` (3 · node + field), and its place. What is known of its text number is asked first.
+pub fn add_name(s: &[u8], c: &mut [u32; COUNTS], x: &mut [u32], k: u32) -> u32
+    ensures { λ r. ⌜
+        ((l : Layout) → Adds (now (s .entry)) l (now (x .entry)) (states.stateOf (now (c .entry))) (now (x .exit)) (states.stateOf (now (c .exit))) r
+        (NameKey (now (s .entry)) k)
+        (made.addName (now (s .entry)) (nameOf (now (s .entry)) k))
+        (λ a. pools.nameAt (now (s .entry)) (nameOf (now (s .entry)) k) (a .pools))) ⌝ }
+{
+    let t = text_of(s, k);
+    if is_marked(s, k) {
+        return push_name(s, c, x, k, t, true);
     }
+    let ms = memos_at(layout_of(c));
+    if knows(&x[..], ms, t) {
+        return recall(&x[..], ms, t);
+    }
+    let at = push_name(s, c, x, k, t, false);
+    if t < NO_TEXT {
+        remember(x, ms, t, at);
+    }
+    at
 }
 
 // The chain of node `j`, whose names are pooled, and its place.
-pub fn add_chain(s: &[u8], l: Layout, x: &mut [u32], st: State, j: u32) -> Placed
-    ensures { λ r. ⌜ AddsChain (now (s .entry)) l (now (x .entry)) st (now (x .exit)) r j ⌝ }
+pub fn add_chain(s: &[u8], c: &mut [u32; COUNTS], x: &mut [u32], j: u32) -> u32
+    ensures { λ r. ⌜
+        ((l : Layout) → AddsChain (now (s .entry)) l (now (x .entry)) (states.stateOf (now (c .entry))) (now (x .exit))
+        (states.stateOf (now (c .exit))) r j) ⌝ }
 {
-    let i = seek_chain(s, l, &x[..], st.chains, j);
-    if i < (st.chains as usize) {
-        return Placed { st, at: i as u32 };
+    let l = layout_of(c);
+    let n = c[CHAINS];
+    let local = root_local(s, j);
+    let h = chain_hash(s, &x[..], l, c[NAMES], j, local);
+    let i = find_chain(s, &x[..], l, n, j, h, local);
+    if i < n {
+        return i;
     }
-    let at = chains_at(l) + (st.chains as usize);
-    put(x, at, j);
-    Placed {
-        st: with_chain(st),
-        at: st.chains,
-    }
-}
-
-// The depth where a jump comes in.
-pub fn at_depth(st: State, d: u32) -> State
-    ensures { λ r. ⌜ r ≡ states.atDepth st d ⌝ }
-{
-    State {
-        code: st.code,
-        consts: st.consts,
-        names: st.names,
-        tokens: st.tokens,
-        residuals: st.residuals,
-        chains: st.chains,
-        emitted: st.emitted,
-        depth: d,
-        deepest: st.deepest,
-    }
-}
-
-// The code and the depth as they were at `saved`; pools and counts stay.
-pub fn take_back(st: State, saved: State) -> State
-    ensures { λ r. ⌜ r ≡ states.takenBack st saved ⌝ }
-{
-    State {
-        code: saved.code,
-        consts: st.consts,
-        names: st.names,
-        tokens: st.tokens,
-        residuals: st.residuals,
-        chains: st.chains,
-        emitted: st.emitted,
-        depth: saved.depth,
-        deepest: saved.deepest,
-    }
-}
-
-// Nothing is made yet.
-pub fn start() -> State
-    ensures { λ r. ⌜ r ≡ states.start ⌝ }
-{
-    State {
-        code: 0,
-        consts: 0,
-        names: 0,
-        tokens: 0,
-        residuals: 0,
-        chains: 0,
-        emitted: 0,
-        depth: 0,
-        deepest: 1,
-    }
+    put(x, chain_place(l, n), j);
+    let ix = chain_index(l);
+    note(x, ix, link(ix, j), h, n);
+    c[CHAINS] = wrapping_add_u32(n, 1);
+    c[STEPS] = wrapping_add_u32(c[STEPS], link_count(s, j));
+    n
 }

@@ -1,6 +1,7 @@
 // Instructions: their words, and what they do to the depth.
 ghost use mathlib.Core.Path.{_≡_};
 ghost use Rattle.bytecode.specs.Op.{opWords};
+ghost use Rattle.bytecode.specs.Table.{effectTable};
 ghost use Rattle.store.specs.Effects as effects;
 use bytecode::Op;
 use bytecode::Receiver;
@@ -74,13 +75,12 @@ fn call_ref(name: u32, argc: u32, r: Receiver) -> [u32; 4]
     [13, name, joined(argc, w[0]), w[1]]
 }
 
-// The depth after an instruction with these words at depth `d`; `n` is what a chain takes.
-pub fn after(w: [u32; 4], n: u32, d: u32) -> u64
-    ensures { λ r. ⌜ r ≡ effects.afterWords w n d ⌝ }
+// The depth after an instruction with these words at depth `d`, where `t` is the table of effects; `n` is what a chain takes.
+pub fn after(t: &[u8; 125], w: [u32; 4], n: u32, d: u32) -> u64
+    ensures { λ r. ⌜ (now (t .entry) ≡ effectTable → r ≡ effects.afterWords w n d) ⌝ }
 {
-    let t = bytecode::effects();
-    let pops = (entry(&t, w[0], 0) as u64) + counted(entry(&t, w[0], 3), w[1], w[2], n as u64);
-    let pushes = entry(&t, w[0], 1) as u64;
+    let pops = (entry(t, w[0], 0) as u64) + counted(entry(t, w[0], 3), w[1], w[2], n as u64);
+    let pushes = entry(t, w[0], 1) as u64;
     if pops < (d as u64) {
         return (d as u64) - pops + pushes;
     }

@@ -1,8 +1,10 @@
-// How the counts change. The counts are words, and wrap.
+// How the counts change. They stand in a lent array, are words, and wrap.
 ghost use mathlib.Core.Path.{_≡_};
 ghost use Prim.Native.Nat.{max};
 ghost use Rattle.store.specs.States as states;
+ghost use Rattle.store.specs.declared.State.{State};
 use crate::State;
+use scratch::Layout;
 use std::num::wrapping_add_u32;
 
 // The greater of two numbers.
@@ -12,104 +14,97 @@ fn greater(a: u32, b: u32) -> u32
     if a < b { b } else { a }
 }
 
+// How many counts there are, and where each of them stands. The last is never 0.
+pub const COUNTS: usize = 12;
+
+pub const CODE: usize = 0;
+
+pub const CONSTS: usize = 1;
+
+pub const NAMES: usize = 2;
+
+pub const TOKENS: usize = 3;
+
+pub const RESIDUALS: usize = 4;
+
+pub const CHAINS: usize = 5;
+
+pub const EMITTED: usize = 6;
+
+pub const DEPTH: usize = 7;
+
+pub const STEPS: usize = 8;
+
+pub const MOST: usize = 9;
+
+pub const NODES: usize = 10;
+
+pub const DEEPEST: usize = 11;
+
+// The layout that the counts tell.
+pub fn layout_of(c: &[u32; COUNTS]) -> Layout
+    ensures { λ r. ⌜ r ≡ states.layoutOf (states.stateOf (now (c .entry))) ⌝ }
+{
+    Layout {
+        most: c[MOST],
+        nodes: c[NODES],
+    }
+}
+
+// The counts as they are.
+pub fn state_of(c: &[u32; COUNTS]) -> State
+    ensures { λ r. ⌜ r ≡ states.stateOf (now (c .entry)) ⌝ }
+{
+    State {
+        code: c[CODE],
+        consts: c[CONSTS],
+        names: c[NAMES],
+        tokens: c[TOKENS],
+        residuals: c[RESIDUALS],
+        chains: c[CHAINS],
+        emitted: c[EMITTED],
+        depth: c[DEPTH],
+        deepest: c[DEEPEST],
+        most: c[MOST],
+        nodes: c[NODES],
+        steps: c[STEPS],
+    }
+}
+
+// Nothing is made yet.
+pub fn start(l: Layout) -> [u32; COUNTS]
+    ensures { λ r. ⌜ states.stateOf r ≡ states.start l ⌝ }
+{
+    [0, 0, 0, 0, 0, 0, 0, 0, 0, l.most, l.nodes, 1]
+}
+
 // An instruction more, and the depth behind it.
-pub fn counted(st: State, depth: u64) -> State
-    ensures { λ r. ⌜ r ≡ states.counted st depth ⌝ }
+pub fn count_one(c: &mut [u32; COUNTS], depth: u64)
+    ensures { λ _. ⌜
+        (states.Full (now (c .entry)) → states.stateOf (now (c .exit)) ≡ states.counted (states.stateOf (now (c .entry))) depth) ⌝ }
 {
-    State {
-        code: wrapping_add_u32(st.code, 1),
-        consts: st.consts,
-        names: st.names,
-        tokens: st.tokens,
-        residuals: st.residuals,
-        chains: st.chains,
-        emitted: wrapping_add_u32(st.emitted, 1),
-        depth: (depth % 4294967296) as u32,
-        deepest: greater(st.deepest, st.depth),
-    }
+    let before = c[DEPTH];
+    c[CODE] = wrapping_add_u32(c[CODE], 1);
+    c[EMITTED] = wrapping_add_u32(c[EMITTED], 1);
+    c[DEEPEST] = greater(c[DEEPEST], before);
+    c[DEPTH] = (depth % 4294967296) as u32;
 }
 
-// A residual more.
-pub fn with_residual(st: State) -> State
-    ensures { λ r. ⌜ r ≡ states.withResidual st ⌝ }
+// The depth where a jump comes in.
+pub fn at_depth(c: &mut [u32; COUNTS], d: u32)
+    ensures { λ _. ⌜
+        (states.Full (now (c .entry)) → states.stateOf (now (c .exit)) ≡ states.atDepth (states.stateOf (now (c .entry))) d) ⌝ }
 {
-    State {
-        code: st.code,
-        consts: st.consts,
-        names: st.names,
-        tokens: st.tokens,
-        residuals: wrapping_add_u32(st.residuals, 1),
-        chains: st.chains,
-        emitted: st.emitted,
-        depth: st.depth,
-        deepest: st.deepest,
-    }
+    c[DEPTH] = d;
 }
 
-// A constant more.
-pub fn with_const(st: State) -> State
-    ensures { λ r. ⌜ r ≡ states.withConst st ⌝ }
+// The code and the depths as they were; pools and counts stay.
+pub fn take_back(c: &mut [u32; COUNTS], code: u32, depth: u32, deepest: u32)
+    ensures { λ _. ⌜
+        (states.Full (now (c .entry)) → (saved : State) → code ≡ saved .code → depth ≡ saved .depth → deepest ≡ saved .deepest
+        → states.stateOf (now (c .exit)) ≡ states.takenBack (states.stateOf (now (c .entry))) saved) ⌝ }
 {
-    State {
-        code: st.code,
-        consts: wrapping_add_u32(st.consts, 1),
-        names: st.names,
-        tokens: st.tokens,
-        residuals: st.residuals,
-        chains: st.chains,
-        emitted: st.emitted,
-        depth: st.depth,
-        deepest: st.deepest,
-    }
-}
-
-// A name more.
-pub fn with_name(st: State) -> State
-    ensures { λ r. ⌜ r ≡ states.withName st ⌝ }
-{
-    State {
-        code: st.code,
-        consts: st.consts,
-        names: wrapping_add_u32(st.names, 1),
-        tokens: st.tokens,
-        residuals: st.residuals,
-        chains: st.chains,
-        emitted: st.emitted,
-        depth: st.depth,
-        deepest: st.deepest,
-    }
-}
-
-// A token more.
-pub fn with_token(st: State) -> State
-    ensures { λ r. ⌜ r ≡ states.withToken st ⌝ }
-{
-    State {
-        code: st.code,
-        consts: st.consts,
-        names: st.names,
-        tokens: wrapping_add_u32(st.tokens, 1),
-        residuals: st.residuals,
-        chains: st.chains,
-        emitted: st.emitted,
-        depth: st.depth,
-        deepest: st.deepest,
-    }
-}
-
-// A chain more.
-pub fn with_chain(st: State) -> State
-    ensures { λ r. ⌜ r ≡ states.withChain st ⌝ }
-{
-    State {
-        code: st.code,
-        consts: st.consts,
-        names: st.names,
-        tokens: st.tokens,
-        residuals: st.residuals,
-        chains: wrapping_add_u32(st.chains, 1),
-        emitted: st.emitted,
-        depth: st.depth,
-        deepest: st.deepest,
-    }
+    c[CODE] = code;
+    c[DEPTH] = depth;
+    c[DEEPEST] = deepest;
 }

@@ -1,6 +1,6 @@
 // The tables of a switch, written behind the front of the image. Each section goes to its own part of the image; what does not fit is left out.
 ghost use mathlib.Core.Path.{_≡_};
-ghost use Prim.Native.Nat.{ℕ, _+_, _≤_};
+ghost use Prim.Native.Nat.{ℕ, _≤_};
 ghost use mathlib.Core.List.{List};
 ghost use lib.ListN.{length};
 ghost use Rattle.switches.specs.Switch.{caseCount};
@@ -8,7 +8,8 @@ ghost use Rattle.cases.specs.Held as points;
 ghost use Rattle.cases.specs.Range.{Range};
 ghost use Rattle.bytecode.specs.Switch.{switchWords, caseWords, rangeWords};
 ghost use Rattle.lowering.specs.Image.{section};
-ghost use Rattle.store.specs.Places.{region};
+ghost use Rattle.scratch.specs.Places.{constsAt, region};
+ghost use Rattle.index.specs.Indexes.{Indexes};
 ghost use Rattle.rows.specs.Rows.{rowsOf, tablesOf, tableCount, caseRow, runRow};
 ghost use Rattle.image.specs.Puts.{Puts};
 use cases::Points;
@@ -16,6 +17,7 @@ use image::beyond;
 use rows::case_rows;
 use rows::range_rows;
 use rows::switch_rows;
+use scratch::Layout;
 use sheet::field_b;
 use tables::Runs;
 
@@ -52,24 +54,20 @@ pub fn put_switches(
     e
 }
 
-// The rows of the Cases, over the constants of the `n` nodes from `b` on.
+// The rows of the Cases, over the `n` constants that the scratch holds.
 pub fn put_cases(
     s: &[u8],
     x: &[u32],
-    b: usize,
+    l: Layout,
     n: u32,
     image: &mut [u32],
     at: usize,
     targets: [u32; 64],
 ) -> usize
-    ensures { λ r. ⌜
-        (b + n ≤ length (now (x .entry)) → caseCount (now (s .entry)) ≤ 64 → Puts (now (image .entry)) (now (image .exit)) at r
-        (section caseWords (rowsOf (caseRow (now (s .entry)) (region b n (now (x .entry))) targets) (caseCount (now (s .entry)))))) ⌝ }
+    ensures { λ r. let sheet = now (s .entry) in let words = now (x .entry) in ⌜
+        ((ts hs ns : ℕ) → Indexes sheet l n ts hs ns words → caseCount sheet ≤ 64 → Puts (now (image .entry)) (now (image .exit)) at r
+        (section caseWords (rowsOf (caseRow sheet (region (constsAt l) n words) targets) (caseCount sheet)))) ⌝ }
 {
-    let k = n as usize;
-    if beyond(x.len(), b, k) {
-        return at;
-    }
     let m = field_b(s, 0) as usize;
     if MAX_CASES < m {
         return at;
@@ -77,9 +75,8 @@ pub fn put_cases(
     if beyond(image.len(), at, 2 * m) {
         return at;
     }
-    let f = b + k;
     let e = at + 2 * m;
-    case_rows(s, &mut image[at..e], &x[b..f], targets);
+    case_rows(s, &mut image[at..e], x, l, n, targets);
     e
 }
 

@@ -18,7 +18,7 @@ use Rattle.emission.specs.Growing.{nothing-short, grown-short, Short}
 use Rattle.switching.specs.Change.{switchTo}
 use Rattle.switching.specs.SwitchLaws.{targetsOf, wantedOf, laidOut, switch-whole}
 use Rattle.switching.specs.GrowLaws.{cases-rise, switch-lengthens, longer-short}
-use Rattle.store.specs.declared.Layout.{Layout}
+use Rattle.scratch.specs.declared.Layout.{Layout}
 use Rattle.store.specs.declared.State.{State}
 use Rattle.store.specs.Holds.{Holds}
 use Rattle.image.specs.Front.{front, words-front}

@@ -19,7 +19,7 @@ use Rattle.lowering.specs.Image.{words}
 use Rattle.lowering.specs.Outcome.{lower}
 use Rattle.totals.specs.Total.{total, switchTotal}
 use Rattle.emission.specs.Made.{Made, made}
-use Rattle.store.specs.declared.Layout.{Layout}
+use Rattle.scratch.specs.declared.Layout.{Layout}
 use Rattle.store.specs.declared.State.{State}
 use Rattle.store.specs.Holds.{Holds}
 use Rattle.tables.specs.declared.Run.{Run}

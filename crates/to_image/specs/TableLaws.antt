@@ -24,9 +24,9 @@ use Rattle.counting.specs.CountLaws.{tally-counts}
 use Rattle.totals.specs.Place.{caseTarget, rangeTarget}
 use Rattle.totals.specs.PlaceLaws.{layout-case, layout-range}
 use Rattle.emission.specs.Made.{made}
-use Rattle.store.specs.declared.Layout.{Layout}
+use Rattle.scratch.specs.declared.Layout.{Layout}
 use Rattle.store.specs.declared.State.{State}
-use Rattle.store.specs.Places.{constsAt, region}
+use Rattle.scratch.specs.Places.{constsAt, region}
 use Rattle.store.specs.Holds.{Holds}
 use Rattle.switching.specs.SwitchLaws.{laidOut}
 use Rattle.switching.specs.WholeLaws.{splits-are}

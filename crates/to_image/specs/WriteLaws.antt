@@ -30,9 +30,10 @@ use Rattle.totals.specs.Total.{total, switchTotal}
 use Rattle.totals.specs.Place.{caseTarget, rangeTarget}
 use Rattle.totals.specs.PlaceLaws.{layout-fallback, layout-default}
 use Rattle.emission.specs.Made.{Made, made}
-use Rattle.store.specs.declared.Layout.{Layout}
+use Rattle.scratch.specs.declared.Layout.{Layout}
 use Rattle.store.specs.declared.State.{State}
-use Rattle.store.specs.Places.{constsAt, region}
+use Rattle.scratch.specs.Places.{constsAt, region}
+use Rattle.index.specs.Indexes.{Indexes}
 use Rattle.store.specs.Holds.{Holds}
 use Rattle.tables.specs.declared.Run.{Run}
 use Rattle.tables.specs.Listed.{Lists}
@@ -170,10 +171,12 @@ module _ {s : List ℕ} {l : Layout} {zs : List ℕ} {st : State} {gs : List Gua
       (case-made : Aiming s gs gn want at cases (keys (caseKey s) hs) → First (caseAim s cases fallback (keys (caseKey s) hs)) cts (min (caseCount s) 64))
       (run-made : Aiming s gs gn want at start (keys (runKey rs cs) es) → First (runAim s start default (keys (runKey rs cs) es) rs cs runs) rts (min n 255))
       (sw-is : sw ≡ tableCount ra) (ca-is : ca ≡ caseCount s) (ra-is : n ≤ 255 → ra ≡ n) where
-    module _ {x y z u v : List ℕ} {m₁ m₂ m₃ m₄ : ℕ} (b : ℕ) (b-is : b ≡ constsAt l)
+    module _ {x y z u v : List ℕ} {m₁ m₂ m₃ m₄ : ℕ}
         (one : (a : Made) → Holds s l zs st a → Puts x y 0 m₁ (front a sw ca ra))
         (two : Puts y z m₁ m₂ (section switchWords (tablesOf ca fallback ra default)))
-        (three : b + st .consts ≤ length zs → caseCount s ≤ 64 → Puts z u m₂ m₃ (section caseWords (rowsOf (caseRow s (region b (st .consts) zs) cts) (caseCount s))))
+        (three :
+        (ts hs ns : ℕ) → Indexes s l (st .consts) ts hs ns zs → caseCount s ≤ 64
+        → Puts z u m₂ m₃ (section caseWords (rowsOf (caseRow s (region (constsAt l) (st .consts) zs) cts) (caseCount s))))
         (four : (ks : List Range) → n ≤ 255 → Puts u v m₃ m₄ (section rangeWords (rowsOf (runRow ks cs runs rts) n))) where
       front-put : Puts x y 0 m₁ (front (made (lower s .code) (lower s .pools) 1) (length (lower s .switches)) (length (lower s .cases)) (length (lower s .ranges)))
       front-put =
@@ -185,10 +188,8 @@ module _ {s : List ℕ} {l : Layout} {zs : List ℕ} {st : State} {gs : List Gua
 
       cases-put : Puts z u m₂ m₃ (section caseWords (lower s .cases))
       cases-put =
-          let room : b + st .consts ≤ length zs = subst (λ i. i + st .consts ≤ length zs) (sym b-is) (consts-fit (S .holds)) in
-          puts-as _ _
-          (ap (λ i. section caseWords (rowsOf (caseRow s (region i (st .consts) zs) cts) (caseCount s))) b-is ∙ ap (section caseWords) (case-rows cts case-made))
-          (three room few-of-cases)
+          puts-as _ _ (ap (section caseWords) (case-rows cts case-made))
+          (three (st .tokens) (st .chains) (st .names) (S .holds .index) few-of-cases)
 
       ranges-put : Puts u v m₃ m₄ (section rangeWords (lower s .ranges))
       ranges-put = puts-as _ _ (ap (section rangeWords) (run-rows start rts start-is run-made)) (four rs few)

@@ -10,6 +10,7 @@ pub mod switched;
 pub mod targets;
 
 use crate::switched::build_switch;
+use bytecode::effects;
 use checks::check;
 use checks::number;
 use compile::expression;
@@ -21,11 +22,13 @@ use lowering::EVAL_REACHED;
 use lowering::IMAGE_TOO_LONG;
 use lowering::SCRATCH_TOO_SHORT;
 use lowering::TOO_MANY_EMITTED;
+use scratch::Layout;
+use scratch::clear_index;
 use sheet::kind;
 use sheet::limits::MAX_DEPTH;
 use sheet::node_count;
-use store::Layout;
-use store::start;
+use store::states::start;
+use store::states::state_of;
 use sums::SWITCH;
 use sums::total;
 use zeros::zero;
@@ -67,12 +70,16 @@ pub fn build_plain(s: &[u8], image: &mut [u32], x: &mut [u32], most: u32) -> usi
         most,
         nodes: node_count(s),
     };
-    let st = expression(MAX_DEPTH, s, l, x, start(), 0);
-    let n = image_len(s, l, &x[..], st, 0);
+    let t = effects();
+    let mut c = start(l);
+    clear_index(x, l);
+    expression(MAX_DEPTH, s, &t, &mut c, x, 0);
+    let st = state_of(&c);
+    let n = image_len(st, 0);
     if image.len() < n {
         return n;
     }
-    write_front(s, l, &x[..], st, image, 0, 0, 0);
+    write_front(s, &x[..], st, image, 0, 0, 0);
     n
 }
 

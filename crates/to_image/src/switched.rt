@@ -18,6 +18,7 @@ ghost use Rattle.store.specs.Holds.{Holds};
 ghost use Rattle.to_image.specs.HeldLaws.{Planned};
 use crate::targets::case_targets;
 use crate::targets::run_targets;
+use bytecode::effects;
 use cases::Points;
 use dispatch::Targets;
 use dispatch::case_consts;
@@ -26,12 +27,13 @@ use image::image_len;
 use image::put_front;
 use places::Places;
 use places::places_of;
+use scratch::Layout;
+use scratch::clear_index;
 use sheet::field_b;
 use sheet::node_count;
-use store::Layout;
 use store::State;
-use store::places::consts_at;
-use store::start;
+use store::states::start;
+use store::states::state_of;
 use sums::GuardTable;
 use sums::guards;
 use tables::Blocks;
@@ -54,15 +56,19 @@ pub fn held(s: &[u8], l: Layout, x: &mut [u32], y: Places) -> State
 {
     let body = y.at;
     let want = y.want;
-    let t = Targets {
+    let aims = Targets {
         body,
         want,
         fallback: y.fallback,
         default: y.default,
         end: y.end,
     };
-    let st = switch(s, l, x, start(), t);
-    case_consts(s, l, x, st)
+    let t = effects();
+    let mut c = start(l);
+    clear_index(x, l);
+    switch(s, &t, &mut c, x, aims);
+    case_consts(s, &mut c, x);
+    state_of(&c)
 }
 
 // The place behind `n`.
@@ -104,9 +110,9 @@ fn write(
     let run_at = run_targets(s, g, r, p, q, e, y, place_after(y.dispatch));
     let cases = field_b(s, 0);
     let runs = run_count(q.n);
-    let a = put_front(s, l, x, st, image, table_count(runs), cases, runs);
+    let a = put_front(s, x, st, image, table_count(runs), cases, runs);
     let b = put_switches(image, a, cases, y.fallback, runs, y.default);
-    let c = put_cases(s, x, consts_at(l), st.consts, image, b, case_at);
+    let c = put_cases(s, x, l, st.consts, image, b, case_at);
     put_ranges(image, c, p, q, run_at);
 }
 
@@ -139,7 +145,7 @@ pub fn build_switch(s: &[u8], image: &mut [u32], x: &mut [u32], most: u32) -> us
         nodes: node_count(s),
     };
     let st = held(s, l, x, y);
-    let n = image_len(s, l, &x[..], st, tables_len(field_b(s, 0), run_count(q.n)));
+    let n = image_len(st, tables_len(field_b(s, 0), run_count(q.n)));
     if image.len() < n {
         return n;
     }

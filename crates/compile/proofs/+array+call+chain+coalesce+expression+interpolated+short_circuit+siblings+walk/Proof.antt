@@ -11,7 +11,7 @@ use Rattle.compile.specs.Walking.{Walking}
 use Rattle.compile.specs.Rows.{rows}
 use Rattle.emission.specs.Made.{lowered}
 use Rattle.store.specs.Does.{Does}
-use Rattle.lowering.specs.ChainNodes as chain-nodes
+use Rattle.compile.specs.Linked.{Linked}
 use Rattle.lowering.specs.Nodes.{Right, Valid, Row}
 use Rattle.sheet.specs.Walk.{skip}
 use Rattle.sheet.specs.Limits.{maxDepth}
@@ -20,6 +20,9 @@ use borrow.Author.Needs.{needs}
 use native.Mathlib.Omega.{arith}
 use Prim.Native.Nat.{_+_, _*_, _-_, _≤_}
 use mathlib.Core.Path.{_≡_, refl, sym, ap, _∙_}
+use Rattle.bytecode.specs.Table.{effectTable}
+use Rattle.scratch.specs.declared.Layout.{Layout}
+use Rattle.store.specs.States.{stateOf}
 use Prim.Native.Nat.{ℕ, _<_}
 use borrow.Fn.Kinds.{In}
 use borrow.Fn.PlainCycle.{Measures, is, falls, and}
@@ -79,7 +82,7 @@ use Rattle.sheet.proofs.position.Reads as position-reads
 use Rattle.sheet.proofs.skip.Reads as skip-reads
 use Rattle.store.proofs.emit.Reads as emit-reads
 use Rattle.store.proofs.residual.Reads as residual-reads
-use Rattle.store.proofs.take_back.Reads as take-back-reads
+use Rattle.store.proofs.states.take_back.Reads as take-back-reads
 use Rattle.compile.proofs.+array+call+chain+coalesce+expression+interpolated+short_circuit+siblings+walk.{
   statement,
 }
@@ -87,102 +90,102 @@ use Rattle.compile.proofs.+array+call+chain+coalesce+expression+interpo
   close,
 }
 
-abbrev μ-array : Measures 2 array-kinds.ps ℕ
+abbrev μ-array : Measures 4 array-kinds.ps ℕ
 μ-array κs a = 4 * a .0 + 2
 
-abbrev μ-call : Measures 2 call-kinds.ps ℕ
+abbrev μ-call : Measures 4 call-kinds.ps ℕ
 μ-call κs a = 4 * a .0 + 2
 
-abbrev μ-chain : Measures 2 chain-kinds.ps ℕ
+abbrev μ-chain : Measures 4 chain-kinds.ps ℕ
 μ-chain κs a = 4 * a .0 + 3
 
-abbrev μ-coalesce : Measures 2 coalesce-kinds.ps ℕ
+abbrev μ-coalesce : Measures 4 coalesce-kinds.ps ℕ
 μ-coalesce κs a = 4 * a .0 + 2
 
-abbrev μ-expression : Measures 2 expression-kinds.ps ℕ
+abbrev μ-expression : Measures 4 expression-kinds.ps ℕ
 μ-expression κs a = 4 * a .0
 
-abbrev μ-interpolated : Measures 2 interpolated-kinds.ps ℕ
+abbrev μ-interpolated : Measures 4 interpolated-kinds.ps ℕ
 μ-interpolated κs a = 4 * a .0 + 2
 
-abbrev μ-short-circuit : Measures 2 short-circuit-kinds.ps ℕ
+abbrev μ-short-circuit : Measures 4 short-circuit-kinds.ps ℕ
 μ-short-circuit κs a = 4 * a .0 + 2
 
-abbrev μ-siblings : Measures 2 siblings-kinds.ps ℕ
+abbrev μ-siblings : Measures 4 siblings-kinds.ps ℕ
 μ-siblings κs a = 4 * a .0 + 1
 
-abbrev μ-walk : Measures 2 walk-kinds.ps ℕ
+abbrev μ-walk : Measures 4 walk-kinds.ps ℕ
 μ-walk κs a = 4 * a .0 + 2
 
-abbrev array-at : ℕ → In 2 array-kinds.ps
-array-at t = and 2 array-kinds.ps (is 2 array-kinds.ps μ-array t) array.Pre
+abbrev array-at : ℕ → In 4 array-kinds.ps
+array-at t = and 4 array-kinds.ps (is 4 array-kinds.ps μ-array t) array.Pre
 
-abbrev array-below : ℕ → In 2 array-kinds.ps
-array-below t = and 2 array-kinds.ps (falls 2 array-kinds.ps _<_ μ-array t) array.Pre
+abbrev array-below : ℕ → In 4 array-kinds.ps
+array-below t = and 4 array-kinds.ps (falls 4 array-kinds.ps _<_ μ-array t) array.Pre
 
-abbrev call-at : ℕ → In 2 call-kinds.ps
-call-at t = and 2 call-kinds.ps (is 2 call-kinds.ps μ-call t) call.Pre
+abbrev call-at : ℕ → In 4 call-kinds.ps
+call-at t = and 4 call-kinds.ps (is 4 call-kinds.ps μ-call t) call.Pre
 
-abbrev call-below : ℕ → In 2 call-kinds.ps
-call-below t = and 2 call-kinds.ps (falls 2 call-kinds.ps _<_ μ-call t) call.Pre
+abbrev call-below : ℕ → In 4 call-kinds.ps
+call-below t = and 4 call-kinds.ps (falls 4 call-kinds.ps _<_ μ-call t) call.Pre
 
-abbrev chain-at : ℕ → In 2 chain-kinds.ps
-chain-at t = and 2 chain-kinds.ps (is 2 chain-kinds.ps μ-chain t) chain.Pre
+abbrev chain-at : ℕ → In 4 chain-kinds.ps
+chain-at t = and 4 chain-kinds.ps (is 4 chain-kinds.ps μ-chain t) chain.Pre
 
-abbrev chain-below : ℕ → In 2 chain-kinds.ps
-chain-below t = and 2 chain-kinds.ps (falls 2 chain-kinds.ps _<_ μ-chain t) chain.Pre
+abbrev chain-below : ℕ → In 4 chain-kinds.ps
+chain-below t = and 4 chain-kinds.ps (falls 4 chain-kinds.ps _<_ μ-chain t) chain.Pre
 
-abbrev coalesce-at : ℕ → In 2 coalesce-kinds.ps
-coalesce-at t = and 2 coalesce-kinds.ps (is 2 coalesce-kinds.ps μ-coalesce t) coalesce.Pre
+abbrev coalesce-at : ℕ → In 4 coalesce-kinds.ps
+coalesce-at t = and 4 coalesce-kinds.ps (is 4 coalesce-kinds.ps μ-coalesce t) coalesce.Pre
 
-abbrev coalesce-below : ℕ → In 2 coalesce-kinds.ps
+abbrev coalesce-below : ℕ → In 4 coalesce-kinds.ps
 coalesce-below t =
-    and 2 coalesce-kinds.ps (falls 2 coalesce-kinds.ps _<_ μ-coalesce t) coalesce.Pre
+    and 4 coalesce-kinds.ps (falls 4 coalesce-kinds.ps _<_ μ-coalesce t) coalesce.Pre
 
-abbrev expression-at : ℕ → In 2 expression-kinds.ps
+abbrev expression-at : ℕ → In 4 expression-kinds.ps
 expression-at t =
-    and 2 expression-kinds.ps (is 2 expression-kinds.ps μ-expression t) expression.Pre
+    and 4 expression-kinds.ps (is 4 expression-kinds.ps μ-expression t) expression.Pre
 
-abbrev expression-below : ℕ → In 2 expression-kinds.ps
+abbrev expression-below : ℕ → In 4 expression-kinds.ps
 expression-below t =
-    and 2 expression-kinds.ps (falls 2 expression-kinds.ps _<_ μ-expression t) expression.Pre
+    and 4 expression-kinds.ps (falls 4 expression-kinds.ps _<_ μ-expression t) expression.Pre
 
-abbrev interpolated-at : ℕ → In 2 interpolated-kinds.ps
+abbrev interpolated-at : ℕ → In 4 interpolated-kinds.ps
 interpolated-at t =
-    and 2 interpolated-kinds.ps (is 2 interpolated-kinds.ps μ-interpolated t) interpolated.Pre
+    and 4 interpolated-kinds.ps (is 4 interpolated-kinds.ps μ-interpolated t) interpolated.Pre
 
-abbrev interpolated-below : ℕ → In 2 interpolated-kinds.ps
+abbrev interpolated-below : ℕ → In 4 interpolated-kinds.ps
 interpolated-below t =
     and
-    2
+    4
     interpolated-kinds.ps
-    (falls 2 interpolated-kinds.ps _<_ μ-interpolated t)
+    (falls 4 interpolated-kinds.ps _<_ μ-interpolated t)
     interpolated.Pre
 
-abbrev short-circuit-at : ℕ → In 2 short-circuit-kinds.ps
+abbrev short-circuit-at : ℕ → In 4 short-circuit-kinds.ps
 short-circuit-at t =
-    and 2 short-circuit-kinds.ps (is 2 short-circuit-kinds.ps μ-short-circuit t) short-circuit.Pre
+    and 4 short-circuit-kinds.ps (is 4 short-circuit-kinds.ps μ-short-circuit t) short-circuit.Pre
 
-abbrev short-circuit-below : ℕ → In 2 short-circuit-kinds.ps
+abbrev short-circuit-below : ℕ → In 4 short-circuit-kinds.ps
 short-circuit-below t =
     and
-    2
+    4
     short-circuit-kinds.ps
-    (falls 2 short-circuit-kinds.ps _<_ μ-short-circuit t)
+    (falls 4 short-circuit-kinds.ps _<_ μ-short-circuit t)
     short-circuit.Pre
 
-abbrev siblings-at : ℕ → In 2 siblings-kinds.ps
-siblings-at t = and 2 siblings-kinds.ps (is 2 siblings-kinds.ps μ-siblings t) siblings.Pre
+abbrev siblings-at : ℕ → In 4 siblings-kinds.ps
+siblings-at t = and 4 siblings-kinds.ps (is 4 siblings-kinds.ps μ-siblings t) siblings.Pre
 
-abbrev siblings-below : ℕ → In 2 siblings-kinds.ps
+abbrev siblings-below : ℕ → In 4 siblings-kinds.ps
 siblings-below t =
-    and 2 siblings-kinds.ps (falls 2 siblings-kinds.ps _<_ μ-siblings t) siblings.Pre
+    and 4 siblings-kinds.ps (falls 4 siblings-kinds.ps _<_ μ-siblings t) siblings.Pre
 
-abbrev walk-at : ℕ → In 2 walk-kinds.ps
-walk-at t = and 2 walk-kinds.ps (is 2 walk-kinds.ps μ-walk t) walk.Pre
+abbrev walk-at : ℕ → In 4 walk-kinds.ps
+walk-at t = and 4 walk-kinds.ps (is 4 walk-kinds.ps μ-walk t) walk.Pre
 
-abbrev walk-below : ℕ → In 2 walk-kinds.ps
-walk-below t = and 2 walk-kinds.ps (falls 2 walk-kinds.ps _<_ μ-walk t) walk.Pre
+abbrev walk-below : ℕ → In 4 walk-kinds.ps
+walk-below t = and 4 walk-kinds.ps (falls 4 walk-kinds.ps _<_ μ-walk t) walk.Pre
 
 abbrev array-claims : ℕ → array-lts.Claims
 array-claims t = (count-reads.Asked, count-reads.Learnt, child-reads.Asked, child-reads.Learnt, siblings-below t, siblings.Post, position-reads.Asked, position-reads.Learnt, emit-reads.Asked, emit-reads.Learnt, residual-reads.Asked, residual-reads.Learnt)
@@ -218,7 +221,10 @@ array-child-requires : (t : ℕ) → array-lts.Need-child-requires (array-claims
 array-child-requires t c κs = search needs
 
 array-siblings-requires : (t : ℕ) → array-lts.Need-siblings-requires (array-claims t) (array-at t) array.Post
-array-siblings-requires t c κs = (sibling-falls _ (c .before .before .before .before .before .before .pre .0), tt)
+array-siblings-requires t c κs =
+    let p4 = c .before .before .before .before in
+    let p7 = p4 .before .before .before in
+    (sibling-falls _ (p7 .pre .0), tt)
 
 array-position-requires : (t : ℕ) → array-lts.Need-position-requires (array-claims t) (array-at t) array.Post
 array-position-requires t c κs = search needs
@@ -226,20 +232,38 @@ array-position-requires t c κs = search needs
 array-emit-requires : (t : ℕ) → array-lts.Need-emit-requires (array-claims t) (array-at t) array.Post
 array-emit-requires t c κs = search needs
 
-array-same-length : (t : ℕ) → array-lts.Need-same-length (array-claims t) (array-at t) array.Post
-array-same-length t c = c .before .before .emit .kept .1 .0 ∙ c .before .before .before .before .before .before .before .siblings .kept .1 .1 .1 .0
-
-array-returns : (t : ℕ) → array-lts.Need-returns (array-claims t) (array-at t) array.Post
-array-returns t c = λ C v. array-does _ _ _ _ _ C v (c .before .before .before .before .before .before .before .before .before .before .before .count .ensures) (c .before .before .before .before .before .before .before .before .before .before .if1 .taken) (c .before .before .before .before .before .before .before .before .child .ensures) (c .before .before .before .position .ensures) (c .before .before .before .before .before .before .before .siblings .ensures) (c .before .before .emit .ensures _ tt)
-
 array-residual-requires : (t : ℕ) → array-lts.Need-residual-requires (array-claims t) (array-at t) array.Post
 array-residual-requires t c κs = search needs
 
+array-same-length : (t : ℕ) → array-lts.Need-same-length (array-claims t) (array-at t) array.Post
+array-same-length t c =
+    let p2 = c .before .before in
+    let p6 = p2 .before .before .before .before in
+    let p8 = p6 .before .before in
+    p2 .emit .kept .1 .1 .0 ∙ p8 .siblings .kept .1 .1 .1 .1 .0
+
+array-returns : (t : ℕ) → array-lts.Need-returns (array-claims t) (array-at t) array.Post
+array-returns t c =
+    let p2 = c .before .before in
+    let p3 = p2 .before in
+    let p7 = p3 .before .before .before .before in
+    let p8 = p7 .before in
+    let p9 = p8 .before in
+    let p12 = p9 .before .before .before in
+    let p13 = p12 .before in
+    λ l table C v. array-does _ _ _ _ _ C v (p13 .count .ensures) (p12 .if1 .taken) (p9 .child .ensures) (p3 .position .ensures) (p8 .siblings .ensures l table) (p2 .emit .ensures l table _ tt)
+
 array-same-length-2 : (t : ℕ) → array-lts.Need-same-length-2 (array-claims t) (array-at t) array.Post
-array-same-length-2 t c = c .before .before .residual .kept .1 .0
+array-same-length-2 t c =
+    let p2 = c .before .before in
+    p2 .residual .kept .1 .1 .0
 
 array-returns-2 : (t : ℕ) → array-lts.Need-returns-2 (array-claims t) (array-at t) array.Post
-array-returns-2 t c = λ C v. array-kept _ _ _ (c .before .before .before .before .before .count .ensures) (c .before .before .before .before .if1 .left) (c .before .before .residual .ensures _)
+array-returns-2 t c =
+    let p2 = c .before .before in
+    let p5 = p2 .before .before .before in
+    let p6 = p5 .before in
+    λ l table C v. array-kept _ _ _ (p6 .count .ensures) (p5 .if1 .left) (p2 .residual .ensures l table _)
 
 call-way-of-requires : (t : ℕ) → call-lts.Need-way-of-requires (call-claims t) (call-at t) call.Post
 call-way-of-requires t c κs = search needs
@@ -254,16 +278,35 @@ call-first-arg-requires : (t : ℕ) → call-lts.Need-first-arg-requires (call-c
 call-first-arg-requires t c κs = search needs
 
 call-siblings-requires : (t : ℕ) → call-lts.Need-siblings-requires (call-claims t) (call-at t) call.Post
-call-siblings-requires t c κs = (sibling-falls _ (c .before .before .before .before .before .before .before .before .before .before .pre .0), tt)
+call-siblings-requires t c κs =
+    let p4 = c .before .before .before .before in
+    let p8 = p4 .before .before .before .before in
+    let p12 = p8 .before .before .before .before in
+    (sibling-falls _ (p12 .pre .0), tt)
 
 call-close-requires : (t : ℕ) → call-lts.Need-close-requires (call-claims t) (call-at t) call.Post
 call-close-requires t c κs = search needs
 
 call-same-length : (t : ℕ) → call-lts.Need-same-length (call-claims t) (call-at t) call.Post
-call-same-length t c = c .before .before .close .kept .1 .1 .0 ∙ c .before .before .before .before .before .before .siblings .kept .1 .1 .1 .0 ∙ c .before .before .before .before .before .before .before .before .before .before .before .before .«open» .kept .1 .1 .0
+call-same-length t c =
+    let p2 = c .before .before in
+    let p6 = p2 .before .before .before .before in
+    let p7 = p6 .before in
+    let p11 = p7 .before .before .before .before in
+    let p14 = p11 .before .before .before in
+    p2 .close .kept .1 .1 .1 .0 ∙ p7 .siblings .kept .1 .1 .1 .1 .0 ∙ p14 .«open» .kept .1 .1 .1 .0
 
 call-returns : (t : ℕ) → call-lts.Need-returns (call-claims t) (call-at t) call.Post
-call-returns t c = λ C v k. call-by-way _ _ _ _ _ _ C v k (c .before .before .before .before .before .before .before .before .before .before .before .before .before .before .way-of .ensures) (c .before .before .before .before .before .before .before .before .arg-count .ensures) (c .before .before .before .before .before .before .before .first-arg .ensures) (c .before .before .before .before .before .before .before .before .before .before .before .before .«open» .ensures .0) (c .before .before .before .before .before .before .before .before .before .before .before .before .«open» .ensures .1) (c .before .before .before .before .before .before .siblings .ensures) (c .before .before .close .ensures)
+call-returns t c =
+    let p2 = c .before .before in
+    let p6 = p2 .before .before .before .before in
+    let p7 = p6 .before in
+    let p8 = p7 .before in
+    let p9 = p8 .before in
+    let p13 = p9 .before .before .before .before in
+    let p14 = p13 .before in
+    let p17 = p14 .before .before .before in
+    λ l table C v k. call-by-way _ _ _ _ _ _ C v k (p17 .way-of .ensures) (p9 .arg-count .ensures) (p8 .first-arg .ensures) (p14 .«open» .ensures l table .0) (p14 .«open» .ensures l table .1) (p7 .siblings .ensures l table) (p2 .close .ensures l table)
 
 chain-flattens-requires : (t : ℕ) → chain-lts.Need-flattens-requires (chain-claims t) (chain-at t) chain.Post
 chain-flattens-requires t c κs = search needs
@@ -271,11 +314,25 @@ chain-flattens-requires t c κs = search needs
 chain-child-requires : (t : ℕ) → chain-lts.Need-child-requires (chain-claims t) (chain-at t) chain.Post
 chain-child-requires t c κs = search needs
 
+chain-element-copy-out-code : (t : ℕ) → chain-lts.Need-element-copy-out-code (chain-claims t) (chain-at t) chain.Post
+chain-element-copy-out-code t c = search needs
+
+chain-element-copy-out-depth : (t : ℕ) → chain-lts.Need-element-copy-out-depth (chain-claims t) (chain-at t) chain.Post
+chain-element-copy-out-depth t c = search needs
+
+chain-element-copy-out-deepest : (t : ℕ) → chain-lts.Need-element-copy-out-deepest (chain-claims t) (chain-at t) chain.Post
+chain-element-copy-out-deepest t c = search needs
+
 chain-root-name-requires : (t : ℕ) → chain-lts.Need-root-name-requires (chain-claims t) (chain-at t) chain.Post
 chain-root-name-requires t c κs = search needs
 
 chain-walk-requires : (t : ℕ) → chain-lts.Need-walk-requires (chain-claims t) (chain-at t) chain.Post
-chain-walk-requires t c κs = (walk-falls _ (c .before .before .before .before .before .before .before .before .before .before .pre .0), tt)
+chain-walk-requires t c κs =
+    let p4 = c .before .before .before .before in
+    let p8 = p4 .before .before .before .before in
+    let p12 = p8 .before .before .before .before in
+    let p15 = p12 .before .before .before in
+    (walk-falls _ (p15 .pre .0), tt)
 
 chain-lowers-requires : (t : ℕ) → chain-lts.Need-lowers-requires (chain-claims t) (chain-at t) chain.Post
 chain-lowers-requires t c κs = search needs
@@ -284,16 +341,43 @@ chain-temporary-requires : (t : ℕ) → chain-lts.Need-temporary-requires (chai
 chain-temporary-requires t c κs = search needs
 
 chain-siblings-requires : (t : ℕ) → chain-lts.Need-siblings-requires (chain-claims t) (chain-at t) chain.Post
-chain-siblings-requires t c κs = (root-falls _ (c .before .before .before .before .before .before .before .before .before .before .before .before .before .before .before .before .before .pre .0), tt)
+chain-siblings-requires t c κs =
+    let p4 = c .before .before .before .before in
+    let p8 = p4 .before .before .before .before in
+    let p12 = p8 .before .before .before .before in
+    let p16 = p12 .before .before .before .before in
+    let p20 = p16 .before .before .before .before in
+    let p23 = p20 .before .before .before in
+    (root-falls _ (p23 .pre .0), tt)
 
 chain-close-chain-requires : (t : ℕ) → chain-lts.Need-close-chain-requires (chain-claims t) (chain-at t) chain.Post
 chain-close-chain-requires t c κs = search needs
 
 chain-same-length : (t : ℕ) → chain-lts.Need-same-length (chain-claims t) (chain-at t) chain.Post
-chain-same-length t c = c .before .before .close-chain .kept .1 .1 .0 ∙ c .before .before .before .before .before .before .siblings .kept .1 .1 .1 .0 ∙ c .before .before .before .before .before .before .before .before .before .before .before .before .before .walk .kept .1 .1 .1 .0 ∙ c .before .before .before .before .before .before .before .before .before .before .before .before .before .before .before .before .before .root-name .kept .1 .1 .0
+chain-same-length t c =
+    let p2 = c .before .before in
+    let p6 = p2 .before .before .before .before in
+    let p7 = p6 .before in
+    let p11 = p7 .before .before .before .before in
+    let p15 = p11 .before .before .before .before in
+    let p19 = p15 .before .before .before .before in
+    let p20 = p19 .before in
+    p2 .close-chain .kept .1 .1 .1 .0 ∙ p7 .siblings .kept .1 .1 .1 .1 .0 ∙ p15 .walk .kept .1 .1 .1 .1 .0 ∙ p20 .root-name .kept .1 .1 .0
 
 chain-returns : (t : ℕ) → chain-lts.Need-returns (chain-claims t) (chain-at t) chain.Post
-chain-returns t c = λ C L. chain-does _ _ _ _ C L (c .before .before .before .before .before .before .before .before .before .before .before .before .before .before .before .before .before .before .before .child .ensures) (c .before .before .before .before .before .before .before .temporary .ensures) (sym (c .before .before .before .before .before .before .before .before .before .before .lowers .ensures) ∙ c .before .before .before .before .before .before .before .before .before .if2 .taken) (c .before .before .before .before .before .before .before .before .before .before .before .before .before .before .before .before .before .root-name .ensures) (c .before .before .before .before .before .before .before .before .before .before .before .before .before .walk .ensures) (c .before .before .before .before .before .before .siblings .ensures) (c .before .before .close-chain .ensures)
+chain-returns t c =
+    let p2 = c .before .before in
+    let p6 = p2 .before .before .before .before in
+    let p7 = p6 .before in
+    let p8 = p7 .before in
+    let p11 = p8 .before .before .before in
+    let p12 = p11 .before in
+    let p15 = p12 .before .before .before in
+    let p19 = p15 .before .before .before .before in
+    let p20 = p19 .before in
+    let p24 = p20 .before .before .before .before in
+    let p26 = p24 .before .before in
+    λ l table C L. chain-does _ _ _ _ C L (p26 .child .ensures) (p8 .temporary .ensures) (sym (p12 .lowers .ensures) ∙ p11 .if2 .taken) (p20 .root-name .ensures l) (p15 .walk .ensures l table) (p7 .siblings .ensures l table) (p2 .close-chain .ensures l table)
 
 chain-take-back-requires : (t : ℕ) → chain-lts.Need-take-back-requires (chain-claims t) (chain-at t) chain.Post
 chain-take-back-requires t c κs = search needs
@@ -302,19 +386,45 @@ chain-residual-requires : (t : ℕ) → chain-lts.Need-residual-requires (chain-
 chain-residual-requires t c κs = search needs
 
 chain-same-length-2 : (t : ℕ) → chain-lts.Need-same-length-2 (chain-claims t) (chain-at t) chain.Post
-chain-same-length-2 t c = c .before .before .residual .kept .1 .0 ∙ c .before .before .before .before .before .before .before .before .before .walk .kept .1 .1 .1 .0 ∙ c .before .before .before .before .before .before .before .before .before .before .before .before .before .root-name .kept .1 .1 .0
+chain-same-length-2 t c =
+    let p2 = c .before .before in
+    let p6 = p2 .before .before .before .before in
+    let p10 = p6 .before .before .before .before in
+    let p11 = p10 .before in
+    let p15 = p11 .before .before .before .before in
+    let p16 = p15 .before in
+    p2 .residual .kept .1 .1 .0 ∙ p11 .walk .kept .1 .1 .1 .1 .0 ∙ p16 .root-name .kept .1 .1 .0
 
 chain-returns-2 : (t : ℕ) → chain-lts.Need-returns-2 (chain-claims t) (chain-at t) chain.Post
-chain-returns-2 t c = λ C L. chain-back _ _ _ C L (c .before .before .before .before .before .before .before .before .before .before .before .before .before .before .before .child .ensures) (sym (c .before .before .before .before .before .before .before .before .before .before .before .before .before .before .before .before .before .flattens .ensures) ∙ c .before .before .before .before .before .before .before .before .before .before .before .before .before .before .before .before .if1 .taken) (sym (c .before .before .before .before .before .before .lowers .ensures) ∙ c .before .before .before .before .before .if2 .left) (c .before .before .before .before .before .before .before .before .before .before .before .before .before .root-name .ensures) (c .before .before .before .before .before .before .before .before .before .walk .ensures) (c .before .before .before .before .take-back .ensures) (c .before .before .residual .ensures _)
+chain-returns-2 t c =
+    let p2 = c .before .before in
+    let p5 = p2 .before .before .before in
+    let p7 = p5 .before .before in
+    let p8 = p7 .before in
+    let p11 = p8 .before .before .before in
+    let p15 = p11 .before .before .before .before in
+    let p16 = p15 .before in
+    let p20 = p16 .before .before .before .before in
+    let p22 = p20 .before .before in
+    let p23 = p22 .before in
+    let p24 = p23 .before in
+    let start = p24 .before .before .before in
+    λ l table C L. chain-back (p11 .walk .last .1 .1 .1 .0) _ _ _ C L (p22 .child .ensures) (sym (p24 .flattens .ensures) ∙ p23 .if1 .taken) (sym (p8 .lowers .ensures) ∙ p7 .if2 .left) (p16 .root-name .ensures l) (p11 .walk .ensures l table) (λ full. p5 .take-back .ensures full (stateOf (start .args .c .now)) refl refl refl) (p2 .residual .ensures l table _)
 
 chain-residual-requires-2 : (t : ℕ) → chain-lts.Need-residual-requires-2 (chain-claims t) (chain-at t) chain.Post
 chain-residual-requires-2 t c κs = search needs
 
 chain-same-length-3 : (t : ℕ) → chain-lts.Need-same-length-3 (chain-claims t) (chain-at t) chain.Post
-chain-same-length-3 t c = c .before .before .residual2 .kept .1 .0
+chain-same-length-3 t c =
+    let p2 = c .before .before in
+    p2 .residual2 .kept .1 .1 .0
 
 chain-returns-3 : (t : ℕ) → chain-lts.Need-returns-3 (chain-claims t) (chain-at t) chain.Post
-chain-returns-3 t c = λ C L. chain-kept _ _ (sym (c .before .before .before .before .before .flattens .ensures) ∙ c .before .before .before .before .if1 .left) (c .before .before .residual2 .ensures _)
+chain-returns-3 t c =
+    let p2 = c .before .before in
+    let p5 = p2 .before .before .before in
+    let p6 = p5 .before in
+    λ l table C L. chain-kept _ _ (sym (p6 .flattens .ensures) ∙ p5 .if1 .left) (p2 .residual2 .ensures l table _)
 
 coalesce-count-requires : (t : ℕ) → coalesce-lts.Need-count-requires (coalesce-claims t) (coalesce-at t) coalesce.Post
 coalesce-count-requires t c κs = search needs
@@ -326,28 +436,56 @@ coalesce-child-requires : (t : ℕ) → coalesce-lts.Need-child-requires (coales
 coalesce-child-requires t c κs = search needs
 
 coalesce-siblings-requires : (t : ℕ) → coalesce-lts.Need-siblings-requires (coalesce-claims t) (coalesce-at t) coalesce.Post
-coalesce-siblings-requires t c κs = (sibling-falls _ (c .before .before .before .before .before .before .pre .0), tt)
+coalesce-siblings-requires t c κs =
+    let p4 = c .before .before .before .before in
+    let p7 = p4 .before .before .before in
+    (sibling-falls _ (p7 .pre .0), tt)
 
 coalesce-skip-requires : (t : ℕ) → coalesce-lts.Need-skip-requires (coalesce-claims t) (coalesce-at t) coalesce.Post
 coalesce-skip-requires t c κs = search needs
 
 coalesce-expression-requires : (t : ℕ) → coalesce-lts.Need-expression-requires (coalesce-claims t) (coalesce-at t) coalesce.Post
-coalesce-expression-requires t c κs = (last-falls _ (c .before .before .before .before .before .before .before .before .before .before .before .pre .0), tt)
+coalesce-expression-requires t c κs =
+    let p4 = c .before .before .before .before in
+    let p8 = p4 .before .before .before .before in
+    let p12 = p8 .before .before .before .before in
+    let p13 = p12 .before in
+    (last-falls _ (p13 .pre .0), tt)
 
 coalesce-same-length : (t : ℕ) → coalesce-lts.Need-same-length (coalesce-claims t) (coalesce-at t) coalesce.Post
-coalesce-same-length t c = c .before .before .expression .kept .1 .1 .1 .0 ∙ c .before .before .before .before .before .before .before .siblings .kept .1 .1 .1 .0
+coalesce-same-length t c =
+    let p2 = c .before .before in
+    let p6 = p2 .before .before .before .before in
+    let p8 = p6 .before .before in
+    p2 .expression .kept .1 .1 .1 .1 .0 ∙ p8 .siblings .kept .1 .1 .1 .1 .0
 
 coalesce-returns : (t : ℕ) → coalesce-lts.Need-returns (coalesce-claims t) (coalesce-at t) coalesce.Post
-coalesce-returns t c = λ C v some. coalesce-does _ _ _ _ _ _ _ C v some (c .before .before .before .before .before .before .before .before .before .before .before .count .ensures) (c .before .before .before .before .before .before .before .before .before .before .one-less .ensures) (c .before .before .before .before .before .before .before .before .before .child .ensures) (c .before .before .before .skip .ensures) (c .before .before .before .before .before .before .before .siblings .ensures) (c .before .before .expression .ensures)
+coalesce-returns t c =
+    let p2 = c .before .before in
+    let p3 = p2 .before in
+    let p7 = p3 .before .before .before .before in
+    let p8 = p7 .before in
+    let p11 = p8 .before .before .before in
+    let p12 = p11 .before in
+    let p13 = p12 .before in
+    λ l table C v some. coalesce-does _ _ _ _ _ _ _ C v some (p13 .count .ensures) (p12 .one-less .ensures) (p11 .child .ensures) (p3 .skip .ensures) (p8 .siblings .ensures l table) (p2 .expression .ensures l table)
 
 expression-residual-requires : (t : ℕ) → expression-lts.Need-residual-requires (expression-claims t) (expression-at t) expression.Post
 expression-residual-requires t c κs = search needs
 
 expression-same-length : (t : ℕ) → expression-lts.Need-same-length (expression-claims t) (expression-at t) expression.Post
-expression-same-length t c = c .before .before .residual .kept .1 .0
+expression-same-length t c =
+    let p2 = c .before .before in
+    p2 .residual .kept .1 .1 .0
 
 expression-returns : (t : ℕ) → expression-lts.Need-returns (expression-claims t) (expression-at t) expression.Post
-expression-returns t c = λ C v. arm-none _ _ (c .before .before .before .before .if1 .taken) (c .before .before .residual .ensures _)
+expression-returns t c =
+    let p2 = c .before .before in
+    let p5 = p2 .before .before .before in
+    λ l table C v. arm-none _ _ (p5 .if1 .taken) (p2 .residual .ensures l table _)
+
+expression-element-copy-out-code : (t : ℕ) → expression-lts.Need-element-copy-out-code (expression-claims t) (expression-at t) expression.Post
+expression-element-copy-out-code t c = search needs
 
 expression-rule-requires : (t : ℕ) → expression-lts.Need-rule-requires (expression-claims t) (expression-at t) expression.Post
 expression-rule-requires t c κs = search needs
@@ -377,19 +515,31 @@ expression-enum-told-4 : (t : ℕ) → expression-lts.Need-enum-told-4 (expressi
 expression-enum-told-4 t c = search needs
 
 expression-sub-interpolated : (t : ℕ) → expression-lts.Need-sub-interpolated (expression-claims t) (expression-at t) expression.Post
-expression-sub-interpolated t c = some-left _ (c .before .before .before .if1 .left)
+expression-sub-interpolated t c =
+    let p4 = c .before .before .before .before in
+    some-left _ (p4 .if1 .left)
 
 expression-interpolated-requires : (t : ℕ) → expression-lts.Need-interpolated-requires (expression-claims t) (expression-at t) expression.Post
-expression-interpolated-requires t c κs = (arm-falls _ (c .before .before .before .before .if1 .left) (c .before .before .before .before .before .before .before .pre .0), tt)
+expression-interpolated-requires t c κs =
+    let p4 = c .before .before .before .before in
+    let p6 = p4 .before .before in
+    let p9 = p6 .before .before .before in
+    (arm-falls _ (p6 .if1 .left) (p9 .pre .0), tt)
 
 expression-enum-told-5 : (t : ℕ) → expression-lts.Need-enum-told-5 (expression-claims t) (expression-at t) expression.Post
 expression-enum-told-5 t c = search needs
 
 expression-sub-array : (t : ℕ) → expression-lts.Need-sub-array (expression-claims t) (expression-at t) expression.Post
-expression-sub-array t c = some-left _ (c .before .before .before .if1 .left)
+expression-sub-array t c =
+    let p4 = c .before .before .before .before in
+    some-left _ (p4 .if1 .left)
 
 expression-array-requires : (t : ℕ) → expression-lts.Need-array-requires (expression-claims t) (expression-at t) expression.Post
-expression-array-requires t c κs = (arm-falls _ (c .before .before .before .before .if1 .left) (c .before .before .before .before .before .before .before .pre .0), tt)
+expression-array-requires t c κs =
+    let p4 = c .before .before .before .before in
+    let p6 = p4 .before .before in
+    let p9 = p6 .before .before .before in
+    (arm-falls _ (p6 .if1 .left) (p9 .pre .0), tt)
 
 expression-enum-told-6 : (t : ℕ) → expression-lts.Need-enum-told-6 (expression-claims t) (expression-at t) expression.Post
 expression-enum-told-6 t c = search needs
@@ -410,55 +560,85 @@ expression-enum-told-8 : (t : ℕ) → expression-lts.Need-enum-told-8 (expressi
 expression-enum-told-8 t c = search needs
 
 expression-sub-call : (t : ℕ) → expression-lts.Need-sub-call (expression-claims t) (expression-at t) expression.Post
-expression-sub-call t c = some-left _ (c .before .before .before .if1 .left)
+expression-sub-call t c =
+    let p4 = c .before .before .before .before in
+    some-left _ (p4 .if1 .left)
 
 expression-call-requires : (t : ℕ) → expression-lts.Need-call-requires (expression-claims t) (expression-at t) expression.Post
-expression-call-requires t c κs = (arm-falls _ (c .before .before .before .before .if1 .left) (c .before .before .before .before .before .before .before .pre .0), tt)
+expression-call-requires t c κs =
+    let p4 = c .before .before .before .before in
+    let p6 = p4 .before .before in
+    let p9 = p6 .before .before .before in
+    (arm-falls _ (p6 .if1 .left) (p9 .pre .0), tt)
 
 expression-enum-told-9 : (t : ℕ) → expression-lts.Need-enum-told-9 (expression-claims t) (expression-at t) expression.Post
 expression-enum-told-9 t c = search needs
 
 expression-sub-chain : (t : ℕ) → expression-lts.Need-sub-chain (expression-claims t) (expression-at t) expression.Post
-expression-sub-chain t c = some-left _ (c .before .before .before .if1 .left)
+expression-sub-chain t c =
+    let p4 = c .before .before .before .before in
+    some-left _ (p4 .if1 .left)
 
 expression-chain-requires : (t : ℕ) → expression-lts.Need-chain-requires (expression-claims t) (expression-at t) expression.Post
-expression-chain-requires t c κs = (chain-falls _ (c .before .before .before .before .if1 .left) (c .before .before .before .before .before .before .before .pre .0), tt)
+expression-chain-requires t c κs =
+    let p4 = c .before .before .before .before in
+    let p6 = p4 .before .before in
+    let p9 = p6 .before .before .before in
+    (chain-falls _ (p6 .if1 .left) (p9 .pre .0), tt)
 
 expression-enum-told-10 : (t : ℕ) → expression-lts.Need-enum-told-10 (expression-claims t) (expression-at t) expression.Post
 expression-enum-told-10 t c = search needs
 
 expression-sub-short-circuit : (t : ℕ) → expression-lts.Need-sub-short-circuit (expression-claims t) (expression-at t) expression.Post
-expression-sub-short-circuit t c = some-left _ (c .before .before .before .if1 .left)
+expression-sub-short-circuit t c =
+    let p4 = c .before .before .before .before in
+    some-left _ (p4 .if1 .left)
 
 expression-end-of-requires : (t : ℕ) → expression-lts.Need-end-of-requires (expression-claims t) (expression-at t) expression.Post
 expression-end-of-requires t c κs = search needs
 
 expression-short-circuit-requires : (t : ℕ) → expression-lts.Need-short-circuit-requires (expression-claims t) (expression-at t) expression.Post
-expression-short-circuit-requires t c κs = (arm-falls _ (c .before .before .before .before .before .if1 .left) (c .before .before .before .before .before .before .before .before .pre .0), lit< tt)
+expression-short-circuit-requires t c κs =
+    let p4 = c .before .before .before .before in
+    let p7 = p4 .before .before .before in
+    let p10 = p7 .before .before .before in
+    (arm-falls _ (p7 .if1 .left) (p10 .pre .0), lit< tt)
 
 expression-enum-told-11 : (t : ℕ) → expression-lts.Need-enum-told-11 (expression-claims t) (expression-at t) expression.Post
 expression-enum-told-11 t c = search needs
 
 expression-sub-short-circuit-2 : (t : ℕ) → expression-lts.Need-sub-short-circuit-2 (expression-claims t) (expression-at t) expression.Post
-expression-sub-short-circuit-2 t c = some-left _ (c .before .before .before .if1 .left)
+expression-sub-short-circuit-2 t c =
+    let p4 = c .before .before .before .before in
+    some-left _ (p4 .if1 .left)
 
 expression-end-of-requires-2 : (t : ℕ) → expression-lts.Need-end-of-requires-2 (expression-claims t) (expression-at t) expression.Post
 expression-end-of-requires-2 t c κs = search needs
 
 expression-short-circuit-requires-2 : (t : ℕ) → expression-lts.Need-short-circuit-requires-2 (expression-claims t) (expression-at t) expression.Post
-expression-short-circuit-requires-2 t c κs = (arm-falls _ (c .before .before .before .before .before .if1 .left) (c .before .before .before .before .before .before .before .before .pre .0), lit< tt)
+expression-short-circuit-requires-2 t c κs =
+    let p4 = c .before .before .before .before in
+    let p7 = p4 .before .before .before in
+    let p10 = p7 .before .before .before in
+    (arm-falls _ (p7 .if1 .left) (p10 .pre .0), lit< tt)
 
 expression-enum-told-12 : (t : ℕ) → expression-lts.Need-enum-told-12 (expression-claims t) (expression-at t) expression.Post
 expression-enum-told-12 t c = search needs
 
 expression-sub-coalesce : (t : ℕ) → expression-lts.Need-sub-coalesce (expression-claims t) (expression-at t) expression.Post
-expression-sub-coalesce t c = some-left _ (c .before .before .before .if1 .left)
+expression-sub-coalesce t c =
+    let p4 = c .before .before .before .before in
+    some-left _ (p4 .if1 .left)
 
 expression-end-of-requires-3 : (t : ℕ) → expression-lts.Need-end-of-requires-3 (expression-claims t) (expression-at t) expression.Post
 expression-end-of-requires-3 t c κs = search needs
 
 expression-coalesce-requires : (t : ℕ) → expression-lts.Need-coalesce-requires (expression-claims t) (expression-at t) expression.Post
-expression-coalesce-requires t c κs = (arm-falls _ (c .before .before .before .before .before .if1 .left) (c .before .before .before .before .before .before .before .before .pre .0), tt)
+expression-coalesce-requires t c κs =
+    let p4 = c .before .before .before .before in
+    let p7 = p4 .before .before .before in
+    let p10 = p7 .before .before .before in
+    (arm-falls _ (p7 .if1 .left) (p10 .pre .0), tt)
 
 expression-enum-told-13 : (t : ℕ) → expression-lts.Need-enum-told-13 (expression-claims t) (expression-at t) expression.Post
 expression-enum-told-13 t c = search needs
@@ -467,82 +647,178 @@ expression-residual-requires-2 : (t : ℕ) → expression-lts.Need-residual-requ
 expression-residual-requires-2 t c κs = search needs
 
 expression-same-length-2 : (t : ℕ) → expression-lts.Need-same-length-2 (expression-claims t) (expression-at t) expression.Post
-expression-same-length-2 t c = c .before .before .emit .kept .1 .0
+expression-same-length-2 t c =
+    let p2 = c .before .before in
+    p2 .emit .kept .1 .1 .0
 
 expression-returns-2 : (t : ℕ) → expression-lts.Need-returns-2 (expression-claims t) (expression-at t) expression.Post
-expression-returns-2 t c = λ C v. arm-boolean _ _ (c .before .before .before .before .before .before .before .before .if1 .left) _ (c .before .before .before .before .before .before .before .rule .ensures) _ (c .before .before .before .before .before .enum-told .given .1) (c .before .before .before .field-a .ensures) (c .before .before .emit .ensures _ tt)
+expression-returns-2 t c =
+    let p2 = c .before .before in
+    let p3 = p2 .before in
+    let p6 = p3 .before .before .before in
+    let p8 = p6 .before .before in
+    let p10 = p8 .before .before in
+    λ l table C v. arm-boolean _ _ (p10 .if1 .left) _ (p8 .rule .ensures) _ (p6 .enum-told .given .1) (p3 .field-a .ensures) (p2 .emit .ensures l table _ tt)
 
 expression-same-length-3 : (t : ℕ) → expression-lts.Need-same-length-3 (expression-claims t) (expression-at t) expression.Post
-expression-same-length-3 t c = c .before .before .emit2 .kept .1 .0
+expression-same-length-3 t c =
+    let p2 = c .before .before in
+    p2 .emit2 .kept .1 .1 .0
 
 expression-returns-3 : (t : ℕ) → expression-lts.Need-returns-3 (expression-claims t) (expression-at t) expression.Post
-expression-returns-3 t c = λ C v. arm-unit _ _ (c .before .before .before .before .before .before .before .if1 .left) _ (c .before .before .before .before .before .before .rule .ensures) (c .before .before .before .before .enum-told2 .given .1) (c .before .before .emit2 .ensures _ tt)
+expression-returns-3 t c =
+    let p2 = c .before .before in
+    let p5 = p2 .before .before .before in
+    let p7 = p5 .before .before in
+    let p9 = p7 .before .before in
+    λ l table C v. arm-unit _ _ (p9 .if1 .left) _ (p7 .rule .ensures) (p5 .enum-told2 .given .1) (p2 .emit2 .ensures l table _ tt)
 
 expression-same-length-4 : (t : ℕ) → expression-lts.Need-same-length-4 (expression-claims t) (expression-at t) expression.Post
-expression-same-length-4 t c = c .before .before .constant .kept .1 .1 .0
+expression-same-length-4 t c =
+    let p2 = c .before .before in
+    p2 .constant .kept .1 .1 .1 .0
 
 expression-returns-4 : (t : ℕ) → expression-lts.Need-returns-4 (expression-claims t) (expression-at t) expression.Post
-expression-returns-4 t c = λ C v. arm-constant _ _ (c .before .before .before .before .before .before .before .if1 .left) _ (c .before .before .before .before .before .before .rule .ensures) (c .before .before .before .before .enum-told3 .given .1) (c .before .before .constant .ensures v)
+expression-returns-4 t c =
+    let p2 = c .before .before in
+    let p5 = p2 .before .before .before in
+    let p7 = p5 .before .before in
+    let p9 = p7 .before .before in
+    λ l table C v. arm-constant _ _ (p9 .if1 .left) _ (p7 .rule .ensures) v (p5 .enum-told3 .given .1) (p2 .constant .ensures l table)
 
 expression-same-length-5 : (t : ℕ) → expression-lts.Need-same-length-5 (expression-claims t) (expression-at t) expression.Post
-expression-same-length-5 t c = c .before .before .interpolated .kept .1 .1 .1 .0
+expression-same-length-5 t c =
+    let p2 = c .before .before in
+    p2 .interpolated .kept .1 .1 .1 .1 .0
 
 expression-returns-5 : (t : ℕ) → expression-lts.Need-returns-5 (expression-claims t) (expression-at t) expression.Post
-expression-returns-5 t c = λ C v. arm-interpolated _ _ (c .before .before .before .before .before .before .before .if1 .left) _ (c .before .before .before .before .before .before .rule .ensures) (c .before .before .before .before .enum-told4 .given .1) (c .before .before .interpolated .ensures C v)
+expression-returns-5 t c =
+    let p2 = c .before .before in
+    let p5 = p2 .before .before .before in
+    let p7 = p5 .before .before in
+    let p9 = p7 .before .before in
+    λ l table C v. arm-interpolated _ _ (p9 .if1 .left) _ (p7 .rule .ensures) (p5 .enum-told4 .given .1) (p2 .interpolated .ensures l table C v)
 
 expression-same-length-6 : (t : ℕ) → expression-lts.Need-same-length-6 (expression-claims t) (expression-at t) expression.Post
-expression-same-length-6 t c = c .before .before .array .kept .1 .1 .1 .0
+expression-same-length-6 t c =
+    let p2 = c .before .before in
+    p2 .array .kept .1 .1 .1 .1 .0
 
 expression-returns-6 : (t : ℕ) → expression-lts.Need-returns-6 (expression-claims t) (expression-at t) expression.Post
-expression-returns-6 t c = λ C v. arm-array _ _ (c .before .before .before .before .before .before .before .if1 .left) _ (c .before .before .before .before .before .before .rule .ensures) (c .before .before .before .before .enum-told5 .given .1) (c .before .before .array .ensures C v)
+expression-returns-6 t c =
+    let p2 = c .before .before in
+    let p5 = p2 .before .before .before in
+    let p7 = p5 .before .before in
+    let p9 = p7 .before .before in
+    λ l table C v. arm-array _ _ (p9 .if1 .left) _ (p7 .rule .ensures) (p5 .enum-told5 .given .1) (p2 .array .ensures l table C v)
 
 expression-same-length-7 : (t : ℕ) → expression-lts.Need-same-length-7 (expression-claims t) (expression-at t) expression.Post
-expression-same-length-7 t c = c .before .before .variable .kept .1 .1 .0
+expression-same-length-7 t c =
+    let p2 = c .before .before in
+    p2 .variable .kept .1 .1 .1 .0
 
 expression-returns-7 : (t : ℕ) → expression-lts.Need-returns-7 (expression-claims t) (expression-at t) expression.Post
-expression-returns-7 t c = λ C v. arm-variable _ _ (c .before .before .before .before .before .before .before .if1 .left) _ (c .before .before .before .before .before .before .rule .ensures) (c .before .before .before .before .enum-told6 .given .1) (λ p. c .before .before .variable .ensures p v)
+expression-returns-7 t c =
+    let p2 = c .before .before in
+    let p5 = p2 .before .before .before in
+    let p7 = p5 .before .before in
+    let p9 = p7 .before .before in
+    λ l table C v. arm-variable _ _ (p9 .if1 .left) _ (p7 .rule .ensures) v (p5 .enum-told6 .given .1) (p2 .variable .ensures l table)
 
 expression-same-length-8 : (t : ℕ) → expression-lts.Need-same-length-8 (expression-claims t) (expression-at t) expression.Post
-expression-same-length-8 t c = c .before .before .emit3 .kept .1 .0
+expression-same-length-8 t c =
+    let p2 = c .before .before in
+    p2 .emit3 .kept .1 .1 .0
 
 expression-returns-8 : (t : ℕ) → expression-lts.Need-returns-8 (expression-claims t) (expression-at t) expression.Post
-expression-returns-8 t c = λ C v. arm-this _ _ (c .before .before .before .before .before .before .before .before .if1 .left) _ (c .before .before .before .before .before .before .before .rule .ensures) _ (c .before .before .before .before .before .enum-told7 .given .1) (c .before .before .before .position .ensures) (c .before .before .emit3 .ensures _ tt)
+expression-returns-8 t c =
+    let p2 = c .before .before in
+    let p3 = p2 .before in
+    let p6 = p3 .before .before .before in
+    let p8 = p6 .before .before in
+    let p10 = p8 .before .before in
+    λ l table C v. arm-this _ _ (p10 .if1 .left) _ (p8 .rule .ensures) _ (p6 .enum-told7 .given .1) (p3 .position .ensures) (p2 .emit3 .ensures l table _ tt)
 
 expression-same-length-9 : (t : ℕ) → expression-lts.Need-same-length-9 (expression-claims t) (expression-at t) expression.Post
-expression-same-length-9 t c = c .before .before .call .kept .1 .1 .1 .0
+expression-same-length-9 t c =
+    let p2 = c .before .before in
+    p2 .call .kept .1 .1 .1 .1 .0
 
 expression-returns-9 : (t : ℕ) → expression-lts.Need-returns-9 (expression-claims t) (expression-at t) expression.Post
-expression-returns-9 t c = λ C v. arm-call _ _ (c .before .before .before .before .before .before .before .if1 .left) _ (c .before .before .before .before .before .before .rule .ensures) (c .before .before .before .before .enum-told8 .given .1) (c .before .before .call .ensures C v)
+expression-returns-9 t c =
+    let p2 = c .before .before in
+    let p5 = p2 .before .before .before in
+    let p7 = p5 .before .before in
+    let p9 = p7 .before .before in
+    λ l table C v. arm-call _ _ (p9 .if1 .left) _ (p7 .rule .ensures) (p5 .enum-told8 .given .1) (p2 .call .ensures l table C v)
 
 expression-same-length-10 : (t : ℕ) → expression-lts.Need-same-length-10 (expression-claims t) (expression-at t) expression.Post
-expression-same-length-10 t c = c .before .before .chain .kept .1 .1 .1 .0
+expression-same-length-10 t c =
+    let p2 = c .before .before in
+    p2 .chain .kept .1 .1 .1 .1 .0
 
 expression-returns-10 : (t : ℕ) → expression-lts.Need-returns-10 (expression-claims t) (expression-at t) expression.Post
-expression-returns-10 t c = λ C v. arm-chain _ _ (c .before .before .before .before .before .before .before .if1 .left) _ (c .before .before .before .before .before .before .rule .ensures) C v (c .before .before .before .before .enum-told9 .given .1) (c .before .before .chain .ensures C)
+expression-returns-10 t c =
+    let p2 = c .before .before in
+    let p5 = p2 .before .before .before in
+    let p7 = p5 .before .before in
+    let p9 = p7 .before .before in
+    λ l table C v. arm-chain _ _ (p9 .if1 .left) _ (p7 .rule .ensures) C v (p5 .enum-told9 .given .1) (p2 .chain .ensures l table C)
 
 expression-same-length-11 : (t : ℕ) → expression-lts.Need-same-length-11 (expression-claims t) (expression-at t) expression.Post
-expression-same-length-11 t c = c .before .before .short-circuit .kept .1 .1 .1 .0
+expression-same-length-11 t c =
+    let p2 = c .before .before in
+    p2 .short-circuit .kept .1 .1 .1 .1 .0
 
 expression-returns-11 : (t : ℕ) → expression-lts.Need-returns-11 (expression-claims t) (expression-at t) expression.Post
-expression-returns-11 t c = λ C v. arm-and _ _ (c .before .before .before .before .before .before .before .before .if1 .left) _ (c .before .before .before .before .before .before .before .rule .ensures) _ (λ a h f. c .before .before .before .end-of .ensures ∙ end-right _ _ h f) (c .before .before .before .before .before .enum-told10 .given .1) (c .before .before .short-circuit .ensures C v)
+expression-returns-11 t c =
+    let p2 = c .before .before in
+    let p3 = p2 .before in
+    let p6 = p3 .before .before .before in
+    let p8 = p6 .before .before in
+    let p10 = p8 .before .before in
+    λ l table C v. arm-and _ _ (p10 .if1 .left) _ (p8 .rule .ensures) _ (λ a h f. p3 .end-of .ensures ∙ end-right _ _ h f) (p6 .enum-told10 .given .1) (p2 .short-circuit .ensures l table C v)
 
 expression-same-length-12 : (t : ℕ) → expression-lts.Need-same-length-12 (expression-claims t) (expression-at t) expression.Post
-expression-same-length-12 t c = c .before .before .short-circuit2 .kept .1 .1 .1 .0
+expression-same-length-12 t c =
+    let p2 = c .before .before in
+    p2 .short-circuit2 .kept .1 .1 .1 .1 .0
 
 expression-returns-12 : (t : ℕ) → expression-lts.Need-returns-12 (expression-claims t) (expression-at t) expression.Post
-expression-returns-12 t c = λ C v. arm-or _ _ (c .before .before .before .before .before .before .before .before .if1 .left) _ (c .before .before .before .before .before .before .before .rule .ensures) _ (λ a h f. c .before .before .before .end-of2 .ensures ∙ end-right _ _ h f) (c .before .before .before .before .before .enum-told11 .given .1) (c .before .before .short-circuit2 .ensures C v)
+expression-returns-12 t c =
+    let p2 = c .before .before in
+    let p3 = p2 .before in
+    let p6 = p3 .before .before .before in
+    let p8 = p6 .before .before in
+    let p10 = p8 .before .before in
+    λ l table C v. arm-or _ _ (p10 .if1 .left) _ (p8 .rule .ensures) _ (λ a h f. p3 .end-of2 .ensures ∙ end-right _ _ h f) (p6 .enum-told11 .given .1) (p2 .short-circuit2 .ensures l table C v)
 
 expression-same-length-13 : (t : ℕ) → expression-lts.Need-same-length-13 (expression-claims t) (expression-at t) expression.Post
-expression-same-length-13 t c = c .before .before .coalesce .kept .1 .1 .1 .0
+expression-same-length-13 t c =
+    let p2 = c .before .before in
+    p2 .coalesce .kept .1 .1 .1 .1 .0
 
 expression-returns-13 : (t : ℕ) → expression-lts.Need-returns-13 (expression-claims t) (expression-at t) expression.Post
-expression-returns-13 t c = λ C v. arm-coalesce _ _ (c .before .before .before .before .before .before .before .before .if1 .left) _ (c .before .before .before .before .before .before .before .rule .ensures) _ (λ a h f. c .before .before .before .end-of3 .ensures ∙ end-right _ _ h f) C v (c .before .before .before .before .before .enum-told12 .given .1) (c .before .before .coalesce .ensures C v)
+expression-returns-13 t c =
+    let p2 = c .before .before in
+    let p3 = p2 .before in
+    let p6 = p3 .before .before .before in
+    let p8 = p6 .before .before in
+    let p10 = p8 .before .before in
+    λ l table C v. arm-coalesce _ _ (p10 .if1 .left) _ (p8 .rule .ensures) _ (λ a h f. p3 .end-of3 .ensures ∙ end-right _ _ h f) C v (p6 .enum-told12 .given .1) (p2 .coalesce .ensures l table C v)
 
 expression-same-length-14 : (t : ℕ) → expression-lts.Need-same-length-14 (expression-claims t) (expression-at t) expression.Post
-expression-same-length-14 t c = c .before .before .residual2 .kept .1 .0
+expression-same-length-14 t c =
+    let p2 = c .before .before in
+    p2 .residual2 .kept .1 .1 .0
 
 expression-returns-14 : (t : ℕ) → expression-lts.Need-returns-14 (expression-claims t) (expression-at t) expression.Post
-expression-returns-14 t c = λ C v. arm-residual _ _ (c .before .before .before .before .before .before .before .if1 .left) _ (c .before .before .before .before .before .before .rule .ensures) (c .before .before .before .before .enum-told13 .given .1) (c .before .before .residual2 .ensures _)
+expression-returns-14 t c =
+    let p2 = c .before .before in
+    let p5 = p2 .before .before .before in
+    let p7 = p5 .before .before in
+    let p9 = p7 .before .before in
+    λ l table C v. arm-residual _ _ (p9 .if1 .left) _ (p7 .rule .ensures) (p5 .enum-told13 .given .1) (p2 .residual2 .ensures l table _)
 
 interpolated-emit-requires : (t : ℕ) → interpolated-lts.Need-emit-requires (interpolated-claims t) (interpolated-at t) interpolated.Post
 interpolated-emit-requires t c κs = search needs
@@ -554,19 +830,40 @@ interpolated-child-requires : (t : ℕ) → interpolated-lts.Need-child-requires
 interpolated-child-requires t c κs = search needs
 
 interpolated-siblings-requires : (t : ℕ) → interpolated-lts.Need-siblings-requires (interpolated-claims t) (interpolated-at t) interpolated.Post
-interpolated-siblings-requires t c κs = (sibling-falls _ (c .before .before .before .before .before .before .before .before .before .pre .0), tt)
+interpolated-siblings-requires t c κs =
+    let p4 = c .before .before .before .before in
+    let p8 = p4 .before .before .before .before in
+    let p11 = p8 .before .before .before in
+    (sibling-falls _ (p11 .pre .0), tt)
 
 interpolated-emit-requires-2 : (t : ℕ) → interpolated-lts.Need-emit-requires-2 (interpolated-claims t) (interpolated-at t) interpolated.Post
 interpolated-emit-requires-2 t c κs = search needs
 
 interpolated-same-length : (t : ℕ) → interpolated-lts.Need-same-length (interpolated-claims t) (interpolated-at t) interpolated.Post
-interpolated-same-length t c = c .before .before .emit2 .kept .1 .0 ∙ c .before .before .before .before .before .before .siblings .kept .1 .1 .1 .0 ∙ c .before .before .before .before .before .before .before .before .before .before .before .before .emit .kept .1 .0
+interpolated-same-length t c =
+    let p2 = c .before .before in
+    let p6 = p2 .before .before .before .before in
+    let p7 = p6 .before in
+    let p11 = p7 .before .before .before .before in
+    let p14 = p11 .before .before .before in
+    p2 .emit2 .kept .1 .1 .0 ∙ p7 .siblings .kept .1 .1 .1 .1 .0 ∙ p14 .emit .kept .1 .1 .0
 
 interpolated-returns : (t : ℕ) → interpolated-lts.Need-returns (interpolated-claims t) (interpolated-at t) interpolated.Post
-interpolated-returns t c = λ C v. interpolated-does _ _ _ _ C v (c .before .before .before .before .before .before .before .before .count .ensures) (c .before .before .before .before .before .before .before .child .ensures) (c .before .before .before .before .before .before .before .before .before .before .before .before .emit .ensures _ tt) (c .before .before .before .before .before .before .siblings .ensures) (c .before .before .emit2 .ensures _ tt)
+interpolated-returns t c =
+    let p2 = c .before .before in
+    let p6 = p2 .before .before .before .before in
+    let p7 = p6 .before in
+    let p8 = p7 .before in
+    let p9 = p8 .before in
+    let p13 = p9 .before .before .before .before in
+    let p14 = p13 .before in
+    λ l table C v. interpolated-does _ _ _ _ C v (p9 .count .ensures) (p8 .child .ensures) (p14 .emit .ensures l table _ tt) (p7 .siblings .ensures l table) (p2 .emit2 .ensures l table _ tt)
 
 short-circuit-one-less-requires : (t : ℕ) → short-circuit-lts.Need-one-less-requires (short-circuit-claims t) (short-circuit-at t) short-circuit.Post
 short-circuit-one-less-requires t c κs = search needs
+
+short-circuit-element-copy-out-d : (t : ℕ) → short-circuit-lts.Need-element-copy-out-d (short-circuit-claims t) (short-circuit-at t) short-circuit.Post
+short-circuit-element-copy-out-d t c = search needs
 
 short-circuit-count-requires : (t : ℕ) → short-circuit-lts.Need-count-requires (short-circuit-claims t) (short-circuit-at t) short-circuit.Post
 short-circuit-count-requires t c κs = search needs
@@ -575,28 +872,53 @@ short-circuit-child-requires : (t : ℕ) → short-circuit-lts.Need-child-requir
 short-circuit-child-requires t c κs = search needs
 
 short-circuit-siblings-requires : (t : ℕ) → short-circuit-lts.Need-siblings-requires (short-circuit-claims t) (short-circuit-at t) short-circuit.Post
-short-circuit-siblings-requires t c κs = (sibling-falls _ (c .before .before .before .before .before .before .pre .0), tt)
+short-circuit-siblings-requires t c κs =
+    let p4 = c .before .before .before .before in
+    let p8 = p4 .before .before .before .before in
+    (sibling-falls _ (p8 .pre .0), tt)
 
 short-circuit-verdict-requires : (t : ℕ) → short-circuit-lts.Need-verdict-requires (short-circuit-claims t) (short-circuit-at t) short-circuit.Post
-short-circuit-verdict-requires t c κs = c .before .before .before .before .before .before .before .before .before .before .pre .1
+short-circuit-verdict-requires t c κs =
+    let p4 = c .before .before .before .before in
+    let p8 = p4 .before .before .before .before in
+    let p12 = p8 .before .before .before .before in
+    let p13 = p12 .before in
+    p13 .pre .1
 
 short-circuit-same-length : (t : ℕ) → short-circuit-lts.Need-same-length (short-circuit-claims t) (short-circuit-at t) short-circuit.Post
-short-circuit-same-length t c = c .before .before .verdict .kept .1 .0 ∙ c .before .before .before .before .before .before .siblings .kept .1 .1 .1 .0
+short-circuit-same-length t c =
+    let p2 = c .before .before in
+    let p6 = p2 .before .before .before .before in
+    let p7 = p6 .before in
+    p2 .verdict .kept .1 .1 .0 ∙ p7 .siblings .kept .1 .1 .1 .1 .0
 
 short-circuit-returns : (t : ℕ) → short-circuit-lts.Need-returns (short-circuit-claims t) (short-circuit-at t) short-circuit.Post
-short-circuit-returns t c = λ C v. short-does _ _ _ _ _ _ _ C v (c .before .before .before .before .before .before .before .before .before .before .one-less .ensures) (c .before .before .before .before .before .before .before .before .count .ensures) (c .before .before .before .before .before .before .before .child .ensures) (c .before .before .before .before .before .before .siblings .ensures) (c .before .before .verdict .ensures _)
+short-circuit-returns t c =
+    let p2 = c .before .before in
+    let p6 = p2 .before .before .before .before in
+    let p7 = p6 .before in
+    let p8 = p7 .before in
+    let p9 = p8 .before in
+    let p13 = p9 .before .before .before .before in
+    λ l table C v. short-does _ _ _ _ _ _ _ C v (p13 .one-less .ensures) (p9 .count .ensures) (p8 .child .ensures) (p7 .siblings .ensures l table) (p2 .verdict .ensures l table _)
 
 abbrev siblings-Inv-loop : siblings-lts.InvT-loop
-siblings-Inv-loop levels s l x₀ by n from q₀ i₀ j₀ x q i j = (i ≤ n) × (length x ≡ length x₀) × (j ≡ skip s i from) × (Right s → Row s n from → Does s l x₀ q₀ x q (rows s (lowered levels s) by i from))
+siblings-Inv-loop levels s t c₀ x₀ by n from i₀ j₀ c x i j =
+    (i ≤ n) × (length x ≡ length x₀) × (j ≡ skip s i from)
+    × ((l : Layout) → t ≡ effectTable → Right s → Row s n from
+    → Does s l x₀ (stateOf c₀) x (stateOf c) (rows s (lowered levels s) by i from))
 
 abbrev siblings-μ-loop : siblings-lts.MeasureT-loop
-siblings-μ-loop levels s l x₀ by n from q₀ i₀ j₀ x q i j = n - i
+siblings-μ-loop levels s t c₀ x₀ by n from i₀ j₀ c x i j = n - i
 
 siblings-loop-holds : (t : ℕ) → siblings-lts.Need-loop-holds (siblings-claims t) (siblings-at t) siblings.Post siblings-Inv-loop siblings-μ-loop
-siblings-loop-holds t c = (omega arith, refl, skip-first _ _, λ C R. rows-start _ _ 0 _ _ _)
+siblings-loop-holds t c = (omega arith, refl, skip-first _ _, λ l table C R. rows-start _ _ 0 _ _ _)
 
 siblings-expression-requires : (t : ℕ) → siblings-lts.Need-expression-requires (siblings-claims t) (siblings-at t) siblings.Post siblings-Inv-loop siblings-μ-loop
-siblings-expression-requires t c κs = (one-falls _ (c .before .before .before .before .before .pre .0), tt)
+siblings-expression-requires t c κs =
+    let p4 = c .before .before .before .before in
+    let p6 = p4 .before .before in
+    (one-falls _ (p6 .pre .0), tt)
 
 siblings-position-requires : (t : ℕ) → siblings-lts.Need-position-requires (siblings-claims t) (siblings-at t) siblings.Post siblings-Inv-loop siblings-μ-loop
 siblings-position-requires t c κs = search needs
@@ -614,22 +936,35 @@ siblings-loop-less : (t : ℕ) → siblings-lts.Need-loop-less (siblings-claims 
 siblings-loop-less t c = omega arith
 
 siblings-loop-again : (t : ℕ) → siblings-lts.Need-loop-again (siblings-claims t) (siblings-at t) siblings.Post siblings-Inv-loop siblings-μ-loop
-siblings-loop-again t c = let w = c .before .before .before .before .before .before .before .before .before .before .before .loop in (omega arith, c .before .before .before .after-one .kept .1 .0 ∙ c .before .before .before .before .before .before .before .before .expression .kept .1 .1 .1 .0 ∙ w .inv .1, skip-more _ _ _ _ _ (w .inv .2) (c .next .ensures), λ C R. rows-more _ _ _ _ _ _ _ (c .before .before .before .before .before .before .before .before .before .before .loop-test .taken) (w .inv .2) (c .before .before .before .before .position .ensures) R (w .inv .3 C R) (λ u. c .before .before .before .before .before .before .before .before .expression .ensures C u) (c .before .before .before .after-one .ensures _))
+siblings-loop-again t c =
+    let p3 = c .before .before .before in
+    let p4 = p3 .before in
+    let p8 = p4 .before .before .before .before in
+    let p9 = p8 .before in
+    let p12 = p9 .before .before .before in
+    let p13 = p12 .before in
+    (omega arith, p3 .after-one .kept .1 .1 .0 ∙ p9 .expression .kept .1 .1 .1 .1 .0 ∙ p13 .loop .inv .1, skip-more _ _ _ _ _ (p13 .loop .inv .2) (c .next .ensures), λ l table C R. rows-more _ _ _ _ _ _ _ (p12 .loop-test .taken) (p13 .loop .inv .2) (p4 .position .ensures) R (p13 .loop .inv .3 l table C R) (λ u. p9 .expression .ensures l table C u) (p3 .after-one .ensures l table _))
 
 siblings-same-length : (t : ℕ) → siblings-lts.Need-same-length (siblings-claims t) (siblings-at t) siblings.Post siblings-Inv-loop siblings-μ-loop
-siblings-same-length t c = c .before .loop .inv .1
+siblings-same-length t c =
+    let p1 = c .before in
+    p1 .loop .inv .1
 
 siblings-returns : (t : ℕ) → siblings-lts.Need-returns (siblings-claims t) (siblings-at t) siblings.Post siblings-Inv-loop siblings-μ-loop
-siblings-returns t c = let w = c .before .loop in λ C R. rows-done _ _ _ _ _ (w .inv .0) (c .loop-test .left) (w .inv .3 C R)
+siblings-returns t c =
+    let p1 = c .before in
+    λ l table C R. rows-done _ _ _ _ _ (p1 .loop .inv .0) (c .loop-test .left) (p1 .loop .inv .3 l table C R)
 
 abbrev walk-Inv-loop : walk-lts.InvT-loop
-walk-Inv-loop levels s l x₀ j q₀ left₀ c₀ x q left c = (left ≤ maxDepth) × (length x ≡ length x₀) × (Right s → chain-nodes.Link s j → Walking s l levels x₀ q₀ j x q left c)
+walk-Inv-loop levels s t c₀ x₀ j left₀ at₀ c x left at =
+    (left ≤ maxDepth) × (length x ≡ length x₀)
+    × ((l : Layout) → t ≡ effectTable → Right s → Linked s j → Walking s l levels x₀ (stateOf c₀) j x (stateOf c) left at)
 
 abbrev walk-μ-loop : walk-lts.MeasureT-loop
-walk-μ-loop levels s l x₀ j q₀ left₀ c₀ x q left c = left
+walk-μ-loop levels s t c₀ x₀ j left₀ at₀ c x left at = left
 
 walk-loop-holds : (t : ℕ) → walk-lts.Need-loop-holds (walk-claims t) (walk-at t) walk.Post walk-Inv-loop walk-μ-loop
-walk-loop-holds t c = (omega arith, refl, λ C L. walk-starts _ _ _ _ L)
+walk-loop-holds t c = (omega arith, refl, λ l table C L. walk-starts _ _ _ _ L)
 
 walk-link-of-requires : (t : ℕ) → walk-lts.Need-link-of-requires (walk-claims t) (walk-at t) walk.Post walk-Inv-loop walk-μ-loop
 walk-link-of-requires t c κs = search needs
@@ -638,7 +973,11 @@ walk-enum-known-k : (t : ℕ) → walk-lts.Need-enum-known-k (walk-claims t) (wa
 walk-enum-known-k t c = search needs
 
 walk-siblings-requires : (t : ℕ) → walk-lts.Need-siblings-requires (walk-claims t) (walk-at t) walk.Post walk-Inv-loop walk-μ-loop
-walk-siblings-requires t c κs = (sibling-falls _ (c .before .before .before .before .before .before .before .before .before .pre .0), tt)
+walk-siblings-requires t c κs =
+    let p4 = c .before .before .before .before in
+    let p8 = p4 .before .before .before .before in
+    let p10 = p8 .before .before in
+    (sibling-falls _ (p10 .pre .0), tt)
 
 walk-step-names-requires : (t : ℕ) → walk-lts.Need-step-names-requires (walk-claims t) (walk-at t) walk.Post walk-Inv-loop walk-μ-loop
 walk-step-names-requires t c κs = search needs
@@ -656,37 +995,78 @@ walk-loop-less : (t : ℕ) → walk-lts.Need-loop-less (walk-claims t) (walk-at 
 walk-loop-less t c = omega arith
 
 walk-loop-again : (t : ℕ) → walk-lts.Need-loop-again (walk-claims t) (walk-at t) walk.Post walk-Inv-loop walk-μ-loop
-walk-loop-again t c = let w = c .before .before .before .before .before .before .before .before .before .before .before .before .before .before .before .before .loop in (omega arith, c .before .before .before .before .before .step-names .kept .1 .1 .0 ∙ c .before .before .before .before .before .before .before .before .before .siblings .kept .1 .1 .1 .0 ∙ w .inv .1, λ C L. walk-on _ _ _ _ _ _ C (w .inv .2 C L) (sym (c .before .before .before .before .before .before .before .before .before .before .before .before .before .before .link-of .ensures) ∙ c .before .before .before .before .before .before .before .before .before .before .before .before .k .given .1) (c .before .before .before .before .before .before .before .before .before .siblings .ensures) (c .before .before .before .before .before .step-names .ensures) _ (c .rest-of .ensures) (c .before .before .before .before .before .before .before .before .before .before .before .before .before .before .before .loop-test .taken) (sym (c .before .before .goes-on .ensures) ∙ c .before .if1 .taken))
+walk-loop-again t c =
+    let p1 = c .before in
+    let p2 = p1 .before in
+    let p5 = p2 .before .before .before in
+    let p9 = p5 .before .before .before .before in
+    let p10 = p9 .before in
+    let p14 = p10 .before .before .before .before in
+    let p16 = p14 .before .before in
+    let p17 = p16 .before in
+    let p18 = p17 .before in
+    (omega arith, p5 .step-names .kept .1 .1 .0 ∙ p10 .siblings .kept .1 .1 .1 .1 .0 ∙ p18 .loop .inv .1, λ l table C L. walk-on _ _ _ _ _ _ C (p18 .loop .inv .2 l table C L) (sym (p16 .link-of .ensures) ∙ p14 .k .given .1) (p10 .siblings .ensures l table) (p5 .step-names .ensures l) _ (c .rest-of .ensures) (p17 .loop-test .taken) (sym (p2 .goes-on .ensures) ∙ p1 .if1 .taken))
 
 walk-same-length : (t : ℕ) → walk-lts.Need-same-length (walk-claims t) (walk-at t) walk.Post walk-Inv-loop walk-μ-loop
-walk-same-length t c = let w = c .before .before .before .before .before .before .before .before .before .before .before .before .before .before .before .loop in c .before .before .before .before .step-names .kept .1 .1 .0 ∙ c .before .before .before .before .before .before .before .before .siblings .kept .1 .1 .1 .0 ∙ w .inv .1
+walk-same-length t c =
+    let p4 = c .before .before .before .before in
+    let p8 = p4 .before .before .before .before in
+    let p9 = p8 .before in
+    let p13 = p9 .before .before .before .before in
+    let p17 = p13 .before .before .before .before in
+    p4 .step-names .kept .1 .1 .0 ∙ p9 .siblings .kept .1 .1 .1 .1 .0 ∙ p17 .loop .inv .1
 
 walk-returns : (t : ℕ) → walk-lts.Need-returns (walk-claims t) (walk-at t) walk.Post walk-Inv-loop walk-μ-loop
-walk-returns t c = let w = c .before .before .before .before .before .before .before .before .before .before .before .before .before .before .before .loop in λ C L. walk-ends _ _ _ _ _ _ C (w .inv .2 C L) (sym (c .before .before .before .before .before .before .before .before .before .before .before .before .before .link-of .ensures) ∙ c .before .before .before .before .before .before .before .before .before .before .before .k .given .1) (c .before .before .before .before .before .before .before .before .siblings .ensures) (c .before .before .before .before .step-names .ensures) (c .before .before .before .before .before .before .before .before .before .before .before .before .before .before .loop-test .taken) (sym (c .before .goes-on .ensures) ∙ c .if1 .left)
+walk-returns t c =
+    let p1 = c .before in
+    let p4 = p1 .before .before .before in
+    let p8 = p4 .before .before .before .before in
+    let p9 = p8 .before in
+    let p13 = p9 .before .before .before .before in
+    let p15 = p13 .before .before in
+    let p16 = p15 .before in
+    let p17 = p16 .before in
+    λ l table C L. walk-ends _ _ _ _ _ _ C (p17 .loop .inv .2 l table C L) (sym (p15 .link-of .ensures) ∙ p13 .k .given .1) (p9 .siblings .ensures l table) (p4 .step-names .ensures l) (p16 .loop-test .taken) (sym (p1 .goes-on .ensures) ∙ c .if1 .left)
 
 walk-enum-told : (t : ℕ) → walk-lts.Need-enum-told (walk-claims t) (walk-at t) walk.Post walk-Inv-loop walk-μ-loop
 walk-enum-told t c = search needs
 
 walk-same-length-2 : (t : ℕ) → walk-lts.Need-same-length-2 (walk-claims t) (walk-at t) walk.Post walk-Inv-loop walk-μ-loop
-walk-same-length-2 t c = c .before .before .before .before .loop .inv .1
+walk-same-length-2 t c =
+    let p4 = c .before .before .before .before in
+    p4 .loop .inv .1
 
 walk-returns-2 : (t : ℕ) → walk-lts.Need-returns-2 (walk-claims t) (walk-at t) walk.Post walk-Inv-loop walk-μ-loop
-walk-returns-2 t c = let w = c .before .before .before .before .loop in λ C L. walk-fails _ _ _ _ (w .inv .2 C L) (c .before .before .before .loop-test .taken) (link-fails _ _ (sym (c .before .before .link-of .ensures) ∙ c .enum-told .given .1))
+walk-returns-2 t c =
+    let p2 = c .before .before in
+    let p3 = p2 .before in
+    let p4 = p3 .before in
+    λ l table C L. walk-fails _ _ _ _ (p4 .loop .inv .2 l table C L) (p3 .loop-test .taken) (link-fails _ _ (sym (p2 .link-of .ensures) ∙ c .enum-told .given .1))
 
 walk-enum-told-2 : (t : ℕ) → walk-lts.Need-enum-told-2 (walk-claims t) (walk-at t) walk.Post walk-Inv-loop walk-μ-loop
 walk-enum-told-2 t c = search needs
 
 walk-same-length-3 : (t : ℕ) → walk-lts.Need-same-length-3 (walk-claims t) (walk-at t) walk.Post walk-Inv-loop walk-μ-loop
-walk-same-length-3 t c = c .before .before .before .before .loop .inv .1
+walk-same-length-3 t c =
+    let p4 = c .before .before .before .before in
+    p4 .loop .inv .1
 
 walk-returns-3 : (t : ℕ) → walk-lts.Need-returns-3 (walk-claims t) (walk-at t) walk.Post walk-Inv-loop walk-μ-loop
-walk-returns-3 t c = let w = c .before .before .before .before .loop in λ C L. walk-fails _ _ _ _ (w .inv .2 C L) (c .before .before .before .loop-test .taken) (link-nowhere _ _ (sym (c .before .before .link-of .ensures) ∙ c .enum-told2 .given .1))
+walk-returns-3 t c =
+    let p2 = c .before .before in
+    let p3 = p2 .before in
+    let p4 = p3 .before in
+    λ l table C L. walk-fails _ _ _ _ (p4 .loop .inv .2 l table C L) (p3 .loop-test .taken) (link-nowhere _ _ (sym (p2 .link-of .ensures) ∙ c .enum-told2 .given .1))
 
 walk-same-length-4 : (t : ℕ) → walk-lts.Need-same-length-4 (walk-claims t) (walk-at t) walk.Post walk-Inv-loop walk-μ-loop
-walk-same-length-4 t c = c .before .loop .inv .1
+walk-same-length-4 t c =
+    let p1 = c .before in
+    p1 .loop .inv .1
 
 walk-returns-4 : (t : ℕ) → walk-lts.Need-returns-4 (walk-claims t) (walk-at t) walk.Post walk-Inv-loop walk-μ-loop
-walk-returns-4 t c = let w = c .before .loop in λ C L. walk-done _ _ _ _ (w .inv .2 C L) (c .loop-test .left)
+walk-returns-4 t c =
+    let p1 = c .before in
+    λ l table C L. walk-done _ _ _ _ (p1 .loop .inv .2 l table C L) (c .loop-test .left)
 
 pub +array+call+chain+coalesce+expression+interpolated+short-circuit+siblings+walk-spec :
     {M : Type 1} → statement M
@@ -709,9 +1089,9 @@ pub +array+call+chain+coalesce+expression+interpolated+short-circuit+siblings+wa
     (array-siblings-requires t)
     (array-position-requires t)
     (array-emit-requires t)
+    (array-residual-requires t)
     (array-same-length t)
     (array-returns t)
-    (array-residual-requires t)
     (array-same-length-2 t)
     (array-returns-2 t))
     (λ t. call-lts.spec (call-claims t)
@@ -730,6 +1110,9 @@ pub +array+call+chain+coalesce+expression+interpolated+short-circuit+siblings+wa
     chain.Post
     (chain-flattens-requires t)
     (chain-child-requires t)
+    (chain-element-copy-out-code t)
+    (chain-element-copy-out-depth t)
+    (chain-element-copy-out-deepest t)
     (chain-root-name-requires t)
     (chain-walk-requires t)
     (chain-lowers-requires t)
@@ -762,6 +1145,7 @@ pub +array+call+chain+coalesce+expression+interpolated+short-circuit+siblings+wa
     (expression-residual-requires t)
     (expression-same-length t)
     (expression-returns t)
+    (expression-element-copy-out-code t)
     (expression-rule-requires t)
     (expression-enum-told t)
     (expression-field-a-requires t)
@@ -841,6 +1225,7 @@ pub +array+call+chain+coalesce+expression+interpolated+short-circuit+siblings+wa
     (short-circuit-at t)
     short-circuit.Post
     (short-circuit-one-less-requires t)
+    (short-circuit-element-copy-out-d t)
     (short-circuit-count-requires t)
     (short-circuit-child-requires t)
     (short-circuit-siblings-requires t)

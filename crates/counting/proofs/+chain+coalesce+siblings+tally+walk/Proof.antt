@@ -1,8 +1,9 @@
 -- The cycle of calls of the count. The measure: four for each level left, and a step for each member between a node and its operands. Invariant of both loops: what is passed and what is left make the whole, cut off.
 use Prim.Native.Nat.{_+_, _*_, _-_}
-use mathlib.Core.Path.{sym, _∙_}
-use Rattle.counting.specs.CodeLaws.{tally-none, tally-coalesce, tally-chain}
-use Rattle.counting.specs.AnswerLaws.{SumLeft, sum-begins, sum-goes, sum-ends, WalkLeft, walk-begins, walk-goes, walk-stops, walk-failed, walk-lost, walk-ends, chain-stayed, chain-failed, chain-lowered, coalesce-counted, tally-parted}
+use mathlib.Core.Path.{sym, ap, _∙_}
+use Rattle.counting.specs.Plan.{isLeaf}
+use Rattle.counting.specs.CodeLaws.{sum-none, leaf-tally, tally-none, tally-coalesce, tally-chain}
+use Rattle.counting.specs.AnswerLaws.{SumLeft, sum-begins, sum-passes, sum-goes, sum-ends, WalkLeft, walk-begins, walk-goes, walk-stops, walk-failed, walk-lost, walk-ends, chain-stayed, chain-failed, chain-lowered, coalesce-counted, tally-parted}
 use borrow.Author.Needs.{needs}
 use native.Mathlib.Omega.{arith}
 use Rattle.counting.specs.Count as counts
@@ -27,16 +28,19 @@ use Rattle.counting.proofs.+chain+coalesce+siblings+tally+walk.Lts-walk
 use Rattle.counting.proofs.links.link_of.Reads as link-of-reads
 use Rattle.counting.proofs.links.reach.Reads as reach-reads
 use Rattle.counting.proofs.links.temporary.Reads as temporary-reads
+use Rattle.counting.proofs.plans.is_leaf.Reads as is-leaf-reads
 use Rattle.counting.proofs.plans.one_less.Reads as one-less-reads
 use Rattle.counting.proofs.plans.plan_of.Reads as plan-of-reads
 use Rattle.counting.proofs.tallies.instructions.Reads as instructions-reads
 use Rattle.counting.proofs.tallies.nothing.Reads as nothing-reads
 use Rattle.counting.proofs.tallies.plus.Reads as plus-reads
+use Rattle.counting.proofs.tallies.spaced.Reads as spaced-reads
 use Rattle.counting.proofs.tallies.taken_back.Reads as taken-back-reads
 use Rattle.rules.proofs.chains.goes_on.Reads as goes-on-reads
 use Rattle.rules.proofs.chains.rest_of.Reads as rest-of-reads
 use Rattle.sheet.proofs.child.Reads as child-reads
 use Rattle.sheet.proofs.count.Reads as count-reads
+use Rattle.sheet.proofs.kind.Reads as kind-reads
 use Rattle.sheet.proofs.next.Reads as next-reads
 use Rattle.sheet.proofs.skip.Reads as skip-reads
 use Rattle.counting.proofs.+chain+coalesce+siblings+tally+walk.{statement}
@@ -96,7 +100,7 @@ abbrev coalesce-claims : ℕ → coalesce-lts.Claims
 coalesce-claims t = (count-reads.Asked, count-reads.Learnt, one-less-reads.Asked, one-less-reads.Learnt, child-reads.Asked, child-reads.Learnt, siblings-below t, siblings.Post, skip-reads.Asked, skip-reads.Learnt, tally-below t, tally.Post, plus-reads.Asked, plus-reads.Learnt)
 
 abbrev siblings-claims : ℕ → siblings-lts.Claims
-siblings-claims t = (nothing-reads.Asked, nothing-reads.Learnt, tally-below t, tally.Post, instructions-reads.Asked, instructions-reads.Learnt, plus-reads.Asked, plus-reads.Learnt, next-reads.Asked, next-reads.Learnt)
+siblings-claims t = (nothing-reads.Asked, nothing-reads.Learnt, kind-reads.Asked, kind-reads.Learnt, is-leaf-reads.Asked, is-leaf-reads.Learnt, next-reads.Asked, next-reads.Learnt, tally-below t, tally.Post, plus-reads.Asked, plus-reads.Learnt, spaced-reads.Asked, spaced-reads.Learnt)
 
 abbrev tally-claims : ℕ → tally-lts.Claims
 tally-claims t = (instructions-reads.Asked, instructions-reads.Learnt, plan-of-reads.Asked, plan-of-reads.Learnt, siblings-below t, siblings.Post, plus-reads.Asked, plus-reads.Learnt, coalesce-below t, coalesce.Post, chain-below t, chain.Post)
@@ -186,30 +190,38 @@ coalesce-returns t c =
     (c .before .before .before .before .child .ensures) (c .before .before .before .siblings .ensures) (c .before .before .skip .ensures) (c .before .tally .ensures) (c .plus .ensures)
 
 abbrev siblings-Inv-loop : siblings-lts.InvT-loop
-siblings-Inv-loop levels s gap n from sum₀ i₀ j₀ sum i j = SumLeft s (counts.tally levels s) gap n from sum i j
+siblings-Inv-loop levels s gap n from sum₀ leaves₀ i₀ j₀ sum leaves i j = SumLeft s (counts.tally levels s) gap n from sum leaves i j
 
 abbrev siblings-μ-loop : siblings-lts.MeasureT-loop
-siblings-μ-loop levels s gap n from sum₀ i₀ j₀ sum i j = n - i
+siblings-μ-loop levels s gap n from sum₀ leaves₀ i₀ j₀ sum leaves i j = n - i
 
 siblings-nothing-requires : (t : ℕ) → siblings-lts.Need-nothing-requires (siblings-claims t) (siblings-at t) siblings.Post siblings-Inv-loop siblings-μ-loop
 siblings-nothing-requires t c κs = search needs
 
+siblings-returns : (t : ℕ) → siblings-lts.Need-returns (siblings-claims t) (siblings-at t) siblings.Post siblings-Inv-loop siblings-μ-loop
+siblings-returns t c =
+    let a = c .before .before .before .args in
+    sum-none (a .s .now) (counts.tally (a .levels) (a .s .now)) (a .gap) (a .n) (a .from)
+    (c .before .if1 .taken) (c .nothing .ensures)
+
+siblings-nothing-requires-2 : (t : ℕ) → siblings-lts.Need-nothing-requires-2 (siblings-claims t) (siblings-at t) siblings.Post siblings-Inv-loop siblings-μ-loop
+siblings-nothing-requires-2 t c κs = search needs
+
 siblings-loop-holds : (t : ℕ) → siblings-lts.Need-loop-holds (siblings-claims t) (siblings-at t) siblings.Post siblings-Inv-loop siblings-μ-loop
 siblings-loop-holds t c =
-    let a = c .before .before .args in
-    sum-begins (a .s .now) (counts.tally (a .levels) (a .s .now)) (a .gap) (a .n) (a .from) (c .nothing .ensures)
+    let a = c .before .before .before .args in
+    sum-begins (a .s .now) (counts.tally (a .levels) (a .s .now)) (a .gap) (a .n) (a .from) (c .nothing2 .ensures)
 
-siblings-tally-requires : (t : ℕ) → siblings-lts.Need-tally-requires (siblings-claims t) (siblings-at t) siblings.Post siblings-Inv-loop siblings-μ-loop
-siblings-tally-requires t c κs = omega arith
+siblings-kind-requires : (t : ℕ) → siblings-lts.Need-kind-requires (siblings-claims t) (siblings-at t) siblings.Post siblings-Inv-loop siblings-μ-loop
+siblings-kind-requires t c κs = search needs
 
-siblings-instructions-requires : (t : ℕ) → siblings-lts.Need-instructions-requires (siblings-claims t) (siblings-at t) siblings.Post siblings-Inv-loop siblings-μ-loop
-siblings-instructions-requires t c κs = search needs
+siblings-is-leaf-requires : (t : ℕ) → siblings-lts.Need-is-leaf-requires (siblings-claims t) (siblings-at t) siblings.Post siblings-Inv-loop siblings-μ-loop
+siblings-is-leaf-requires t c κs = search needs
 
-siblings-plus-requires : (t : ℕ) → siblings-lts.Need-plus-requires (siblings-claims t) (siblings-at t) siblings.Post siblings-Inv-loop siblings-μ-loop
-siblings-plus-requires t c κs = search needs
-
-siblings-plus-requires-2 : (t : ℕ) → siblings-lts.Need-plus-requires-2 (siblings-claims t) (siblings-at t) siblings.Post siblings-Inv-loop siblings-μ-loop
-siblings-plus-requires-2 t c κs = search needs
+siblings-add-leaves : (t : ℕ) → siblings-lts.Need-add-leaves (siblings-claims t) (siblings-at t) siblings.Post siblings-Inv-loop siblings-μ-loop
+siblings-add-leaves t c =
+    let l = c .before .before .before .before .loop in
+    omega (arith, l .inv .few)
 
 siblings-next-requires : (t : ℕ) → siblings-lts.Need-next-requires (siblings-claims t) (siblings-at t) siblings.Post siblings-Inv-loop siblings-μ-loop
 siblings-next-requires t c κs = search needs
@@ -222,17 +234,54 @@ siblings-loop-less t c = search needs
 
 siblings-loop-again : (t : ℕ) → siblings-lts.Need-loop-again (siblings-claims t) (siblings-at t) siblings.Post siblings-Inv-loop siblings-μ-loop
 siblings-loop-again t c =
-    let a = c .before .before .before .before .before .before .before .before .before .args in
-    let l = c .before .before .before .before .before .before .loop in
-    sum-goes (a .s .now) (counts.tally (a .levels) (a .s .now)) (a .gap) (a .n) (a .from) (l .i) (l .j) (l .sum) (l .inv)
-    (c .before .before .before .before .before .loop-test .taken) (c .before .before .before .before .tally .ensures) (c .before .before .before .instructions .ensures) (c .before .before .plus .ensures) (c .before .plus2 .ensures)
-    (c .next .ensures)
+    let test = c .before .before .before .before in
+    let l = test .before .loop in
+    let begun = test .before .before .before in
+    let a = begun .before .before .args in
+    let s = a .s .now in
+    let asked = c .before .before in
+    let leaf = sym (asked .is-leaf .ensures ∙ ap isLeaf (asked .before .kind .ensures)) ∙ c .before .if2 .taken in
+    sum-passes s (counts.tally (a .levels) s) (a .gap) (a .n) (a .from) (l .leaves) (l .i) (l .j) (l .sum) (l .inv)
+    (test .loop-test .taken) (leaf-tally (a .levels) s (l .j) leaf) (c .next .ensures)
 
-siblings-returns : (t : ℕ) → siblings-lts.Need-returns (siblings-claims t) (siblings-at t) siblings.Post siblings-Inv-loop siblings-μ-loop
-siblings-returns t c =
-    let a = c .before .before .before .before .args in
-    let l = c .before .loop in
-    sum-ends (a .s .now) (counts.tally (a .levels) (a .s .now)) (a .gap) (a .n) (a .from) (l .i) (l .j) (l .sum) (l .inv) (c .loop-test .left)
+siblings-tally-requires : (t : ℕ) → siblings-lts.Need-tally-requires (siblings-claims t) (siblings-at t) siblings.Post siblings-Inv-loop siblings-μ-loop
+siblings-tally-requires t c κs = omega arith
+
+siblings-plus-requires : (t : ℕ) → siblings-lts.Need-plus-requires (siblings-claims t) (siblings-at t) siblings.Post siblings-Inv-loop siblings-μ-loop
+siblings-plus-requires t c κs = search needs
+
+siblings-next-requires-2 : (t : ℕ) → siblings-lts.Need-next-requires-2 (siblings-claims t) (siblings-at t) siblings.Post siblings-Inv-loop siblings-μ-loop
+siblings-next-requires-2 t c κs = search needs
+
+siblings-add-i-2 : (t : ℕ) → siblings-lts.Need-add-i-2 (siblings-claims t) (siblings-at t) siblings.Post siblings-Inv-loop siblings-μ-loop
+siblings-add-i-2 t c = search needs
+
+siblings-loop-less-2 : (t : ℕ) → siblings-lts.Need-loop-less-2 (siblings-claims t) (siblings-at t) siblings.Post siblings-Inv-loop siblings-μ-loop
+siblings-loop-less-2 t c = search needs
+
+siblings-loop-again-2 : (t : ℕ) → siblings-lts.Need-loop-again-2 (siblings-claims t) (siblings-at t) siblings.Post siblings-Inv-loop siblings-μ-loop
+siblings-loop-again-2 t c =
+    let test = c .before .before .before .before .before .before in
+    let l = test .before .loop in
+    let begun = test .before .before .before in
+    let a = begun .before .before .args in
+    sum-goes (a .s .now) (counts.tally (a .levels) (a .s .now)) (a .gap) (a .n) (a .from) (l .leaves) (l .i) (l .j) (l .sum) (l .inv)
+    (test .loop-test .taken) (c .before .before .tally .ensures) (c .before .plus .ensures) (c .next2 .ensures)
+
+siblings-spaced-requires : (t : ℕ) → siblings-lts.Need-spaced-requires (siblings-claims t) (siblings-at t) siblings.Post siblings-Inv-loop siblings-μ-loop
+siblings-spaced-requires t c κs = search needs
+
+siblings-plus-requires-2 : (t : ℕ) → siblings-lts.Need-plus-requires-2 (siblings-claims t) (siblings-at t) siblings.Post siblings-Inv-loop siblings-μ-loop
+siblings-plus-requires-2 t c κs = search needs
+
+siblings-returns-2 : (t : ℕ) → siblings-lts.Need-returns-2 (siblings-claims t) (siblings-at t) siblings.Post siblings-Inv-loop siblings-μ-loop
+siblings-returns-2 t c =
+    let test = c .before .before in
+    let l = test .before .loop in
+    let begun = test .before .before .before in
+    let a = begun .before .before .args in
+    sum-ends (a .s .now) (counts.tally (a .levels) (a .s .now)) (a .gap) (a .n) (a .from) (l .leaves) (l .i) (l .j) (l .sum) (l .inv)
+    (test .loop-test .left) (c .before .spaced .ensures) (c .plus2 .ensures)
 
 tally-instructions-requires : (t : ℕ) → tally-lts.Need-instructions-requires (tally-claims t) (tally-at t) tally.Post
 tally-instructions-requires t c κs = search needs
@@ -408,16 +457,25 @@ pub +chain+coalesce+siblings+tally+walk-spec : {M : Type 1} → statement M
     siblings-Inv-loop
     siblings-μ-loop
     (siblings-nothing-requires t)
+    (siblings-returns t)
+    (siblings-nothing-requires-2 t)
     (siblings-loop-holds t)
-    (siblings-tally-requires t)
-    (siblings-instructions-requires t)
-    (siblings-plus-requires t)
-    (siblings-plus-requires-2 t)
+    (siblings-kind-requires t)
+    (siblings-is-leaf-requires t)
+    (siblings-add-leaves t)
     (siblings-next-requires t)
     (siblings-add-i t)
     (siblings-loop-less t)
     (siblings-loop-again t)
-    (siblings-returns t))
+    (siblings-tally-requires t)
+    (siblings-plus-requires t)
+    (siblings-next-requires-2 t)
+    (siblings-add-i-2 t)
+    (siblings-loop-less-2 t)
+    (siblings-loop-again-2 t)
+    (siblings-spaced-requires t)
+    (siblings-plus-requires-2 t)
+    (siblings-returns-2 t))
     (λ t. tally-lts.spec (tally-claims t)
     (tally-at t)
     tally.Post

@@ -1,5 +1,6 @@
 -- `dispatch::chains` meets its contract: with no entries in the split, and with some.
-use Rattle.dispatch.specs.SwitchDoes.{case-heads-are, case-named, no-split, some-split, run-heads-are, range-named, chains-none, chains-some}
+use Rattle.dispatch.specs.SwitchDoes.{case-heads-are, case-named, no-split, some-split}
+use Rattle.dispatch.specs.SwitchDoes.{run-heads-are, range-named, chains-none, chains-some}
 use Rattle.lowering.specs.SwitchSheet.{rangesOf}
 use Rattle.cases.specs.Split.{split}
 use lib.ListN.{take}
@@ -26,13 +27,20 @@ same-length : tie.Need-same-length
 same-length c = search needs
 
 returns : tie.Need-returns
-returns c =
-    let q = c .before .before .before .before .before .before .runs-of in
-    let a = c .before .before .before .before .before .before .before .before .before .before .before .before .args in
-    λ C. let e = case-heads-are C (c .before .before .before .before .before .before .before .before .before .case-heads .ensures) in chains-none
-    (a .t) (split (rangesOf (a .s .now))) e (no-split C (c .before .before .before .before .before .before .before .before .ranges-of .ensures) _
-    (c .before .before .before .before .before .before .before .cuts-of .ensures .numbers) (take (q .result .n) (q .result .at)) _ (q .ensures)
-    (c .before .before .before .before .if1 .taken)) (c .before .before .case-arms .ensures C (case-named C e))
+returns c = λ l table.
+    let p2 = c .before .before in
+    let p5 = p2 .before .before .before in
+    let p7 = p5 .before .before in
+    let p8 = p7 .before in
+    let p9 = p8 .before in
+    let p10 = p9 .before in
+    let p13 = p10 .before .before .before in
+    let q = p7 .runs-of in
+    let a = p13 .args in
+    λ C. let e = case-heads-are C (p10 .case-heads .ensures) in chains-none
+    (a .aims) (split (rangesOf (a .s .now))) e (no-split C (p9 .ranges-of .ensures) _
+    (p8 .cuts-of .ensures .numbers) (take (q .result .n) (q .result .at)) _ (q .ensures)
+    (p5 .if1 .taken)) (p2 .case-arms .ensures l table C (case-named C e))
 
 case-arms-requires-2 : tie.Need-case-arms-requires-2
 case-arms-requires-2 c κs = search needs
@@ -50,23 +58,31 @@ same-length-2 : tie.Need-same-length-2
 same-length-2 c = search needs
 
 returns-2 : tie.Need-returns-2
-returns-2 c =
-    let q = c .before .before .before .before .before .before .before .before .before .before .before .before .before .before .before .runs-of in
-    let g = c .before .before .before .before .before .before .before .before .before .before .before .before .before .before .before
-    .before .before .ranges-of in
-    let p = c .before .before .before .before .before .before .before .before .before .before .before .before .before .before .before
-    .before .cuts-of in
-    let a = c .before .before .before .before .before .before .before .before .before .before .before .before .before .before .before
-    .before .before .before .before .before .before .args in
+returns-2 c = λ l table.
+    let p2 = c .before .before in
+    let p3 = p2 .before in
+    let p7 = p3 .before .before .before .before in
+    let p8 = p7 .before in
+    let p12 = p8 .before .before .before .before in
+    let p13 = p12 .before in
+    let p16 = p13 .before .before .before in
+    let p18 = p16 .before .before in
+    let p19 = p18 .before in
+    let p20 = p19 .before in
+    let p21 = p20 .before in
+    let p24 = p21 .before .before .before in
+    let q = p18 .runs-of in
+    let g = p20 .ranges-of in
+    let p = p19 .cuts-of in
+    let a = p24 .args in
     let xs = take (q .result .n) (q .result .at) in
     λ C. let e = case-heads-are C
-    (c .before .before .before .before .before .before .before .before .before .before .before .before .before .before .before
-    .before .before .before .case-heads .ensures) in let f = run-heads-are C (g .ensures) _ (p .ensures .numbers) xs _ (q .ensures)
-    (c .before .before .before .run-heads .ensures) in chains-some (a .t) (split (rangesOf (a .s .now))) e (some-split C (g .ensures) _
+    (p21 .case-heads .ensures) in let f = run-heads-are C (g .ensures) _ (p .ensures .numbers) xs _ (q .ensures)
+    (p3 .run-heads .ensures) in chains-some (a .aims) (split (rangesOf (a .s .now))) e (some-split C (g .ensures) _
     (p .ensures .numbers) xs _ (q .ensures)
-    (c .before .before .before .before .before .before .before .before .before .before .before .before .before .if1 .left)) f
-    (c .before .before .before .before .before .before .before .before .before .before .before .case-arms2 .ensures C (case-named C e))
-    (c .before .before .before .before .before .before .before .emit .ensures _ tt) (c .before .before .range-arms .ensures C (range-named C f))
+    (p16 .if1 .left)) f
+    (p13 .case-arms2 .ensures l table C (case-named C e))
+    (p8 .emit .ensures l table _ tt) (p2 .range-arms .ensures l table C (range-named C f))
 
 pub chains-spec : {M : Type 1} → statement M
 chains-spec =

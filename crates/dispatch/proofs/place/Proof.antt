@@ -15,7 +15,7 @@ returns : tie.Need-returns
 returns c = search needs
 
 returns-2 : tie.Need-returns-2
-returns-2 c = place-past (c .before .before .args .t .body) _ (search needs) (omega arith)
+returns-2 c = place-past (c .before .before .args .aims .body) _ (search needs) (omega arith)
 
 pub place-spec : {M : Type 1} → statement M
 place-spec = tie.close (tie.spec mul-result array-read-result returns returns-2)

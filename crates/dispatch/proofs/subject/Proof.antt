@@ -17,9 +17,13 @@ same-length : tie.Need-same-length
 same-length c = search needs
 
 returns : tie.Need-returns
-returns c =
-    λ C. subject-does _ (c .before .before .before .before .before .before .before .child .ensures) C
-    (c .before .before .before .before .before .before .expression .ensures) (c .before .before .emit .ensures _ tt)
+returns c = λ l table.
+    let p2 = c .before .before in
+    let p6 = p2 .before .before .before .before in
+    let p7 = p6 .before in
+    let p8 = p7 .before in
+    λ C. subject-does _ (p8 .child .ensures) C
+    (p7 .expression .ensures l table) (p2 .emit .ensures l table _ tt)
 
 pub subject-spec : {M : Type 1} → statement M
 subject-spec =

@@ -14,7 +14,7 @@ returns : tie.Need-returns
 returns c = search needs
 
 returns-2 : tie.Need-returns-2
-returns-2 c = want-past (c .before .before .args .t .want) _ (search needs) (omega arith)
+returns-2 c = want-past (c .before .before .args .aims .want) _ (search needs) (omega arith)
 
 pub wants-spec : {M : Type 1} → statement M
 wants-spec = tie.close (tie.spec array-read-result returns returns-2)

@@ -1,16 +1,11 @@
 -- `image::image_len` meets its contract.
 use Prim.Native.Nat.{_+_}
 use mathlib.Core.Path.{ap}
-use Rattle.image.specs.FrontLaws.{steps-at, front-length}
+use native.Mathlib.Omega.{arith}
+use Rattle.image.specs.FrontLaws.{front-length}
 use borrow.Author.Needs.{needs}
 use Rattle.image.proofs.image_len.Statement.{statement}
 use Rattle.image.proofs.image_len.Tie as tie
-
-chains-at-requires : tie.Need-chains-at-requires
-chains-at-requires c κs = search needs
-
-held-steps-requires : tie.Need-held-steps-requires
-held-steps-requires c κs = search needs
 
 cast-code : tie.Need-cast-code
 cast-code c = search needs
@@ -46,13 +41,19 @@ mul-linked : tie.Need-mul-linked
 mul-linked c = search needs
 
 cast-linked-2 : tie.Need-cast-linked-2
-cast-linked-2 c = search needs
+cast-linked-2 c =
+    let g = c .struct-known6 .given in
+    record { fits = omega (arith, g .1 .1 .1 .1 .1 .1 .1 .1 .1 .1 .1 .0 .fits) }
 
 mul-linked-2 : tie.Need-mul-linked-2
-mul-linked-2 c = search needs
+mul-linked-2 c =
+    let g = c .struct-known6 .given in
+    record { fits = omega (arith, g .1 .1 .1 .1 .1 .1 .1 .1 .1 .1 .1 .0 .fits) }
 
 add-linked : tie.Need-add-linked
-add-linked c = search needs
+add-linked c =
+    let g = c .struct-known6 .given in
+    record { fits = omega (arith, g .1 .1 .1 .1 .1 .0 .fits, g .1 .1 .1 .1 .1 .1 .1 .1 .1 .1 .1 .0 .fits) }
 
 add-result : tie.Need-add-result
 add-result c = search needs
@@ -67,26 +68,24 @@ add-result-3 : tie.Need-add-result-3
 add-result-3 c = search needs
 
 add-result-4 : tie.Need-add-result-4
-add-result-4 c = search needs
+add-result-4 c =
+    let g = c .before .struct-known6 .given in
+    record { fits = omega (arith, g .0 .fits, g .1 .0 .fits, g .1 .1 .0 .fits, g .1 .1 .1 .0 .fits, g .1 .1 .1 .1 .0 .fits, g .1 .1 .1 .1 .1 .0 .fits, g .1 .1 .1 .1 .1 .1 .1 .1 .1 .1 .1 .0 .fits) }
 
 add-result-5 : tie.Need-add-result-5
-add-result-5 c = search needs
+add-result-5 c =
+    let g = c .before .struct-known6 .given in
+    record { fits = omega (arith, g .0 .fits, g .1 .0 .fits, g .1 .1 .0 .fits, g .1 .1 .1 .0 .fits, g .1 .1 .1 .1 .0 .fits, g .1 .1 .1 .1 .1 .0 .fits, g .1 .1 .1 .1 .1 .1 .1 .1 .1 .1 .1 .0 .fits, c .before .before .before .before .before .before .before .fits .tables .fits) }
 
 returns : tie.Need-returns
 returns c =
-    let c6 = c .before .before .before .before .before .before in
-    let c7 = c6 .before in
-    λ m h sw ca ra.
-    ap (λ n. n + (c7 .before .before .before .args .tables))
-    (front-length h (c6 .held-steps .result) sw ca ra
-    (steps-at h (c7 .chains-at .result) (c6 .held-steps .result) (c7 .chains-at .ensures) (c6 .held-steps .ensures)))
+    let a = c .before .before .before .before .before .before .before .args in
+    λ s l xs m h sw ca ra. ap (λ n. n + a .tables) (front-length h sw ca ra)
 
 pub image-len-spec : {M : Type 1} → statement M
 image-len-spec =
     tie.close
     (tie.spec
-    chains-at-requires
-    held-steps-requires
     cast-code
     mul-code
     cast-keys

@@ -1,8 +1,11 @@
--- `image::put_front` meets its contract: one part behind the other.
+-- `image::put_front` meets its contract: one part behind the other, by the layout that the counts tell.
+use Rattle.store.specs.Does.{laid-is}
+use Rattle.store.specs.Holds.{Holds}
 use Rattle.image.specs.Puts.{puts-as, puts-next}
 use Rattle.image.specs.Front.{frontSizes, sizes-length, front-parts}
+use Rattle.scratch.specs.declared.Layout.{Layout}
 use lib.ListN.{length}
-use mathlib.Core.Path.{ap, _∙_}
+use mathlib.Core.Path.{sym, ap, subst, _∙_}
 use borrow.Author.Needs.{needs}
 use Rattle.image.proofs.put_front.Statement.{statement}
 use Rattle.image.proofs.put_front.Tie as tie
@@ -34,8 +37,9 @@ returns c =
     let c16 = c14 .before .before in
     let c20 = c16 .before .before .before .before in
     let a = c20 .args in
-    λ m h.
-    let z = c16 .front-sizes .ensures m h in
+    λ l m g.
+    let h = subst (λ (k : Layout). Holds (a .s .now) k (a .x .now) (a .st) m) (sym (laid-is g)) g in
+    let z = c16 .front-sizes .ensures (a .s .now) _ (a .x .now) m h in
     let one = puts-as _ (frontSizes m (a .sw) (a .ca) (a .ra)) z (c14 .put-sizes .ensures (ap length z ∙ sizes-length m (a .sw) (a .ca) (a .ra))) in
     let two = puts-next _ _ one (c10 .put-code .ensures (a .s .now) m h) in
     let three = puts-next _ _ two (c6 .put-pools .ensures m h) in

@@ -1,8 +1,8 @@
 -- `image::put_part` meets its contract: a part of the image becomes the section.
 use Rattle.image.specs.RoomLaws.{end-fits, place-fits, inside, from-start, part-length, none-puts}
 use Rattle.image.specs.Puts.{puts-part}
-use Rattle.store.specs.RegionLaws.{part-is, region-length}
-use Rattle.store.specs.Places.{region}
+use Rattle.scratch.proofs.RegionLaws.{part-is, region-length}
+use Rattle.scratch.specs.Places.{region}
 use mathlib.Core.Path.{refl, sym, _∙_}
 use borrow.Author.Needs.{needs}
 use Rattle.image.proofs.put_part.Statement.{statement}

@@ -3,8 +3,8 @@ use Rattle.image.specs.RoomLaws.{end-fits, place-fits, inside, from-star
 use Rattle.image.specs.RowLengths.{token-rows}
 use Rattle.sheet.specs.Node.{fieldC}
 use Rattle.image.specs.Puts.{puts-part}
-use Rattle.store.specs.RegionLaws.{part-is}
-use Rattle.store.specs.Places.{region}
+use Rattle.scratch.proofs.RegionLaws.{part-is}
+use Rattle.scratch.specs.Places.{region}
 use mathlib.Core.List.{map}
 use mathlib.Core.Path.{refl, sym, ap, _∙_}
 use borrow.Author.Needs.{needs}

@@ -11,7 +11,7 @@ same-length : tie.Need-same-length
 same-length c = search needs
 
 returns : tie.Need-returns
-returns c = λ m h f. puts-start _ (c .before .before .put-front .ensures m h) f
+returns c = λ l m h f. puts-start _ (c .before .before .put-front .ensures l m h) f
 
 pub write-front-spec : {M : Type 1} → statement M
 write-front-spec = tie.close (tie.spec put-front-requires same-length returns)

@@ -1,10 +1,6 @@
--- `keys::is_marked` meets its contract: the tests are the definition's.
-use Prim.Native.Nat.{_%_}
-use mathlib.Core.Path.{ap, ap₂}
-use mathlib.Core.Bool.{_&&_, not}
-use lib.Dec.{eqb}
+-- `keys::is_marked` meets its contract: the tests are the definition's, and a node that is no call is asked nothing more.
+use Rattle.keys.specs.KeyLaws.{marked-call, marked-none}
 use borrow.Author.Needs.{needs}
-use Rattle.keys.specs.Keys.{callKind, isMarked}
 use Rattle.keys.proofs.is_marked.Statement.{statement}
 use Rattle.keys.proofs.is_marked.Tie as tie
 
@@ -18,12 +14,19 @@ field-b-requires : tie.Need-field-b-requires
 field-b-requires c κs = search needs
 
 returns : tie.Need-returns
-unfolding isMarked
 returns c =
-    let a = c .before .before .before .before .args in
-    let kind-is = ap (λ v. eqb (a .k % 3) 0 && eqb v callKind) (c .before .before .kind .ensures) in
-    let token-is = ap not (c .before .stores-token .ensures) in
-    ap₂ _&&_ (ap₂ _&&_ kind-is token-is) (ap (λ v. eqb v 1) (c .field-b .ensures))
+    let test = c .before .before in
+    let kinds = test .before in
+    let start = kinds .before .before in
+    marked-call (start .args .s .now) (start .args .k) (kinds .kind .ensures) (c .before .stores-token .ensures) (c .field-b .ensures)
+    (test .if1 .taken)
+
+returns-2 : tie.Need-returns-2
+returns-2 c =
+    let kinds = c .before in
+    let start = kinds .before .before in
+    marked-none (start .args .s .now) (start .args .k) (kinds .kind .ensures) (c .if1 .left)
 
 pub is-marked-spec : {M : Type 1} → statement M
-is-marked-spec = tie.close (tie.spec kind-requires stores-token-requires field-b-requires returns)
+is-marked-spec =
+    tie.close (tie.spec kind-requires stores-token-requires field-b-requires returns returns-2)

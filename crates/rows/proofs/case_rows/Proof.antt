@@ -1,30 +1,32 @@
 -- `rows::case_rows` meets its contract. Invariant: the first i rows are there, and node j is Case i.
 use Rattle.rows.specs.CaseLaws.{caseWordsTo, first-next, one-next, case-start, case-next, case-end}
 use Rattle.rows.specs.Rows.{placeIn}
-use Rattle.sections.specs.PutLaws.{written-length}
+use Rattle.scratch.specs.Places.{constsAt, region}
+use Rattle.index.specs.Indexes.{Indexes}
 use Rattle.sections.specs.Written.{Written}
 use Rattle.switches.specs.Switch.{firstCase}
 use Rattle.sheet.specs.Walk.{skip}
 use lib.ListN.{length}
 use mathlib.Core.Path.{_≡_, refl, _∙_, ap}
-use Prim.Native.Nat.{_≤_, _-_}
+use Prim.Native.Nat.{ℕ, _≤_, _-_}
 use native.Mathlib.Omega.{arith}
 use borrow.Author.Needs.{needs}
 use Rattle.rows.proofs.case_rows.Statement.{statement}
 use Rattle.rows.proofs.case_rows.Tie as tie
 
 abbrev Inv-loop : tie.InvT-loop
-Inv-loop s out₀ ks targets n j₀ i₀ out j i =
-    (i ≤ n) × (j ≡ skip s i (firstCase s)) × (length out ≡ length out₀) × Written out₀ out (caseWordsTo s ks targets i)
+Inv-loop s out₀ x l n targets m j₀ i₀ out j i =
+    (i ≤ m) × (j ≡ skip s i (firstCase s)) × (length out ≡ length out₀) ×
+    ((ts hs ns : ℕ) → Indexes s l n ts hs ns x → Written out₀ out (caseWordsTo s (region (constsAt l) n x) targets i))
 
 abbrev μ-loop : tie.MeasureT-loop
-μ-loop s out₀ ks targets n j₀ i₀ out j i = n - i
+μ-loop s out₀ x l n targets m j₀ i₀ out j i = m - i
 
 field-b-requires : tie.Need-field-b-requires Inv-loop μ-loop
 field-b-requires c κs = search needs
 
-cast-n : tie.Need-cast-n Inv-loop μ-loop
-cast-n c = search needs
+cast-m : tie.Need-cast-m Inv-loop μ-loop
+cast-m c = search needs
 
 first-case-requires : tie.Need-first-case-requires Inv-loop μ-loop
 first-case-requires c κs = search needs
@@ -32,7 +34,8 @@ first-case-requires c κs = search needs
 loop-holds : tie.Need-loop-holds Inv-loop μ-loop
 loop-holds c =
     let a = c .before .before .before .before .before .args in
-    (omega arith, first-next (a .s .now) _ (c .first-case .ensures), refl, case-start (a .s .now) (a .ks .now) (a .t4) (a .out .now))
+    let ks = region (constsAt (a .l)) (a .n) (a .x .now) in
+    (omega arith, first-next (a .s .now) _ (c .first-case .ensures), refl, λ _ _ _ _. case-start (a .s .now) ks (a .t6) (a .out .now))
 
 mul-put-two : tie.Need-mul-put-two Inv-loop μ-loop
 mul-put-two c = search needs
@@ -60,25 +63,21 @@ loop-less c = search needs
 
 loop-again : tie.Need-loop-again Inv-loop μ-loop
 loop-again c =
-    let a = c .before .before .before .before .before .before .before .before .before .before .before .before .before .args in
-    let i = c .before .before .before .before .before .before .before .loop .i in
-    let w =
-    case-next (a .s .now) (a .ks .now) (a .t4) i (c .before .before .before .before .before .before .before .before .before .field-b .result) _
-    (c .before .before .before .before .place .result)
-    (omega (
-      arith,
-      c .before .before .before .before .before .before .before .before .before .before .before .before .before .pre .0,
-      c .before .before .before .before .before .before .before .before .before .field-b .ensures,
-    ))
-    (c .before .before .before .before .before .before .loop-test .taken) refl
-    (c .before .before .before .before .place .ensures ∙ ap (placeIn (a .s .now) (a .ks .now))
-    (c .before .before .before .before .before .before .before .loop .inv .1)) (c .before .before .before .put-two .ensures)
-    (c .before .before .before .before .before .before .before .loop .inv .3) in (
+    let found = c .before .before .before .before in
+    let test = found .before .before in
+    let at = test .before .loop in
+    let count = test .before .before .before in
+    let start = count .before .before .before .before in
+    let a = start .args in
+    let s = a .s .now in
+    let ks = region (constsAt (a .l)) (a .n) (a .x .now) in (
       omega arith,
-      one-next (a .s .now) i (c .before .before .before .before .before .before .before .loop .j) _
-          (c .before .before .before .before .before .before .before .loop .inv .1) (c .next .ensures),
-      written-length w,
-      w,
+      one-next s (at .i) (at .j) _ (at .inv .1) (c .next .ensures),
+      c .before .before .before .put-two .kept .0 ∙ at .inv .2,
+      λ ts hs ns h.
+          case-next s ks (a .t6) (at .i) (count .field-b .result) _ (found .place .result) (omega (arith, start .pre .0, count .field-b .ensures))
+          (test .loop-test .taken) refl (found .place .ensures ts hs ns h ∙ ap (placeIn s ks) (at .inv .1))
+          (c .before .before .before .put-two .ensures) (at .inv .3 ts hs ns h),
     )
 
 same-length : tie.Need-same-length Inv-loop μ-loop
@@ -86,9 +85,13 @@ same-length c = c .before .loop .inv .2
 
 returns : tie.Need-returns Inv-loop μ-loop
 returns c =
-    let a = c .before .before .before .before .before .before .before .args in
-    case-end (a .s .now) (a .ks .now) (a .t4) (c .before .loop .i) _ (c .before .before .before .before .before .before .before .pre .0)
-    (omega (arith, c .before .before .before .field-b .ensures)) (c .before .loop .inv .3)
+    let count = c .before .before .before in
+    let start = count .before .before .before .before in
+    let a = start .args in
+    let ks = region (constsAt (a .l)) (a .n) (a .x .now) in
+    λ ts hs ns h.
+    case-end (a .s .now) ks (a .t6) (c .before .loop .i) _ (start .pre .0) (omega (arith, count .field-b .ensures))
+    (c .before .loop .inv .3 ts hs ns h)
 
 pub case-rows-spec : {M : Type 1} → statement M
 case-rows-spec =
@@ -97,7 +100,7 @@ case-rows-spec =
     Inv-loop
     μ-loop
     field-b-requires
-    cast-n
+    cast-m
     first-case-requires
     loop-holds
     mul-put-two

@@ -5,8 +5,7 @@ use mathlib.Core.Path.{_≡_, refl, sym, _∙_}
 use lib.ListN.{length}
 use Rattle.sections.specs.Written.{Written}
 use Rattle.sections.specs.PutLaws.{written-none}
-use mathlib.Core.List.{map}
-use Rattle.keys.specs.Keys.{nameOf}
+use Rattle.index.specs.Held.{NamesHold, namesHeld}
 use Rattle.sheet.specs.Limits.{maxDepth}
 use Rattle.lowering.specs.Pools.{stepsWords}
 use Rattle.chains.specs.LoopLaws.{width-few}
@@ -16,18 +15,18 @@ use Rattle.sections.proofs.chain_steps.Statement.{statement}
 use Rattle.sections.proofs.chain_steps.Tie as tie
 
 abbrev Inv-loop : tie.InvT-loop
-Inv-loop s out₀ j ks left₀ c₀ n₀ i₀ out left c n i =
-    (i + left ≤ maxDepth) × (n + 255 * left ≤ 255 * maxDepth) × Left s (map (nameOf s) ks) j i n left c × (length out ≡ length out₀) ×
-    Written out₀ out (stepRows s (map (nameOf s) ks) j i)
+Inv-loop s out₀ j x l n left₀ c₀ k₀ i₀ out left c k i =
+    (i + left ≤ maxDepth) × (k + 255 * left ≤ 255 * maxDepth) × Left s (namesHeld s l n x) j i k left c × (length out ≡ length out₀) ×
+    (NamesHold s l n x → Written out₀ out (stepRows s (namesHeld s l n x) j i))
 
 abbrev μ-loop : tie.MeasureT-loop
-μ-loop s out₀ j ks left₀ c₀ n₀ i₀ out left c n i = left
+μ-loop s out₀ j x l n left₀ c₀ k₀ i₀ out left c k i = left
 
 loop-holds : tie.Need-loop-holds Inv-loop μ-loop
 unfolding stepsWords
 loop-holds c =
     let a = c .before .before .before .args in
-    (omega arith, omega arith, left-starts (a .s .now) (map (nameOf (a .s .now)) (a .ks .now)) (a .j), refl, written-none (a .out .now))
+    (omega arith, omega arith, left-starts (a .s .now) (namesHeld (a .s .now) (a .l) (a .n) (a .x .now)) (a .j), refl, λ _. written-none (a .out .now))
 
 step-at-requires : tie.Need-step-at-requires Inv-loop μ-loop
 step-at-requires c κs = search needs
@@ -41,11 +40,11 @@ step-words-requires c κs = search needs
 put-six-requires : tie.Need-put-six-requires Inv-loop μ-loop
 put-six-requires c κs =
     let a = c .before .before .before .before .before .before .before .before .args in
-    let ns = map (nameOf (a .s .now)) (a .ks .now) in
+    let ns = namesHeld (a .s .now) (a .l) (a .n) (a .x .now) in
     let l = c .before .before .before .before .loop in
     omega (
       arith,
-      left-within (a .s .now) ns (a .j) (l .i) (l .n) (l .left) (l .c) (c .before .before .before .loop-test .taken) (l .inv .2),
+      left-within (a .s .now) ns (a .j) (l .i) (l .k) (l .left) (l .c) (c .before .before .before .loop-test .taken) (l .inv .2),
     )
 
 add-i : tie.Need-add-i Inv-loop μ-loop
@@ -54,8 +53,8 @@ add-i c = search needs
 width-requires : tie.Need-width-requires Inv-loop μ-loop
 width-requires c κs = search needs
 
-add-n : tie.Need-add-n Inv-loop μ-loop
-add-n c =
+add-k : tie.Need-add-k Inv-loop μ-loop
+add-k c =
     omega (
       arith,
       width-few (c .before .before .before .before .before .before .before .before .before .before .before .before .args .s .now)
@@ -83,14 +82,14 @@ loop-again c =
     let start = at .before .before .before .before .before .before in
     let a = start .args in
     let s = a .s .now in
-    let ns = map (nameOf s) (a .ks .now) in
+    let ns = namesHeld s (a .l) (a .n) (a .x .now) in
     let g = sym (c .before .before .goes-on .ensures) ∙ c .before .if1 .taken in
-    let w =
-    step-next s ns (a .j) (l .i) (l .n) (l .left) (l .c) _ _ (start .pre .0) h (l .inv .2) (at .step-at .ensures)
-    (put .before .step-words .ensures) (put .put-six .ensures) (l .inv .4) in (
+    let w : NamesHold s (a .l) (a .n) (a .x .now) → Written _ _ _ = λ h′.
+    step-next s ns (a .j) (l .i) (l .k) (l .left) (l .c) _ _ (start .pre) h (l .inv .2) (at .step-at .ensures h′)
+    (put .before .step-words .ensures) (put .put-six .ensures) (l .inv .4 h′) in (
       omega arith,
       omega (arith, width-few s (l .c)),
-      left-more s ns (a .j) (l .i) (l .n) (l .left) (l .c) _ _ h g (c .before .before .before .width .ensures) (c .rest-of .ensures) (l .inv .2),
+      left-more s ns (a .j) (l .i) (l .k) (l .left) (l .c) _ _ h g (c .before .before .before .width .ensures) (c .rest-of .ensures) (l .inv .2),
       put .put-six .kept .0 ∙ l .inv .3,
       w,
     )
@@ -107,12 +106,12 @@ returns c =
     let start = at .before .before .before .before .before .before in
     let a = start .args in
     let s = a .s .now in
-    let ns = map (nameOf s) (a .ks .now) in
+    let ns = namesHeld s (a .l) (a .n) (a .x .now) in
     let g = sym (c .before .goes-on .ensures) ∙ c .if1 .left in
-    let w =
-    step-next s ns (a .j) (l .i) (l .n) (l .left) (l .c) _ _ (start .pre .0) h (l .inv .2) (at .step-at .ensures)
-    (put .before .step-words .ensures) (put .put-six .ensures) (l .inv .4) in
-    step-last s ns (a .j) (l .i) (l .n) (l .left) (l .c) (start .pre .0) h g (l .inv .2) w
+    let w : NamesHold s (a .l) (a .n) (a .x .now) → Written _ _ _ = λ h′.
+    step-next s ns (a .j) (l .i) (l .k) (l .left) (l .c) _ _ (start .pre) h (l .inv .2) (at .step-at .ensures h′)
+    (put .before .step-words .ensures) (put .put-six .ensures) (l .inv .4 h′) in
+    λ h′. step-last s ns (a .j) (l .i) (l .k) (l .left) (l .c) (start .pre) h g (l .inv .2) (w h′)
 
 same-length-2 : tie.Need-same-length-2 Inv-loop μ-loop
 same-length-2 c = c .before .loop .inv .3
@@ -120,10 +119,10 @@ same-length-2 c = c .before .loop .inv .3
 returns-2 : tie.Need-returns-2 Inv-loop μ-loop
 returns-2 c =
     let a = c .before .before .before .before .before .args in
-    let ns = map (nameOf (a .s .now)) (a .ks .now) in
+    let ns = namesHeld (a .s .now) (a .l) (a .n) (a .x .now) in
     let l = c .before .loop in
-    step-done (a .s .now) ns (a .j) (l .i) (l .n) (l .left) (l .c) (c .before .before .before .before .before .pre .0) (c .loop-test .left)
-    (l .inv .2) (l .inv .4)
+    λ h′. step-done (a .s .now) ns (a .j) (l .i) (l .k) (l .left) (l .c) (c .before .before .before .before .before .pre) (c .loop-test .left)
+    (l .inv .2) (l .inv .4 h′)
 
 pub chain-steps-spec : {M : Type 1} → statement M
 chain-steps-spec =
@@ -138,7 +137,7 @@ chain-steps-spec =
     put-six-requires
     add-i
     width-requires
-    add-n
+    add-k
     goes-on-requires
     rest-of-requires
     sub-left

@@ -5,8 +5,7 @@ use mathlib.Core.Path.{_≡_, refl, sym, ap₂, _∙_}
 use lib.ListN.{length, take}
 use Rattle.sections.specs.Written.{Written}
 use Rattle.sections.specs.PutLaws.{written-none}
-use mathlib.Core.List.{map}
-use Rattle.keys.specs.Keys.{nameOf}
+use Rattle.index.specs.Held.{NamesHold, namesHeld}
 use Rattle.lowering.specs.Image.{section}
 use Rattle.chains.specs.Steps.{chainsFrom}
 use Rattle.chains.specs.Kept.{stepCount}
@@ -16,16 +15,16 @@ use Rattle.sections.proofs.chains.Statement.{statement}
 use Rattle.sections.proofs.chains.Tie as tie
 
 abbrev Inv-loop : tie.InvT-loop
-Inv-loop s out₀ js ks i₀ first₀ out i first =
-    (i ≤ length js) × (first ≡ stepCount s (take i js)) × (length out ≡ length out₀) × Written out₀ out
-    (chainRows s (map (nameOf s) ks) js i)
+Inv-loop s out₀ js x l n i₀ first₀ out i first =
+    (i ≤ length js) × (first ≡ stepCount s (take i js)) × (length out ≡ length out₀) ×
+    (NamesHold s l n x → Written out₀ out (chainRows s (namesHeld s l n x) js i))
 
 abbrev μ-loop : tie.MeasureT-loop
-μ-loop s out₀ js ks i₀ first₀ out i first = length js - i
+μ-loop s out₀ js x l n i₀ first₀ out i first = length js - i
 
 loop-holds : tie.Need-loop-holds Inv-loop μ-loop
 unfolding section chainsFrom stepCount
-loop-holds c = (omega arith, refl, refl, written-none (c .before .before .before .before .args .out .now))
+loop-holds c = (omega arith, refl, refl, λ _. written-none (c .before .before .before .before .args .out .now))
 
 mul-j : tie.Need-mul-j Inv-loop μ-loop
 mul-j c = search needs
@@ -68,17 +67,17 @@ loop-less c = search needs
 loop-again : tie.Need-loop-again Inv-loop μ-loop
 loop-again c =
     let a = c .before .before .before .before .before .before .before .before .before .before .before .before .before .before .args in
-    let ns = map (nameOf (a .s .now)) (a .ks .now) in
+    let ns = namesHeld (a .s .now) (a .l) (a .n) (a .x .now) in
     let i = c .before .before .before .before .before .before .before .before .before .loop .i in
-    let w =
+    let w : NamesHold (a .s .now) (a .l) (a .n) (a .x .now) → Written _ _ _ = λ h.
     chain-next (a .s .now) ns (a .js .now) i (c .before .before .before .before .before .before .before .before .before .loop .first)
     (c .before .before .before .before .before .before .chain-at .result) (c .before .before .before .before .chain-words .result)
     (c .before .before .before .before .before .before .before .before .before .before .before .before .before .before .pre .0)
     (c .before .before .before .before .before .before .before .before .loop-test .taken)
     (c .before .before .before .before .before .before .before .before .before .loop .inv .1)
-    (c .before .before .before .before .before .before .chain-at .ensures) (c .before .before .before .before .chain-words .ensures)
+    (c .before .before .before .before .before .before .chain-at .ensures h) (c .before .before .before .before .chain-words .ensures)
     (c .before .before .before .put-six .ensures)
-    (c .before .before .before .before .before .before .before .before .before .loop .inv .3) in (
+    (c .before .before .before .before .before .before .before .before .before .loop .inv .3 h) in (
       omega arith,
       ap₂ _+_ (c .before .before .before .before .before .before .before .before .before .loop .inv .1) (c .link-count .ensures)
           ∙ sym (count-more (a .s .now) (a .js .now) i (c .before .before .before .before .before .before .before .before .loop-test .taken)),
@@ -92,9 +91,9 @@ same-length c = c .before .loop .inv .2
 returns : tie.Need-returns Inv-loop μ-loop
 returns c =
     let a = c .before .before .before .before .before .before .args in
-    let ns = map (nameOf (a .s .now)) (a .ks .now) in
-    chain-end (a .s .now) ns (a .js .now) (c .before .loop .i) (c .before .before .before .before .before .before .pre .0)
-    (c .loop-test .left) (c .before .loop .inv .3)
+    let ns = namesHeld (a .s .now) (a .l) (a .n) (a .x .now) in
+    λ h. chain-end (a .s .now) ns (a .js .now) (c .before .loop .i) (c .before .before .before .before .before .before .pre .0)
+    (c .loop-test .left) (c .before .loop .inv .3 h)
 
 pub chains-spec : {M : Type 1} → statement M
 chains-spec =

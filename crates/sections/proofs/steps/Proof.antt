@@ -1,12 +1,12 @@
--- `sections::steps` meets its contract. Invariant: the steps of the first i chains are written, and the next stand at `at`.
+-- `sections::steps` meets its contract. Invariant: the steps of the first i chains are written, and the next stand at `at`. Where the part
+-- has the length of them all, they are within it.
 use borrow.Author.Needs.{needs}
 use Prim.Native.Nat.{_≤_, _+_, _-_, _*_}
-use mathlib.Core.Path.{_≡_, refl}
+use mathlib.Core.Path.{_≡_, refl, _∙_}
 use lib.ListN.{length, take}
 use Rattle.sections.specs.Written.{Written}
-use Rattle.sections.specs.PutLaws.{written-none, written-length}
-use mathlib.Core.List.{map}
-use Rattle.keys.specs.Keys.{nameOf}
+use Rattle.sections.specs.PutLaws.{written-none, put-length}
+use Rattle.index.specs.Held.{NamesHold, namesHeld}
 use Rattle.lowering.specs.Pools.{stepsWords}
 use Rattle.chains.specs.Steps.{stepsFrom}
 use Rattle.chains.specs.Kept.{stepCount}
@@ -17,14 +17,16 @@ use Rattle.sections.proofs.steps.Statement.{statement}
 use Rattle.sections.proofs.steps.Tie as tie
 
 abbrev Inv-loop : tie.InvT-loop
-Inv-loop s out₀ js ks at₀ i₀ out at i = (i ≤ length js) × (at ≡ 6 * stepCount s (take i js)) × Written out₀ out (allRows s (map (nameOf s) ks) js i)
+Inv-loop s out₀ js x l n at₀ i₀ out at i =
+    (i ≤ length js) × (at ≡ 6 * stepCount s (take i js)) × (at ≤ length out₀) × (length out ≡ length out₀) ×
+    (NamesHold s l n x → length out₀ ≡ 6 * stepCount s js → Written out₀ out (allRows s (namesHeld s l n x) js i))
 
 abbrev μ-loop : tie.MeasureT-loop
-μ-loop s out₀ js ks at₀ i₀ out at i = length js - i
+μ-loop s out₀ js x l n at₀ i₀ out at i = length js - i
 
 loop-holds : tie.Need-loop-holds Inv-loop μ-loop
 unfolding stepsWords stepsFrom stepCount
-loop-holds c = (omega arith, refl, written-none (c .before .before .before .before .args .out .now))
+loop-holds c = (omega arith, refl, omega arith, refl, λ _ _. written-none (c .before .before .before .before .args .out .now))
 
 mul-j : tie.Need-mul-j Inv-loop μ-loop
 mul-j c = search needs
@@ -38,28 +40,30 @@ link-count-requires c κs = search needs
 cast-e : tie.Need-cast-e Inv-loop μ-loop
 cast-e c = search needs
 
--- the next chain's steps are within the section
-fits :
-    (c : tie.After-link-count Inv-loop μ-loop) → let a = c .before .before .before .before .before .before .before .before .args in
-    (c .before .before .before .loop .at + 6 * c .link-count .result ≤ length (a .out .now))
-fits c =
-    let a = c .before .before .before .before .before .before .before .before .args in
-    let ns = map (nameOf (a .s .now)) (a .ks .now) in
-    let l = c .before .before .before .loop in
-    omega (
-      arith,
-      all-fits (a .s .now) ns (a .js .now) (l .i) (l .at) (c .before .before .loop-test .taken) (l .inv .1),
-      c .link-count .ensures,
-    )
-
 mul-e : tie.Need-mul-e Inv-loop μ-loop
-mul-e c = omega (arith, fits c)
+mul-e c = search needs
 
 add-e : tie.Need-add-e Inv-loop μ-loop
-add-e c = omega (arith, fits c)
+add-e c = search needs
+
+same-length : tie.Need-same-length Inv-loop μ-loop
+same-length c = search needs
+
+returns : tie.Need-returns Inv-loop μ-loop
+returns c =
+    let l = c .before .before .before .before .loop in
+    let a = c .before .before .before .before .before .before .before .before .before .args in
+    let ns = namesHeld (a .s .now) (a .l) (a .n) (a .x .now) in
+    λ _ e. absurd (omega (
+      arith,
+      all-fits (a .s .now) ns (a .js .now) (l .i) (l .at) (c .before .before .before .loop-test .taken) (l .inv .1),
+      c .before .link-count .ensures,
+      c .if1 .taken,
+      l .inv .3,
+    ))
 
 mul-chain-steps : tie.Need-mul-chain-steps Inv-loop μ-loop
-mul-chain-steps c = omega (arith, fits c)
+mul-chain-steps c = search needs
 
 sub-chain-steps : tie.Need-sub-chain-steps Inv-loop μ-loop
 sub-chain-steps c = search needs
@@ -68,7 +72,7 @@ part-chain-steps-start : tie.Need-part-chain-steps-start Inv-loop μ-loop
 part-chain-steps-start c = search needs
 
 part-chain-steps-end : tie.Need-part-chain-steps-end Inv-loop μ-loop
-part-chain-steps-end c = omega (arith, fits c, written-length (c .before .before .before .loop .inv .2))
+part-chain-steps-end c = search needs
 
 chain-steps-requires : tie.Need-chain-steps-requires Inv-loop μ-loop
 chain-steps-requires c κs = search needs
@@ -81,31 +85,31 @@ loop-less c = search needs
 
 loop-again : tie.Need-loop-again Inv-loop μ-loop
 loop-again c =
-    let a = c .before .before .before .before .before .before .before .before .before .before .before .before .args in
-    let ns = map (nameOf (a .s .now)) (a .ks .now) in
-    let l = c .before .before .before .before .before .before .before .loop in
-    let r = c .before .before .before .before .link-count .result in (
+    let part = c .before .before in
+    let count = part .before .before .before in
+    let test = count .before .before in
+    let l = test .before .loop in
+    let a = test .before .before .before .before .before .before .args in
+    let ns = namesHeld (a .s .now) (a .l) (a .n) (a .x .now) in
+    let r = count .link-count .result in
+    let within : l .at + 6 * r ≤ length (l .out) = part .before .before .if1 .left in (
       omega arith,
-      omega (
-        arith,
-        count-more (a .s .now) (a .js .now) (l .i) (c .before .before .before .before .before .before .loop-test .taken),
-        c .before .before .before .before .link-count .ensures,
-      ),
-      all-next (a .s .now) ns (a .js .now) (l .i) (l .at) (l .at + 6 * r - l .at) _
-          (c .before .before .before .before .before .before .before .before .before .before .before .before .pre .0)
-          (c .before .before .before .before .before .before .loop-test .taken) (l .inv .1)
-          (omega (arith, c .before .before .before .before .link-count .ensures)) (c .before .before .chain-steps .ensures) refl (l .inv .2),
+      omega (arith, count-more (a .s .now) (a .js .now) (l .i) (test .loop-test .taken), count .link-count .ensures),
+      omega (arith, within, l .inv .3),
+      put-length (l .out) (part .chain-steps .last .1 .0) (l .at) (l .at + 6 * r - l .at) (omega (arith, within)) (part .chain-steps .kept .1 .0) ∙ l .inv .3,
+      λ h e.
+          all-next (a .s .now) ns (a .js .now) (l .i) (l .at) (l .at + 6 * r - l .at) _ e (test .loop-test .taken) (l .inv .1)
+          (omega (arith, count .link-count .ensures)) (part .chain-steps .ensures h) refl (l .inv .4 h e),
     )
 
-same-length : tie.Need-same-length Inv-loop μ-loop
-same-length c = written-length (c .before .loop .inv .2)
+same-length-2 : tie.Need-same-length-2 Inv-loop μ-loop
+same-length-2 c = search needs
 
-returns : tie.Need-returns Inv-loop μ-loop
-returns c =
+returns-2 : tie.Need-returns-2 Inv-loop μ-loop
+returns-2 c =
     let a = c .before .before .before .before .before .before .args in
-    let ns = map (nameOf (a .s .now)) (a .ks .now) in
-    all-end (a .s .now) ns (a .js .now) (c .before .loop .i) (c .before .before .before .before .before .before .pre .0)
-    (c .loop-test .left) (c .before .loop .inv .2)
+    let ns = namesHeld (a .s .now) (a .l) (a .n) (a .x .now) in
+    λ h e. all-end (a .s .now) ns (a .js .now) (c .before .loop .i) e (c .loop-test .left) (c .before .loop .inv .4 h e)
 
 pub steps-spec : {M : Type 1} → statement M
 steps-spec =
@@ -120,6 +124,8 @@ steps-spec =
     cast-e
     mul-e
     add-e
+    same-length
+    returns
     mul-chain-steps
     sub-chain-steps
     part-chain-steps-start
@@ -128,5 +134,5 @@ steps-spec =
     add-i
     loop-less
     loop-again
-    same-length
-    returns)
+    same-length-2
+    returns-2)

@@ -1,75 +1,130 @@
--- `store::add_chain` meets its contract: one law where the entry is found, one where it is new.
+-- `store::add_chain` meets its contract: one law where the chain is found, one where it is new.
+use Prim.Native.Nat.{ℕ, _+_, _%_}
+use mathlib.Core.Path.{ap, _∙_}
+use lib.ListN.{getD, set}
 use Rattle.store.specs.AddsLaws.{chain-adds-old, chain-adds-new}
+use Rattle.store.specs.StateLaws.{chain-of}
+use Rattle.store.specs.Does.{chain-any}
 use borrow.Author.Needs.{needs}
 use Rattle.store.proofs.add_chain.Statement.{statement}
 use Rattle.store.proofs.add_chain.Tie as tie
-use Rattle.store.proofs.add_chain.Reads as reads
-use Rattle.store.proofs.add_chain.Lts as lts
-use Rattle.store.proofs.places.chains_at.Reads as chains-at-reads
-use Rattle.store.proofs.put.Reads as put-reads
-use Rattle.store.proofs.seek_chain.Reads as seek-chain-reads
-use Rattle.store.proofs.states.with_chain.Reads as with-chain-reads
 
-seek-chain-requires : tie.Need-seek-chain-requires
-seek-chain-requires c κs = search needs
+layout-of-requires : tie.Need-layout-of-requires
+layout-of-requires c κs = search needs
 
-cast-if1 : tie.Need-cast-if1
-cast-if1 c = search needs
+element-copy-out-n : tie.Need-element-copy-out-n
+element-copy-out-n c = search needs
 
-cast-t12 : tie.Need-cast-t12
-cast-t12 c = search needs
+root-local-requires : tie.Need-root-local-requires
+root-local-requires c κs = search needs
+
+element-copy-out-chain-hash : tie.Need-element-copy-out-chain-hash
+element-copy-out-chain-hash c = search needs
+
+chain-hash-requires : tie.Need-chain-hash-requires
+chain-hash-requires c κs = search needs
+
+find-chain-requires : tie.Need-find-chain-requires
+find-chain-requires c κs = search needs
 
 same-length : tie.Need-same-length
 same-length c = search needs
 
 returns : tie.Need-returns
 returns c =
-    let sk = c .before .before in
-    let a = sk .before .before .before .before .args in
-    chain-adds-old (a .l) (a .x .now) (a .st) (a .j) (sk .seek-chain .result) (sk .seek-chain .ensures) (c .if1 .taken)
+    let found = c .before in
+    let hashed = found .before .before in
+    let local = hashed .before .before .before in
+    let lay = local .before .before in
+    let start = lay .before .before .before .before in
+    chain-any (lay .layout-of .ensures)
+    (chain-adds-old (start .args .s .now) (lay .layout-of .result) (start .args .x .now) (start .args .c .now) (start .args .j) _ _
+    (local .root-local .result) (local .root-local .ensures) (hashed .chain-hash .ensures (local .root-local .ensures))
+    (found .find-chain .ensures) (c .if1 .taken))
 
-chains-at-requires : tie.Need-chains-at-requires
-chains-at-requires c κs = search needs
-
-cast-at : tie.Need-cast-at
-cast-at c = search needs
-
-add-at : tie.Need-add-at
-add-at c = search needs
+chain-place-requires : tie.Need-chain-place-requires
+chain-place-requires c κs = search needs
 
 put-requires : tie.Need-put-requires
 put-requires c κs = search needs
 
-with-chain-requires : tie.Need-with-chain-requires
-with-chain-requires c κs = search needs
+chain-index-requires : tie.Need-chain-index-requires
+chain-index-requires c κs = search needs
+
+link-requires : tie.Need-link-requires
+link-requires c κs = search needs
+
+note-requires : tie.Need-note-requires
+note-requires c κs = search needs
+
+wrapping-add-u32-requires : tie.Need-wrapping-add-u32-requires
+wrapping-add-u32-requires c κs = search needs
+
+element-write-c : tie.Need-element-write-c
+element-write-c c = search needs
+
+element-copy-out-wrapping-add-u32 : tie.Need-element-copy-out-wrapping-add-u32
+element-copy-out-wrapping-add-u32 c = search needs
+
+link-count-requires : tie.Need-link-count-requires
+link-count-requires c κs = search needs
+
+wrapping-add-u32-requires-2 : tie.Need-wrapping-add-u32-requires-2
+wrapping-add-u32-requires-2 c κs = search needs
+
+element-write-c-2 : tie.Need-element-write-c-2
+element-write-c-2 c = search needs
 
 same-length-2 : tie.Need-same-length-2
 same-length-2 c = search needs
 
 returns-2 : tie.Need-returns-2
 returns-2 c =
-    let p = c .before .before .before in
-    let at = p .before .before .before in
-    let el = at .before in
-    let sk = el .before .before in
-    let a = sk .before .before .before .before .args in
-    chain-adds-new (a .l) (a .x .now) (a .st) (a .j) (sk .seek-chain .result) (sk .seek-chain .ensures)
-    (at .chains-at .result) (p .put .last .0) (c .with-chain .result)
-    (el .if1 .left) (at .chains-at .ensures) (p .put .ensures) (c .with-chain .ensures)
+    let links = c .before in
+    let count = links .before .before in
+    let noted = count .before .before .before in
+    let linked = noted .before in
+    let index = linked .before .before in
+    let put = index .before .before .before in
+    let at = put .before in
+    let test = at .before .before in
+    let found = test .before in
+    let hashed = found .before .before in
+    let local = hashed .before .before .before in
+    let lay = local .before .before in
+    let start = lay .before .before .before .before in
+    let cells = start .args .c .now in
+    chain-any (lay .layout-of .ensures)
+    (chain-adds-new (start .args .s .now) (lay .layout-of .result) (start .args .x .now) cells (start .args .j) _ _
+    (local .root-local .result) (local .root-local .ensures) (hashed .chain-hash .ensures (local .root-local .ensures))
+    (found .find-chain .ensures) _ (test .if1 .left) (at .chain-place .ensures) (put .put .ensures) (index .chain-index .ensures)
+    (linked .link .ensures) (noted .note .ensures)
+    (λ full. chain-of cells full _ _ _ (count .wrapping-add-u32 .ensures)
+    (c .wrapping-add-u322 .ensures
+    ∙ ap (λ (n : ℕ). (getD (set cells 5 (count .wrapping-add-u32 .result)) 8 0 + n) % 4294967296) (links .link-count .ensures))))
 
 pub add-chain-spec : {M : Type 1} → statement M
 add-chain-spec =
     tie.close
     (tie.spec
-    seek-chain-requires
-    cast-if1
-    cast-t12
+    layout-of-requires
+    element-copy-out-n
+    root-local-requires
+    element-copy-out-chain-hash
+    chain-hash-requires
+    find-chain-requires
     same-length
     returns
-    chains-at-requires
-    cast-at
-    add-at
+    chain-place-requires
     put-requires
-    with-chain-requires
+    chain-index-requires
+    link-requires
+    note-requires
+    wrapping-add-u32-requires
+    element-write-c
+    element-copy-out-wrapping-add-u32
+    link-count-requires
+    wrapping-add-u32-requires-2
+    element-write-c-2
     same-length-2
     returns-2)

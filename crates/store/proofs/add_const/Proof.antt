@@ -1,75 +1,93 @@
 -- `store::add_const` meets its contract: one law where the entry is found, one where it is new.
-use Rattle.store.specs.AddsLaws.{const-adds-old, const-adds-new}
+use Rattle.store.specs.AddsLaws.{finds-at, const-adds-old, const-adds-new}
+use Rattle.store.specs.StateLaws.{const-of}
+use Rattle.store.specs.Does.{adds-any}
 use borrow.Author.Needs.{needs}
 use Rattle.store.proofs.add_const.Statement.{statement}
 use Rattle.store.proofs.add_const.Tie as tie
-use Rattle.store.proofs.add_const.Reads as reads
-use Rattle.store.proofs.add_const.Lts as lts
-use Rattle.store.proofs.places.consts_at.Reads as consts-at-reads
-use Rattle.store.proofs.put.Reads as put-reads
-use Rattle.store.proofs.seek_const.Reads as seek-const-reads
-use Rattle.store.proofs.states.with_const.Reads as with-const-reads
+
+layout-of-requires : tie.Need-layout-of-requires
+layout-of-requires c κs = search needs
+
+element-copy-out-n : tie.Need-element-copy-out-n
+element-copy-out-n c = search needs
+
+const-hash-requires : tie.Need-const-hash-requires
+const-hash-requires c κs = search needs
+
+const-index-requires : tie.Need-const-index-requires
+const-index-requires c κs = search needs
 
 seek-const-requires : tie.Need-seek-const-requires
 seek-const-requires c κs = search needs
-
-cast-if1 : tie.Need-cast-if1
-cast-if1 c = search needs
-
-cast-t12 : tie.Need-cast-t12
-cast-t12 c = search needs
 
 same-length : tie.Need-same-length
 same-length c = search needs
 
 returns : tie.Need-returns
 returns c =
-    let sk = c .before .before in
-    let a = sk .before .before .before .before .args in
-    const-adds-old (a .l) (a .x .now) (a .st) (a .j) (sk .seek-const .result) (sk .seek-const .ensures) (c .if1 .taken)
+    let p4 = c .before .before .before .before in
+    let p6 = p4 .before .before in
+    let p10 = p6 .before .before .before .before in
+    adds-any (p6 .layout-of .ensures)
+    (const-adds-old (p10 .args .s .now) (p6 .layout-of .result) (p10 .args .x .now) (p10 .args .c .now) (p10 .args .j) _ _
+    (p4 .const-hash .ensures) (finds-at (c .before .before .before .const-index .ensures) (c .before .seek-const .ensures)) (c .if1 .taken))
 
-consts-at-requires : tie.Need-consts-at-requires
-consts-at-requires c κs = search needs
-
-cast-at : tie.Need-cast-at
-cast-at c = search needs
-
-add-at : tie.Need-add-at
-add-at c = search needs
+const-place-requires : tie.Need-const-place-requires
+const-place-requires c κs = search needs
 
 put-requires : tie.Need-put-requires
 put-requires c κs = search needs
 
-with-const-requires : tie.Need-with-const-requires
-with-const-requires c κs = search needs
+link-requires : tie.Need-link-requires
+link-requires c κs = search needs
+
+note-requires : tie.Need-note-requires
+note-requires c κs = search needs
+
+wrapping-add-u32-requires : tie.Need-wrapping-add-u32-requires
+wrapping-add-u32-requires c κs = search needs
+
+element-write-c : tie.Need-element-write-c
+element-write-c c = search needs
 
 same-length-2 : tie.Need-same-length-2
 same-length-2 c = search needs
 
 returns-2 : tie.Need-returns-2
 returns-2 c =
-    let p = c .before .before .before in
-    let at = p .before .before .before in
-    let el = at .before in
-    let sk = el .before .before in
-    let a = sk .before .before .before .before .args in
-    const-adds-new (a .l) (a .x .now) (a .st) (a .j) (sk .seek-const .result) (sk .seek-const .ensures)
-    (at .consts-at .result) (p .put .last .0) (c .with-const .result)
-    (el .if1 .left) (at .consts-at .ensures) (p .put .ensures) (c .with-const .ensures)
+    let p3 = c .before .before .before in
+    let p4 = p3 .before in
+    let p8 = p4 .before .before .before .before in
+    let p9 = p8 .before in
+    let p11 = p9 .before .before in
+    let p14 = p11 .before .before .before in
+    let p15 = p14 .before in
+    let p17 = p15 .before .before in
+    let p21 = p17 .before .before .before .before in
+    adds-any (p17 .layout-of .ensures)
+    (const-adds-new (p21 .args .s .now) (p17 .layout-of .result) (p21 .args .x .now) (p21 .args .c .now) (p21 .args .j) _ _
+    (p15 .const-hash .ensures)
+    (finds-at (p14 .const-index .ensures) (p11 .before .seek-const .ensures)) _ (p11 .if1 .left) (p9 .const-place .ensures) (p8 .put .ensures)
+    (p14 .const-index .ensures) (p4 .link .ensures) (p3 .note .ensures)
+    (λ full. const-of (p21 .args .c .now) full _ (c .wrapping-add-u32 .ensures)))
 
 pub add-const-spec : {M : Type 1} → statement M
 add-const-spec =
     tie.close
     (tie.spec
+    layout-of-requires
+    element-copy-out-n
+    const-hash-requires
+    const-index-requires
     seek-const-requires
-    cast-if1
-    cast-t12
     same-length
     returns
-    consts-at-requires
-    cast-at
-    add-at
+    const-place-requires
     put-requires
-    with-const-requires
+    link-requires
+    note-requires
+    wrapping-add-u32-requires
+    element-write-c
     same-length-2
     returns-2)

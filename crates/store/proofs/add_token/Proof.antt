@@ -1,73 +1,94 @@
 -- `store::add_token` meets its contract: one law where the entry is found, one where it is new.
 use Rattle.store.specs.AddsLaws.{token-adds-old, token-adds-new}
+use Rattle.store.specs.StateLaws.{token-of}
+use Rattle.store.specs.Does.{adds-any}
 use borrow.Author.Needs.{needs}
 use Rattle.store.proofs.add_token.Statement.{statement}
 use Rattle.store.proofs.add_token.Tie as tie
 
-field-c-requires : tie.Need-field-c-requires
-field-c-requires c κs = search needs
+layout-of-requires : tie.Need-layout-of-requires
+layout-of-requires c κs = search needs
 
-seek-token-requires : tie.Need-seek-token-requires
-seek-token-requires c κs = search needs
+element-copy-out-n : tie.Need-element-copy-out-n
+element-copy-out-n c = search needs
 
-cast-if1 : tie.Need-cast-if1
-cast-if1 c = search needs
+token-hash-requires : tie.Need-token-hash-requires
+token-hash-requires c κs = search needs
 
-cast-t13 : tie.Need-cast-t13
-cast-t13 c = search needs
+find-token-requires : tie.Need-find-token-requires
+find-token-requires c κs = search needs
 
 same-length : tie.Need-same-length
 same-length c = search needs
 
 returns : tie.Need-returns
 returns c =
-    let sk = c .before .before in
-    let a = sk .before .before .before .before .before .args in
-    token-adds-old (a .l) (a .x .now) (a .st) (a .j) (sk .seek-token .result) _ (sk .before .field-c .ensures) (sk .seek-token .ensures) (c .if1 .taken)
+    let found = c .before in
+    let hashed = found .before .before in
+    let lay = hashed .before .before in
+    let start = lay .before .before .before .before in
+    adds-any (lay .layout-of .ensures)
+    (token-adds-old (start .args .s .now) (lay .layout-of .result) (start .args .x .now) (start .args .c .now) (start .args .j) _ _
+    (hashed .token-hash .ensures) (found .find-token .ensures) (c .if1 .taken))
 
-tokens-at-requires : tie.Need-tokens-at-requires
-tokens-at-requires c κs = search needs
-
-cast-at : tie.Need-cast-at
-cast-at c = search needs
-
-add-at : tie.Need-add-at
-add-at c = search needs
+token-place-requires : tie.Need-token-place-requires
+token-place-requires c κs = search needs
 
 put-requires : tie.Need-put-requires
 put-requires c κs = search needs
 
-with-token-requires : tie.Need-with-token-requires
-with-token-requires c κs = search needs
+token-index-requires : tie.Need-token-index-requires
+token-index-requires c κs = search needs
+
+link-requires : tie.Need-link-requires
+link-requires c κs = search needs
+
+note-requires : tie.Need-note-requires
+note-requires c κs = search needs
+
+wrapping-add-u32-requires : tie.Need-wrapping-add-u32-requires
+wrapping-add-u32-requires c κs = search needs
+
+element-write-c : tie.Need-element-write-c
+element-write-c c = search needs
 
 same-length-2 : tie.Need-same-length-2
 same-length-2 c = search needs
 
 returns-2 : tie.Need-returns-2
 returns-2 c =
-    let p = c .before .before .before in
-    let at = p .before .before .before in
-    let el = at .before in
-    let sk = el .before .before in
-    let a = sk .before .before .before .before .before .args in
-    token-adds-new (a .l) (a .x .now) (a .st) (a .j) (sk .seek-token .result) _ (sk .before .field-c .ensures) (sk .seek-token .ensures)
-    (at .tokens-at .result) (p .put .last .0) (c .with-token .result)
-    (el .if1 .left) (at .tokens-at .ensures) (p .put .ensures) (c .with-token .ensures)
+    let noted = c .before .before .before in
+    let linked = noted .before in
+    let index = linked .before .before in
+    let put = index .before .before .before in
+    let at = put .before in
+    let test = at .before .before in
+    let found = test .before in
+    let hashed = found .before .before in
+    let lay = hashed .before .before in
+    let start = lay .before .before .before .before in
+    adds-any (lay .layout-of .ensures)
+    (token-adds-new (start .args .s .now) (lay .layout-of .result) (start .args .x .now) (start .args .c .now) (start .args .j) _ _
+    (hashed .token-hash .ensures) (found .find-token .ensures) _ (test .if1 .left) (at .token-place .ensures) (put .put .ensures)
+    (index .token-index .ensures) (linked .link .ensures) (noted .note .ensures)
+    (λ full. token-of (start .args .c .now) full _ (c .wrapping-add-u32 .ensures)))
 
 pub add-token-spec : {M : Type 1} → statement M
 add-token-spec =
     tie.close
     (tie.spec
-    field-c-requires
-    seek-token-requires
-    cast-if1
-    cast-t13
+    layout-of-requires
+    element-copy-out-n
+    token-hash-requires
+    find-token-requires
     same-length
     returns
-    tokens-at-requires
-    cast-at
-    add-at
+    token-place-requires
     put-requires
-    with-token-requires
+    token-index-requires
+    link-requires
+    note-requires
+    wrapping-add-u32-requires
+    element-write-c
     same-length-2
     returns-2)

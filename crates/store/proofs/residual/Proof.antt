@@ -1,54 +1,66 @@
 -- `store::residual` meets its contract: an instruction, and a residual behind it.
+use Prim.Native.Nat.{_+_}
+use lib.ListN.{getD}
+use mathlib.Core.Path.{ap, _∙_}
+use Rattle.scratch.specs.declared.Layout.{Layout}
+use Rattle.scratch.specs.Places.{residualsAt}
+use Rattle.store.specs.StateLaws.{residual-of}
 use Rattle.store.specs.ResidualLaws.{residual-does}
 use borrow.Author.Needs.{needs}
 use Rattle.store.proofs.residual.Statement.{statement}
 use Rattle.store.proofs.residual.Tie as tie
-use Rattle.store.proofs.residual.Reads as reads
-use Rattle.store.proofs.residual.Lts as lts
-use Rattle.store.proofs.emit.Reads as emit-reads
-use Rattle.store.proofs.places.residuals_at.Reads as residuals-at-reads
-use Rattle.store.proofs.put.Reads as put-reads
-use Rattle.store.proofs.states.with_residual.Reads as with-residual-reads
+
+element-copy-out-e : tie.Need-element-copy-out-e
+element-copy-out-e c = search needs
 
 emit-requires : tie.Need-emit-requires
 emit-requires c κs = search needs
 
-residuals-at-requires : tie.Need-residuals-at-requires
-residuals-at-requires c κs = search needs
+element-copy-out-r : tie.Need-element-copy-out-r
+element-copy-out-r c = search needs
 
-cast-at : tie.Need-cast-at
-cast-at c = search needs
+layout-of-requires : tie.Need-layout-of-requires
+layout-of-requires c κs = search needs
 
-add-at : tie.Need-add-at
-add-at c = search needs
+residual-place-requires : tie.Need-residual-place-requires
+residual-place-requires c κs = search needs
 
 put-requires : tie.Need-put-requires
 put-requires c κs = search needs
 
-with-residual-requires : tie.Need-with-residual-requires
-with-residual-requires c κs = search needs
+wrapping-add-u32-requires : tie.Need-wrapping-add-u32-requires
+wrapping-add-u32-requires c κs = search needs
+
+element-write-c : tie.Need-element-write-c
+element-write-c c = search needs
 
 same-length : tie.Need-same-length
 same-length c = search needs
 
 returns : tie.Need-returns
-returns c =
-    let p = c .before .before .before in
-    let at = p .before .before .before in
-    let e = at .before .before .before in
-    let a = e .before .before .before .args in
-    λ s. residual-does (a .j) (at .residuals-at .result) (p .put .last .0) (c .with-residual .result)
-    (e .emit .ensures s tt) (at .residuals-at .ensures) (p .put .ensures) (c .with-residual .ensures)
+returns c = λ l table s.
+    let put = c .before .before .before in
+    let at = put .before .before in
+    let lay = at .before in
+    let emitted = lay .before .before .before .before .before in
+    let start = emitted .before .before .before .before .before in
+    residual-does (emitted .emit .last .1 .0) (start .args .j) (at .residual-place .result) (put .put .last .0) _
+    (λ m. emitted .emit .ensures m table s tt)
+    (at .residual-place .ensures ∙ ap (λ (m : Layout). residualsAt m + getD (emitted .emit .last .1 .0) 4 0) (lay .layout-of .ensures))
+    (put .put .ensures)
+    (λ full. residual-of (emitted .emit .last .1 .0) full _ (c .wrapping-add-u32 .ensures)) l
 
 pub residual-spec : {M : Type 1} → statement M
 residual-spec =
     tie.close
     (tie.spec
+    element-copy-out-e
     emit-requires
-    residuals-at-requires
-    cast-at
-    add-at
+    element-copy-out-r
+    layout-of-requires
+    residual-place-requires
     put-requires
-    with-residual-requires
+    wrapping-add-u32-requires
+    element-write-c
     same-length
     returns)

@@ -35,31 +35,45 @@ unless-requires : tie.Need-unless-requires
 unless-requires c κs = search needs
 
 returns : tie.Need-returns
-returns c = λ s. after-nothing _ _ _ (c .enum-told .given .1)
+returns c = λ l table.
+    λ s. after-nothing _ _ _ (c .enum-told .given .1)
 
 same-length : tie.Need-same-length
 same-length c = search needs
 
 returns-2 : tie.Need-returns-2
-returns-2 c = λ s. after-check _ _ _ (c .before .before .before .before .enum-told2 .given .1) (c .before .before .emit .ensures s tt)
+returns-2 c = λ l table.
+    let p2 = c .before .before in
+    let p5 = p2 .before .before .before in
+    λ s. after-check _ _ _ (p5 .enum-told2 .given .1) (p2 .emit .ensures l table s tt)
 
 same-length-2 : tie.Need-same-length-2
 same-length-2 c = search needs
 
 returns-3 : tie.Need-returns-3
-returns-3 c = λ s. after-append _ _ _ (c .before .before .before .before .enum-told3 .given .1) (c .before .before .emit2 .ensures s tt)
+returns-3 c = λ l table.
+    let p2 = c .before .before in
+    let p5 = p2 .before .before .before in
+    λ s. after-append _ _ _ (p5 .enum-told3 .given .1) (p2 .emit2 .ensures l table s tt)
 
 same-length-3 : tie.Need-same-length-3
 same-length-3 c = search needs
 
 returns-4 : tie.Need-returns-4
-returns-4 c = λ s. after-decide _ _ _ _ _ _ (c .before .before .before .before .before .before .by .given .1) (c .before .before .before .jump-on .ensures) (c .before .before .emit3 .ensures s)
+returns-4 c = λ l table.
+    let p2 = c .before .before in
+    let p3 = p2 .before in
+    let p7 = p3 .before .before .before .before in
+    λ s. after-decide _ _ _ _ _ _ (p7 .by .given .1) (p3 .jump-on .ensures) (p2 .emit3 .ensures l table s)
 
 same-length-4 : tie.Need-same-length-4
 same-length-4 c = search needs
 
 returns-5 : tie.Need-returns-5
-returns-5 c = λ s. after-unless _ _ _ _ (c .before .before .before .before .before .by2 .given .1) (c .before .before .unless .ensures s _)
+returns-5 c = λ l table.
+    let p2 = c .before .before in
+    let p6 = p2 .before .before .before .before in
+    λ s. after-unless _ _ _ _ (p6 .by2 .given .1) (p2 .unless .ensures l table s _)
 
 pub after-one-spec : {M : Type 1} → statement M
 after-one-spec =

@@ -3,9 +3,6 @@ use Rattle.compile.specs.AfterLaws.{jump-on-false, jump-on-true, after-n
 use borrow.Author.Needs.{needs}
 use Rattle.compile.proofs.after.unless.Statement.{statement}
 use Rattle.compile.proofs.after.unless.Tie as tie
-use Rattle.compile.proofs.after.unless.Reads as reads
-use Rattle.compile.proofs.after.unless.Lts as lts
-use Rattle.store.proofs.emit.Reads as emit-reads
 
 emit-requires : tie.Need-emit-requires
 emit-requires c κs = search needs
@@ -17,7 +14,11 @@ same-length : tie.Need-same-length
 same-length c = search needs
 
 returns : tie.Need-returns
-returns c = λ s i. unless-does _ i _ (c .before .before .before .before .before .before .emit .ensures s tt) (c .before .before .emit2 .ensures s tt)
+returns c = λ l table.
+    let p2 = c .before .before in
+    let p6 = p2 .before .before .before .before in
+    let p7 = p6 .before in
+    λ s i. unless-does _ i _ (p7 .emit .ensures l table s tt) (p2 .emit2 .ensures l table s tt)
 
 pub unless-spec : {M : Type 1} → statement M
 unless-spec = tie.close (tie.spec emit-requires emit-requires-2 same-length returns)

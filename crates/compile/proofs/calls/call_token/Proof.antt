@@ -4,11 +4,6 @@ use Rattle.compile.specs.CallDoes.{call-token-does}
 use borrow.Author.Needs.{needs}
 use Rattle.compile.proofs.calls.call_token.Statement.{statement}
 use Rattle.compile.proofs.calls.call_token.Tie as tie
-use Rattle.compile.proofs.calls.call_token.Reads as reads
-use Rattle.compile.proofs.calls.call_token.Lts as lts
-use Rattle.compile.proofs.calls.call_as.Reads as call-as-reads
-use Rattle.compile.proofs.calls.one_more.Reads as one-more-reads
-use Rattle.store.proofs.add_token.Reads as add-token-reads
 
 add-token-requires : tie.Need-add-token-requires
 add-token-requires c κs = search needs
@@ -23,7 +18,12 @@ same-length : tie.Need-same-length
 same-length c = search needs
 
 returns : tie.Need-returns
-returns c = λ p n v. call-token-does _ _ (c .before .before .before .one-more .ensures) (c .before .before .before .before .before .before .before .add-token .ensures .place) (c .before .before .before .before .before .before .before .add-token .ensures .does v) (c .before .before .call-as .ensures p n (omega arith) v)
+returns c = λ l table.
+    let p2 = c .before .before in
+    let p3 = p2 .before in
+    let p7 = p3 .before .before .before .before in
+    let p8 = p7 .before in
+    λ p n v t. call-token-does _ _ (p3 .one-more .ensures) (p8 .add-token .ensures l .place) (p8 .add-token .ensures l .does t) (p2 .call-as .ensures l table p n (omega arith) v)
 
 pub call-token-spec : {M : Type 1} → statement M
 call-token-spec =

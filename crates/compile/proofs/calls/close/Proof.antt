@@ -64,51 +64,77 @@ same-length : tie.Need-same-length
 same-length c = search needs
 
 returns : tie.Need-returns
-returns c =
-    let at-pos = c .before .before .before .position .ensures ∙ ap (position (c .before .before .before .before .before .before .before .before .before .before .args .s .now)) (c .before .before .before .before .child .ensures) in
-    close-make _ _ _ _ (c .before .before .before .before .before .before .enum-told .given .1) at-pos (c .before .before .emit .ensures _ tt)
+returns c = λ l table.
+    let p2 = c .before .before in
+    let p3 = p2 .before in
+    let p4 = p3 .before in
+    let p7 = p4 .before .before .before in
+    let p11 = p7 .before .before .before .before in
+    let at-pos = p3 .position .ensures ∙ ap (position (p11 .args .s .now)) (p4 .child .ensures) in
+    close-make _ _ _ _ (p7 .enum-told .given .1) at-pos (p2 .emit .ensures l table _ tt)
 
 same-length-2 : tie.Need-same-length-2
 same-length-2 c = search needs
 
 returns-2 : tie.Need-returns-2
-returns-2 c = close-pointer _ _ _ (c .before .before .before .before .enum-told2 .given .1) (c .before .before .close-pointer .ensures)
+returns-2 c = λ l table.
+    let p2 = c .before .before in
+    let p5 = p2 .before .before .before in
+    close-pointer _ _ _ (p5 .enum-told2 .given .1) (p2 .close-pointer .ensures l table)
 
 same-length-3 : tie.Need-same-length-3
 same-length-3 c = search needs
 
 returns-3 : tie.Need-returns-3
-returns-3 c = close-local _ _ _ _ (c .before .before .before .before .before .w .given .1) (c .before .before .call-ref .ensures)
+returns-3 c = λ l table.
+    let p2 = c .before .before in
+    let p6 = p2 .before .before .before .before in
+    close-local _ _ _ _ (p6 .w .given .1) (p2 .call-ref .ensures l table)
 
 same-length-4 : tie.Need-same-length-4
 same-length-4 c = search needs
 
 returns-4 : tie.Need-returns-4
-returns-4 c = close-name _ _ _ (c .before .before .before .before .enum-told3 .given .1) (c .before .before .close-named .ensures)
+returns-4 c = λ l table.
+    let p2 = c .before .before in
+    let p5 = p2 .before .before .before in
+    close-name _ _ _ (p5 .enum-told3 .given .1) (p2 .close-named .ensures l table)
 
 same-length-5 : tie.Need-same-length-5
 same-length-5 c = search needs
 
 returns-5 : tie.Need-returns-5
-returns-5 c = close-this _ _ _ (c .before .before .before .before .enum-told4 .given .1) (c .before .before .call-ref2 .ensures)
+returns-5 c = λ l table.
+    let p2 = c .before .before in
+    let p5 = p2 .before .before .before in
+    close-this _ _ _ (p5 .enum-told4 .given .1) (p2 .call-ref2 .ensures l table)
 
 same-length-6 : tie.Need-same-length-6
 same-length-6 c = search needs
 
 returns-6 : tie.Need-returns-6
-returns-6 c = close-value _ _ _ (c .before .before .before .before .enum-told5 .given .1) (c .before .before .call-end .ensures)
+returns-6 c = λ l table.
+    let p2 = c .before .before in
+    let p5 = p2 .before .before .before in
+    close-value _ _ _ (p5 .enum-told5 .given .1) (p2 .call-end .ensures l table)
 
 same-length-7 : tie.Need-same-length-7
 same-length-7 c = search needs
 
 returns-7 : tie.Need-returns-7
-returns-7 c = close-eval _ _ _ (c .before .before .before .before .enum-told6 .given .1) (c .before .before .residual .ensures _)
+returns-7 c = λ l table.
+    let p2 = c .before .before in
+    let p5 = p2 .before .before .before in
+    close-eval _ _ _ (p5 .enum-told6 .given .1) (p2 .residual .ensures l table _)
 
 same-length-8 : tie.Need-same-length-8
 same-length-8 c = search needs
 
 returns-8 : tie.Need-returns-8
-returns-8 c = close-kept _ _ _ (c .before .before .before .before .enum-told7 .given .1) (c .before .before .residual2 .ensures _)
+returns-8 c = λ l table.
+    let p2 = c .before .before in
+    let p5 = p2 .before .before .before in
+    close-kept _ _ _ (p5 .enum-told7 .given .1) (p2 .residual2 .ensures l table _)
 
 pub close-spec : {M : Type 1} → statement M
 close-spec =

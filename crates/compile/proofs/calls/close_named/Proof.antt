@@ -32,11 +32,22 @@ same-length : tie.Need-same-length
 same-length c = search needs
 
 returns : tie.Need-returns
-returns c =
-    let s = c .before .before .before .before .before .before .before .before .before .before .before .before .before .before .before .before .before .before .args .s .now in
-    let others = c .before .before .before .before .before .before .before .one-less .ensures ∙ ap (λ (n : ℕ). n - 1) (c .before .before .before .before .before .before .before .before .count .ensures) in
-    let at-pos = c .before .before .before .before .before .before .before .before .before .before .before .before .before .position .ensures ∙ ap (position s) (c .before .before .before .before .before .before .before .before .before .before .before .before .before .before .child .ensures) in
-    λ p n v. close-named-does _ _ _ _ others at-pos (c .before .before .before .before .before .before .before .before .before .before .before .before .emit .ensures _ tt) (c .before .before .before .before .before .before .rotate .ensures _) (c .before .before .call-ref .ensures p n v)
+returns c = λ l table.
+    let p2 = c .before .before in
+    let p6 = p2 .before .before .before .before in
+    let p7 = p6 .before in
+    let p8 = p7 .before in
+    let p9 = p8 .before in
+    let p13 = p9 .before .before .before .before in
+    let p14 = p13 .before in
+    let p15 = p14 .before in
+    let p16 = p15 .before in
+    let p20 = p16 .before .before .before .before in
+    let p21 = p20 .before in
+    let s = p21 .args .s .now in
+    let others = p8 .one-less .ensures ∙ ap (λ (n : ℕ). n - 1) (p9 .count .ensures) in
+    let at-pos = p15 .position .ensures ∙ ap (position s) (p16 .child .ensures) in
+    λ p n v. close-named-does _ _ _ _ others at-pos (p14 .emit .ensures l table _ tt) (p7 .rotate .ensures l table _) (p2 .call-ref .ensures l table p n v)
 
 pub close-named-spec : {M : Type 1} → statement M
 close-named-spec =

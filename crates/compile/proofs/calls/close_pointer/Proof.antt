@@ -25,9 +25,14 @@ same-length : tie.Need-same-length
 same-length c = search needs
 
 returns : tie.Need-returns
-returns c =
-    let others = c .before .before .before .before .before .before .one-less .ensures ∙ ap (λ (n : ℕ). n - 1) (c .before .before .before .before .before .before .before .count .ensures) in
-    close-pointer-does _ _ _ _ others (c .before .before .before .before .before .field-b .ensures) (c .before .before .before .position .ensures) (c .before .before .emit .ensures _ tt)
+returns c = λ l table.
+    let p2 = c .before .before in
+    let p3 = p2 .before in
+    let p6 = p3 .before .before .before in
+    let p7 = p6 .before in
+    let p8 = p7 .before in
+    let others = p7 .one-less .ensures ∙ ap (λ (n : ℕ). n - 1) (p8 .count .ensures) in
+    close-pointer-does _ _ _ _ others (p6 .field-b .ensures) (p3 .position .ensures) (p2 .emit .ensures l table _ tt)
 
 pub close-pointer-spec : {M : Type 1} → statement M
 close-pointer-spec =

@@ -47,38 +47,52 @@ enum-told-8 : tie.Need-enum-told-8
 enum-told-8 c = search needs
 
 returns : tie.Need-returns
-returns c = open-make _ _ (c .enum-told .given .1)
+returns c = λ l table.
+    open-make _ _ (c .enum-told .given .1)
 
 returns-2 : tie.Need-returns-2
-returns-2 c = open-pointer _ _ (c .enum-told2 .given .1)
+returns-2 c = λ l table.
+    open-pointer _ _ (c .enum-told2 .given .1)
 
 returns-3 : tie.Need-returns-3
-returns-3 c = open-local _ _ _ (c .enum-told3 .given .1)
+returns-3 c = λ l table.
+    open-local _ _ _ (c .enum-told3 .given .1)
 
 same-length : tie.Need-same-length
 same-length c = search needs
 
 returns-4 : tie.Need-returns-4
-returns-4 c =
-    let named = c .before .before .add-name .ensures in
-    open-named _ _ _ _ (c .before .before .before .before .before .enum-told4 .given .1) (c .before .before .before .child .ensures) (named .0 (lit< tt)) (λ a u h. named .1 a (lit< tt) u h)
+returns-4 c = λ l table.
+    let p2 = c .before .before in
+    let p3 = p2 .before in
+    let p6 = p3 .before .before .before in
+    let named = p2 .add-name .ensures l in
+    open-named _ _ _ _ (p6 .enum-told4 .given .1) (p3 .child .ensures) (named .0 (lit< tt)) (λ a u h. named .1 a (lit< tt) u h)
 
 same-length-2 : tie.Need-same-length-2
 same-length-2 c = search needs
 
 returns-5 : tie.Need-returns-5
-returns-5 c =
-    let at-pos = c .before .before .before .position .ensures ∙ ap (position (c .before .before .before .before .before .before .before .before .before .before .args .s .now)) (c .before .before .before .before .child2 .ensures) in
-    open-this _ _ _ (c .before .before .before .before .before .before .enum-told5 .given .1) at-pos (c .before .before .emit .ensures _ tt)
+returns-5 c = λ l table.
+    let p2 = c .before .before in
+    let p3 = p2 .before in
+    let p4 = p3 .before in
+    let p7 = p4 .before .before .before in
+    let p11 = p7 .before .before .before .before in
+    let at-pos = p3 .position .ensures ∙ ap (position (p11 .args .s .now)) (p4 .child2 .ensures) in
+    open-this _ _ _ (p7 .enum-told5 .given .1) at-pos (p2 .emit .ensures l table _ tt)
 
 returns-6 : tie.Need-returns-6
-returns-6 c = open-value _ _ (c .enum-told6 .given .1)
+returns-6 c = λ l table.
+    open-value _ _ (c .enum-told6 .given .1)
 
 returns-7 : tie.Need-returns-7
-returns-7 c = open-eval _ _ (c .enum-told7 .given .1)
+returns-7 c = λ l table.
+    open-eval _ _ (c .enum-told7 .given .1)
 
 returns-8 : tie.Need-returns-8
-returns-8 c = open-kept _ _ (c .enum-told8 .given .1)
+returns-8 c = λ l table.
+    open-kept _ _ (c .enum-told8 .given .1)
 
 pub open-spec : {M : Type 1} → statement M
 open-spec =

@@ -6,7 +6,8 @@ use Rattle.compile.proofs.calls.rotate.Statement.{statement}
 use Rattle.compile.proofs.calls.rotate.Tie as tie
 
 returns : tie.Need-returns
-returns c = λ s. rotate-none _ (c .if1 .taken)
+returns c = λ l table.
+    λ s. rotate-none _ (c .if1 .taken)
 
 emit-requires : tie.Need-emit-requires
 emit-requires c κs = search needs
@@ -15,7 +16,9 @@ same-length : tie.Need-same-length
 same-length c = search needs
 
 returns-2 : tie.Need-returns-2
-returns-2 c = λ s. rotate-some _ (omega arith) (c .before .before .emit .ensures s tt)
+returns-2 c = λ l table.
+    let p2 = c .before .before in
+    λ s. rotate-some _ (omega arith) (p2 .emit .ensures l table s tt)
 
 pub rotate-spec : {M : Type 1} → statement M
 rotate-spec = tie.close (tie.spec returns emit-requires same-length returns-2)

@@ -3,13 +3,9 @@ use Rattle.compile.specs.EndDoes.{verdict-holds, held-at-depth}
 use borrow.Author.Needs.{needs}
 use Rattle.compile.proofs.ends.verdict.Statement.{statement}
 use Rattle.compile.proofs.ends.verdict.Tie as tie
-use Rattle.compile.proofs.ends.verdict.Reads as reads
-use Rattle.compile.proofs.ends.verdict.Lts as lts
-use Rattle.store.proofs.at_depth.Reads as at-depth-reads
-use Rattle.store.proofs.emit.Reads as emit-reads
 
-sub-t12 : tie.Need-sub-t12
-sub-t12 c = search needs
+sub-t11 : tie.Need-sub-t11
+sub-t11 c = search needs
 
 emit-requires : tie.Need-emit-requires
 emit-requires c κs = search needs
@@ -27,13 +23,20 @@ same-length : tie.Need-same-length
 same-length c = search needs
 
 returns : tie.Need-returns
-returns c = λ s a few h room. verdict-holds (c .before .before .before .before .before .before .before .before .before .before .before .before .before .before .args .stop) (c .before .before .before .before .before .before .before .before .before .before .before .before .before .before .args .end) (c .before .before .before .before .before .before .before .before .before .before .before .before .before .before .args .d) a few h room (c .before .before .before .before .before .before .before .before .before .before .before .emit .ensures s tt) (c .before .before .before .before .before .before .before .emit2 .ensures s tt) (λ b g k. held-at-depth (c .before .before .before .before .at-depth .ensures) g k) (c .before .before .emit3 .ensures s tt)
+returns c = λ l table.
+    let p2 = c .before .before in
+    let p5 = p2 .before .before .before in
+    let p9 = p5 .before .before .before .before in
+    let p13 = p9 .before .before .before .before in
+    let p14 = p13 .before in
+    let p18 = p14 .before .before .before .before in
+    λ s a few h room. verdict-holds (p18 .args .stop) (p18 .args .end) (p18 .args .d) a few h room (p14 .emit .ensures l table s tt) (p9 .emit2 .ensures l table s tt) (λ b g k. held-at-depth (p9 .emit2 .last .1 .0) (p5 .at-depth .ensures) g k) (p2 .emit3 .ensures l table s tt)
 
 pub verdict-spec : {M : Type 1} → statement M
 verdict-spec =
     tie.close
     (tie.spec
-    sub-t12
+    sub-t11
     emit-requires
     emit-requires-2
     at-depth-requires

@@ -3,10 +3,6 @@ use Rattle.compile.specs.LeafDoes.{constant-does, load-named-does, varia
 use borrow.Author.Needs.{needs}
 use Rattle.compile.proofs.leaves.constant.Statement.{statement}
 use Rattle.compile.proofs.leaves.constant.Tie as tie
-use Rattle.compile.proofs.leaves.constant.Reads as reads
-use Rattle.compile.proofs.leaves.constant.Lts as lts
-use Rattle.store.proofs.add_const.Reads as add-const-reads
-use Rattle.store.proofs.emit.Reads as emit-reads
 
 add-const-requires : tie.Need-add-const-requires
 add-const-requires c κs = search needs
@@ -18,7 +14,11 @@ same-length : tie.Need-same-length
 same-length c = search needs
 
 returns : tie.Need-returns
-returns c = λ v. constant-does _ (c .before .before .before .before .before .before .add-const .ensures .place) (c .before .before .before .before .before .before .add-const .ensures .does v) (c .before .before .emit .ensures _ tt)
+returns c = λ l table.
+    let p2 = c .before .before in
+    let p6 = p2 .before .before .before .before in
+    let p7 = p6 .before in
+    λ v. constant-does _ (p7 .add-const .ensures l .place) (p7 .add-const .ensures l .does v) (p2 .emit .ensures l table _ tt)
 
 pub constant-spec : {M : Type 1} → statement M
 constant-spec = tie.close (tie.spec add-const-requires emit-requires same-length returns)

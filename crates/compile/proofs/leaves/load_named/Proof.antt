@@ -18,9 +18,13 @@ same-length : tie.Need-same-length
 same-length c = search needs
 
 returns : tie.Need-returns
-returns c =
-    let named = c .before .before .before .before .before .before .before .add-name .ensures in
-    λ p v. load-named-does _ _ p (c .before .before .before .position .ensures) (λ a h. named .1 a (lit< tt) v h) (named .0 (lit< tt) v) (c .before .before .emit .ensures _ tt)
+returns c = λ l table.
+    let p2 = c .before .before in
+    let p3 = p2 .before in
+    let p7 = p3 .before .before .before .before in
+    let p8 = p7 .before in
+    let named = p8 .add-name .ensures l in
+    λ p v. load-named-does _ _ p (p3 .position .ensures) (λ a h. named .1 a (lit< tt) v h) (named .0 (lit< tt) v) (p2 .emit .ensures l table _ tt)
 
 pub load-named-spec : {M : Type 1} → statement M
 load-named-spec =

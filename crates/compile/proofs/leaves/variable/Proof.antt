@@ -35,19 +35,31 @@ same-length : tie.Need-same-length
 same-length c = search needs
 
 returns : tie.Need-returns
-returns c =
-    let s = c .before .before .before .before .before .before .before .before .before .before .before .before .args .s .now in
-    let is = c .before .before .before .before .before .before .before .resolve .ensures ∙ ap (λ (b : List ℕ). found (resolve s b)) (c .before .before .before .before .before .before .before .before .text .ensures ∙ ap (text s) (c .before .before .before .before .before .before .before .before .before .field-a .ensures)) in
-    λ p v. variable-local _ _ _ is (c .before .before .before .before .before .found .given .1) (c .before .before .emit .ensures _ tt)
+returns c = λ l table.
+    let p2 = c .before .before in
+    let p6 = p2 .before .before .before .before in
+    let p8 = p6 .before .before in
+    let p9 = p8 .before in
+    let p10 = p9 .before in
+    let p13 = p10 .before .before .before in
+    let s = p13 .args .s .now in
+    let is = p8 .resolve .ensures ∙ ap (λ (b : List ℕ). found (resolve s b)) (p9 .text .ensures ∙ ap (text s) (p10 .field-a .ensures)) in
+    λ p v. variable-local _ _ _ is (p6 .found .given .1) (p2 .emit .ensures l table _ tt)
 
 same-length-2 : tie.Need-same-length-2
 same-length-2 c = search needs
 
 returns-2 : tie.Need-returns-2
-returns-2 c =
-    let s = c .before .before .before .before .before .before .before .before .before .before .before .args .s .now in
-    let is = c .before .before .before .before .before .before .resolve .ensures ∙ ap (λ (b : List ℕ). found (resolve s b)) (c .before .before .before .before .before .before .before .text .ensures ∙ ap (text s) (c .before .before .before .before .before .before .before .before .field-a .ensures)) in
-    λ p v. variable-named _ _ is (c .before .before .before .before .enum-told .given .1) (c .before .before .load-named .ensures p v)
+returns-2 c = λ l table.
+    let p2 = c .before .before in
+    let p5 = p2 .before .before .before in
+    let p7 = p5 .before .before in
+    let p8 = p7 .before in
+    let p9 = p8 .before in
+    let p12 = p9 .before .before .before in
+    let s = p12 .args .s .now in
+    let is = p7 .resolve .ensures ∙ ap (λ (b : List ℕ). found (resolve s b)) (p8 .text .ensures ∙ ap (text s) (p9 .field-a .ensures)) in
+    λ p v. variable-named _ _ is (p5 .enum-told .given .1) (p2 .load-named .ensures l table p v)
 
 pub variable-spec : {M : Type 1} → statement M
 variable-spec =

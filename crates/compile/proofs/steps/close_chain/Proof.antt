@@ -3,12 +3,6 @@ use Rattle.compile.specs.StepDoes.{close-does}
 use borrow.Author.Needs.{needs}
 use Rattle.compile.proofs.steps.close_chain.Statement.{statement}
 use Rattle.compile.proofs.steps.close_chain.Tie as tie
-use Rattle.compile.proofs.steps.close_chain.Reads as reads
-use Rattle.compile.proofs.steps.close_chain.Lts as lts
-use Rattle.compile.proofs.steps.popped.Reads as popped-reads
-use Rattle.sheet.proofs.position.Reads as position-reads
-use Rattle.store.proofs.add_chain.Reads as add-chain-reads
-use Rattle.store.proofs.emit.Reads as emit-reads
 
 add-chain-requires : tie.Need-add-chain-requires
 add-chain-requires c κs = search needs
@@ -26,7 +20,13 @@ same-length : tie.Need-same-length
 same-length c = search needs
 
 returns : tie.Need-returns
-returns c = λ v a p h room. close-does _ _ _ _ a (c .before .before .before .before .position .ensures) (c .before .before .before .popped .ensures) (c .before .before .before .before .before .before .before .before .add-chain .ensures .place a h p) (c .before .before .before .before .before .before .before .before .add-chain .ensures .holds v a h p) (c .before .before .emit .ensures _ tt) room
+returns c = λ l table.
+    let p2 = c .before .before in
+    let p3 = p2 .before in
+    let p4 = p3 .before in
+    let p8 = p4 .before .before .before .before in
+    let p9 = p8 .before in
+    λ v a p h room. close-does _ _ _ _ a (p4 .position .ensures) (p3 .popped .ensures) (p9 .add-chain .ensures l .place a h p) (p9 .add-chain .ensures l .holds v a h p) (p2 .emit .ensures l table _ tt) room
 
 pub close-chain-spec : {M : Type 1} → statement M
 close-chain-spec =

@@ -1,12 +1,9 @@
--- Three names, one behind the other.
+-- Three names, one behind the other; the setter's key is the link's.
 use native.Mathlib.Omega.{arith}
 use Rattle.compile.specs.StepDoes.{property-does}
 use borrow.Author.Needs.{needs}
 use Rattle.compile.proofs.steps.property.Statement.{statement}
 use Rattle.compile.proofs.steps.property.Tie as tie
-use Rattle.compile.proofs.steps.property.Reads as reads
-use Rattle.compile.proofs.steps.property.Lts as lts
-use Rattle.store.proofs.add_name.Reads as add-name-reads
 
 add-name-requires : tie.Need-add-name-requires
 add-name-requires c κs = search needs
@@ -21,7 +18,17 @@ same-length : tie.Need-same-length
 same-length c = search needs
 
 returns : tie.Need-returns
-returns c = λ k v. property-does _ k (c .before .before .before .before .before .before .before .before .before .before .before .add-name .ensures .0 (omega arith) v) (c .before .before .before .before .before .before .before .add-name2 .ensures .0 (omega arith) v) (c .before .before .before .add-name3 .ensures .0 (omega arith) v)
+returns c = λ l.
+    let p2 = c .before .before in
+    let p6 = p2 .before .before .before .before in
+    let p7 = p6 .before in
+    let p11 = p7 .before .before .before .before in
+    let p12 = p11 .before in
+    λ k at d v u.
+    property-does _ _ k at d v u
+    (p12 .add-name .ensures l .0 (omega arith))
+    (p7 .add-name2 .ensures l .0 (omega arith))
+    (p2 .add-name3 .ensures l .0 (omega arith))
 
 pub property-spec : {M : Type 1} → statement M
 property-spec =

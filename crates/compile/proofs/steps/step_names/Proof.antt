@@ -3,12 +3,6 @@ use Rattle.compile.specs.StepDoes.{names-index, names-property, names-me
 use borrow.Author.Needs.{needs}
 use Rattle.compile.proofs.steps.step_names.Statement.{statement}
 use Rattle.compile.proofs.steps.step_names.Tie as tie
-use Rattle.compile.proofs.steps.step_names.Reads as reads
-use Rattle.compile.proofs.steps.step_names.Lts as lts
-use Rattle.compile.proofs.steps.method.Reads as method-reads
-use Rattle.compile.proofs.steps.property.Reads as property-reads
-use Rattle.rules.proofs.chains.operand_of.Reads as operand-of-reads
-use Rattle.rules.proofs.chains.step_rule.Reads as step-rule-reads
 
 step-rule-requires : tie.Need-step-rule-requires
 step-rule-requires c κs = search needs
@@ -38,22 +32,36 @@ enum-told-4 : tie.Need-enum-told-4
 enum-told-4 c = search needs
 
 returns : tie.Need-returns
-returns c = λ v. names-index _ _ (c .before .before .step-rule .ensures) (c .enum-told .given .1)
+returns c = λ l.
+    let p2 = c .before .before in
+    λ v u. names-index _ _ (p2 .step-rule .ensures) (c .enum-told .given .1)
 
 same-length : tie.Need-same-length
 same-length c = search needs
 
 returns-2 : tie.Need-returns-2
-returns-2 c = λ v. names-property _ _ _ (c .before .before .before .before .before .before .before .step-rule .ensures) (c .before .before .before .before .before .enum-told2 .given .1) (c .before .before .before .operand-of .ensures) v (c .before .before .property .ensures)
+returns-2 c = λ l.
+    let p2 = c .before .before in
+    let p3 = p2 .before in
+    let p6 = p3 .before .before .before in
+    let p8 = p6 .before .before in
+    λ v u. names-property _ _ _ (p8 .step-rule .ensures) (p6 .enum-told2 .given .1) (p3 .operand-of .ensures) v u (p2 .property .ensures l)
 
 same-length-2 : tie.Need-same-length-2
 same-length-2 c = search needs
 
 returns-3 : tie.Need-returns-3
-returns-3 c = λ v. names-method _ _ _ (c .before .before .before .before .before .before .before .step-rule .ensures) (c .before .before .before .before .before .enum-told3 .given .1) (c .before .before .before .operand-of2 .ensures) v (c .before .before .method .ensures)
+returns-3 c = λ l.
+    let p2 = c .before .before in
+    let p3 = p2 .before in
+    let p6 = p3 .before .before .before in
+    let p8 = p6 .before .before in
+    λ v u. names-method _ _ _ (p8 .step-rule .ensures) (p6 .enum-told3 .given .1) (p3 .operand-of2 .ensures) v (p2 .method .ensures l)
 
 returns-4 : tie.Need-returns-4
-returns-4 c = λ v. names-nothing _ _ (c .before .before .step-rule .ensures) (c .enum-told4 .given .1)
+returns-4 c = λ l.
+    let p2 = c .before .before in
+    λ v u. names-nothing _ _ (p2 .step-rule .ensures) (c .enum-told4 .given .1)
 
 pub step-names-spec : {M : Type 1} → statement M
 step-names-spec =

@@ -1,4 +1,7 @@
 -- `dispatch::arms::arm` meets its contract. The invariant: what is left of the chain.
+use Rattle.bytecode.specs.Table.{effectTable}
+use Rattle.scratch.specs.declared.Layout.{Layout}
+use Rattle.store.specs.States.{stateOf}
 use Rattle.dispatch.specs.ArmDoes.{ArmLeft, arm-begins, arm-on, arm-stop, arm-end, arm-whole}
 use Rattle.dispatch.specs.CapLaws.{cap-same, cap-lt, cap-le, cap-at}
 use Rattle.dispatch.specs.Ready.{Ready, Named}
@@ -11,11 +14,13 @@ use Rattle.dispatch.proofs.arms.arm.Statement.{statement}
 use Rattle.dispatch.proofs.arms.arm.Tie as tie
 
 abbrev Inv-loop : tie.InvT-loop
-Inv-loop s l x₀ t fallback drop n at q₀ any₀ i₀ x q any i =
-    (i ≤ n) × (length x ≡ length x₀) × (Ready s → Named s (take n at) → ArmLeft s l x₀ q₀ t fallback drop (take n at) x q any i)
+Inv-loop s t c₀ x₀ aims fallback drop n at any₀ i₀ c x any i =
+    (i ≤ n) × (length x ≡ length x₀)
+    × ((l : Layout) → t ≡ effectTable → Ready s → Named s (take n at)
+    → ArmLeft s l x₀ (stateOf c₀) aims fallback drop (take n at) x (stateOf c) any i)
 
 abbrev μ-loop : tie.MeasureT-loop
-μ-loop s l x₀ t fallback drop n at q₀ any₀ i₀ x q any i = n - i
+μ-loop s t c₀ x₀ aims fallback drop n at any₀ i₀ c x any i = n - i
 
 -- the array's length
 long : (c : tie.Start Inv-loop μ-loop) → length (c .args .ks .at) ≡ 64
@@ -25,7 +30,7 @@ capped-requires : tie.Need-capped-requires Inv-loop μ-loop
 capped-requires c κs = search needs
 
 loop-holds : tie.Need-loop-holds Inv-loop μ-loop
-loop-holds c = (omega arith, refl, λ C N. arm-begins _ _ _ _)
+loop-holds c = (omega arith, refl, λ l table C N. arm-begins _ _ _ _)
 
 mul-k : tie.Need-mul-k Inv-loop μ-loop
 mul-k c = omega arith
@@ -49,21 +54,37 @@ end-arm-requires : tie.Need-end-arm-requires Inv-loop μ-loop
 end-arm-requires c κs = search needs
 
 same-length : tie.Need-same-length Inv-loop μ-loop
-same-length c = c .before .before .end-arm .kept .1 .0 ∙ c .before .before .before .before .before .before .before .before .before .before .loop .inv .1
+same-length c =
+    let p2 = c .before .before in
+    let p6 = p2 .before .before .before .before in
+    let p10 = p6 .before .before .before .before in
+    let p11 = p10 .before in
+    p2 .end-arm .kept .1 .1 .0 ∙ p11 .loop .inv .1
 
 returns : tie.Need-returns Inv-loop μ-loop
-returns c =
-    let n = c .before .before .before .before .before .before .before .before .before .before .before .before .capped in
-    let w = c .before .before .before .before .before .before .before .before .before .before .loop in
-    let lt = c .before .before .before .before .before .before .before .before .before .loop-test .taken in
-    let a = c .before .before .before .before .before .before .before .before .before .before .before .before .before .before .before .args in
-    let wide = long (c .before .before .before .before .before .before .before .before .before .before .before .before .before .before .before) in
-    λ C. arm-whole (a .t) (a .fallback) (a .drop) (cap-same (a .ks .at) (n .result) (a .ks .n) 64 wide (n .ensures)) (λ N. arm-stop (w .inv .2 C N)
+returns c = λ l table.
+    let p2 = c .before .before in
+    let p5 = p2 .before .before .before in
+    let p6 = p5 .before in
+    let p7 = p6 .before in
+    let p8 = p7 .before in
+    let p9 = p8 .before in
+    let p10 = p9 .before in
+    let p11 = p10 .before in
+    let p13 = p11 .before .before in
+    let p16 = p13 .before .before .before in
+    let n = p13 .capped in
+    let w = p11 .loop in
+    let lt = p10 .loop-test .taken in
+    let a = p16 .args in
+    let wide = long p16 in
+    λ C. arm-whole (a .aims) (a .fallback) (a .drop) (cap-same (a .ks .at) (n .result) (a .ks .n) 64 wide (n .ensures)) (λ N. arm-stop
+    (w .inv .2 l table C N)
     _ _ _ _ C N (cap-lt (a .ks .at) (n .result) (a .ks .n) 64 wide (n .ensures) _ lt) (cap-at (a .ks .at) (n .result) (a .ks .n) 64 wide
-    (n .ensures) (w .i) 0 lt) (c .before .before .before .before .before .before .before .before .guard-of .ensures)
-    (c .before .before .before .before .before .before .before .guard-kind .ensures)
-    (c .before .before .before .before .before .before .place .ensures) (sym (c .before .before .before .before .before .always .ensures) ∙
-    c .before .before .before .before .if1 .taken) (c .before .before .end-arm .ensures _))
+    (n .ensures) (w .i) 0 lt) (p9 .guard-of .ensures)
+    (p8 .guard-kind .ensures)
+    (p7 .place .ensures) (sym (p6 .always .ensures) ∙
+    p5 .if1 .taken) (p2 .end-arm .ensures l table _))
 
 try-one-requires : tie.Need-try-one-requires Inv-loop μ-loop
 try-one-requires c κs = search needs
@@ -79,37 +100,55 @@ loop-less c = omega arith
 
 loop-again : tie.Need-loop-again Inv-loop μ-loop
 loop-again c =
-    let n = c .before .before .before .before .before .before .before .before .before .before .before .before .before .capped in
-    let w = c .before .before .before .before .before .before .before .before .before .before .before .loop in
-    let lt = c .before .before .before .before .before .before .before .before .before .before .loop-test .taken in
-    let a = c .before .before .before .before .before .before .before .before .before .before .before .before .before .before .before .before .args
+    let p3 = c .before .before .before in
+    let p6 = p3 .before .before .before in
+    let p7 = p6 .before in
+    let p8 = p7 .before in
+    let p9 = p8 .before in
+    let p10 = p9 .before in
+    let p11 = p10 .before in
+    let p12 = p11 .before in
+    let p14 = p12 .before .before in
+    let p17 = p14 .before .before .before in
+    let n = p14 .capped in
+    let w = p12 .loop in
+    let lt = p11 .loop-test .taken in
+    let a = p17 .args
     in
-    let wide = long (c .before .before .before .before .before .before .before .before .before .before .before .before .before .before .before .before) in (
+    let wide = long p17 in (
       omega arith,
-      c .before .before .before .try-one .kept .1 .1 .0 ∙ w .inv .1,
-      λ C N. arm-on (w .inv .2 C N) _ _ _ _ C N (cap-lt (a .ks .at)
+      p3 .try-one .kept .1 .1 .1 .0 ∙ w .inv .1,
+      λ l table C N. arm-on (w .inv .2 l table C N) _ _ _ _ C N (cap-lt (a .ks .at)
           (n .result) (a .ks .n) 64 wide (n .ensures) _ lt) (cap-at (a .ks .at) (n .result) (a .ks .n) 64 wide (n .ensures) (w .i) 0 lt)
-          (c .before .before .before .before .before .before .before .before .before .guard-of .ensures)
-          (c .before .before .before .before .before .before .before .before .guard-kind .ensures)
-          (c .before .before .before .before .before .before .before .place .ensures) _ (c .tried .ensures) (sym
-          (c .before .before .before .before .before .before .always .ensures) ∙ c .before .before .before .before .before .if1 .left)
-          (c .before .before .before .try-one .ensures),
+          (p10 .guard-of .ensures)
+          (p9 .guard-kind .ensures)
+          (p8 .place .ensures) _ (c .tried .ensures) (sym
+          (p7 .always .ensures) ∙ p6 .if1 .left)
+          (p3 .try-one .ensures l table),
     )
 
 end-arm-requires-2 : tie.Need-end-arm-requires-2 Inv-loop μ-loop
 end-arm-requires-2 c κs = search needs
 
 same-length-2 : tie.Need-same-length-2 Inv-loop μ-loop
-same-length-2 c = c .before .before .end-arm2 .kept .1 .0 ∙ c .before .before .before .before .before .loop .inv .1
+same-length-2 c =
+    let p2 = c .before .before in
+    let p6 = p2 .before .before .before .before in
+    p2 .end-arm2 .kept .1 .1 .0 ∙ p6 .loop .inv .1
 
 returns-2 : tie.Need-returns-2 Inv-loop μ-loop
-returns-2 c =
-    let n = c .before .before .before .before .before .before .before .capped in
-    let a = c .before .before .before .before .before .before .before .before .before .before .args in
-    let wide = long (c .before .before .before .before .before .before .before .before .before .before) in
-    λ C. arm-whole (a .t) (a .fallback) (a .drop) (cap-same (a .ks .at) (n .result) (a .ks .n) 64 wide (n .ensures)) (λ N. arm-end
-    (c .before .before .before .before .before .loop .inv .2 C N) (cap-le (a .ks .at) (n .result) (a .ks .n) 64 wide (n .ensures) _ (c .before .before .before .before .loop-test .left))
-    (c .before .before .end-arm2 .ensures _))
+returns-2 c = λ l table.
+    let p2 = c .before .before in
+    let p5 = p2 .before .before .before in
+    let p6 = p5 .before in
+    let p8 = p6 .before .before in
+    let p11 = p8 .before .before .before in
+    let n = p8 .capped in
+    let a = p11 .args in
+    let wide = long p11 in
+    λ C. arm-whole (a .aims) (a .fallback) (a .drop) (cap-same (a .ks .at) (n .result) (a .ks .n) 64 wide (n .ensures)) (λ N. arm-end
+    (p6 .loop .inv .2 l table C N) (cap-le (a .ks .at) (n .result) (a .ks .n) 64 wide (n .ensures) _ (p5 .loop-test .left))
+    (p2 .end-arm2 .ensures l table _))
 
 pub arm-spec : {M : Type 1} → statement M
 arm-spec =

@@ -21,13 +21,21 @@ same-length : tie.Need-same-length
 same-length c = search needs
 
 returns : tie.Need-returns
-returns c =
-    λ C v. try-does _ _ _ _ _ (sym (c .before .before .before .before .before .before .before .before .before .before .tried .ensures) ∙
-    c .before .before .before .before .before .before .before .before .before .if1 .taken) (c .before .before .before .position .ensures)
-    (c .before .before .before .before .before .before .before .expression .ensures C v) (c .before .before .emit .ensures _ tt)
+returns c = λ l table.
+    let p2 = c .before .before in
+    let p3 = p2 .before in
+    let p7 = p3 .before .before .before .before in
+    let p8 = p7 .before in
+    let p11 = p8 .before .before .before in
+    let p12 = p11 .before in
+    λ C v. try-does _ _ _ _ _ (sym (p12 .tried .ensures) ∙
+    p11 .if1 .taken) (p3 .position .ensures)
+    (p8 .expression .ensures l table C v) (p2 .emit .ensures l table _ tt)
 
 returns-2 : tie.Need-returns-2
-returns-2 c = λ C v. try-not _ _ _ _ (sym (c .before .tried .ensures) ∙ c .if1 .left)
+returns-2 c = λ l table.
+    let p1 = c .before in
+    λ C v. try-not _ _ _ _ (sym (p1 .tried .ensures) ∙ c .if1 .left)
 
 pub try-one-spec : {M : Type 1} → statement M
 try-one-spec =

@@ -1,4 +1,7 @@
 -- `dispatch::bodies::bodies` meets its contract. The invariant: what is left of the bodies.
+use Rattle.bytecode.specs.Table.{effectTable}
+use Rattle.scratch.specs.declared.Layout.{Layout}
+use Rattle.store.specs.States.{stateOf}
 use Rattle.dispatch.specs.BodyDoes.{BodiesLeft, bodies-begin, bodies-on, bodies-end, bodies-whole}
 use Rattle.dispatch.specs.Ready.{Ready}
 use lib.ListN.{length}
@@ -10,10 +13,12 @@ use Rattle.dispatch.proofs.bodies.bodies.Statement.{statement}
 use Rattle.dispatch.proofs.bodies.bodies.Tie as tie
 
 abbrev Inv-loop : tie.InvT-loop
-Inv-loop s l x₀ t falls n last q₀ k₀ x q k = (k ≤ n) × (length x ≡ length x₀) × (Ready s → BodiesLeft s l x₀ q₀ t falls n x q k)
+Inv-loop s t c₀ x₀ aims falls n last k₀ c x k =
+    (k ≤ n) × (length x ≡ length x₀)
+    × ((l : Layout) → t ≡ effectTable → Ready s → BodiesLeft s l x₀ (stateOf c₀) aims falls n x (stateOf c) k)
 
 abbrev μ-loop : tie.MeasureT-loop
-μ-loop s l x₀ t falls n last q₀ k₀ x q k = n - k
+μ-loop s t c₀ x₀ aims falls n last k₀ c x k = n - k
 
 field-a-requires : tie.Need-field-a-requires Inv-loop μ-loop
 field-a-requires c κs = search needs
@@ -22,7 +27,7 @@ last-wanted-requires : tie.Need-last-wanted-requires Inv-loop μ-loop
 last-wanted-requires c κs = search needs
 
 loop-holds : tie.Need-loop-holds Inv-loop μ-loop
-loop-holds c = (omega arith, refl, λ C. bodies-begin _ _ _)
+loop-holds c = (omega arith, refl, λ l table C. bodies-begin _ _ _)
 
 cast-body : tie.Need-cast-body Inv-loop μ-loop
 cast-body c = omega arith
@@ -41,21 +46,28 @@ loop-less c = omega arith
 
 loop-again : tie.Need-loop-again Inv-loop μ-loop
 loop-again c =
-    let w = c .before .before .before .before .before .loop in (
+    let p2 = c .before .before in
+    let p5 = p2 .before .before .before in
+    let p6 = p5 .before in
+    let p7 = p6 .before in
+    let w = p6 .loop in (
       omega arith,
-      c .before .before .body .kept .1 .1 .0 ∙ w .inv .1,
-      λ C. bodies-on (w .inv .2 C) _
-          (c .before .before .before .before .before .before .last-wanted .ensures) (c .before .before .before .before .loop-test .taken)
-          (c .before .before .body .ensures C (omega arith)),
+      p2 .body .kept .1 .1 .1 .0 ∙ w .inv .1,
+      λ l table C. bodies-on (w .inv .2 l table C) _
+          (p7 .last-wanted .ensures) (p5 .loop-test .taken)
+          (p2 .body .ensures l table C (omega arith)),
     )
 
 same-length : tie.Need-same-length Inv-loop μ-loop
 same-length c = search needs
 
 returns : tie.Need-returns Inv-loop μ-loop
-returns c =
-    let a = c .before .before .before .before .before .before .args in
-    λ C. bodies-whole (a .t) (a .falls) (c .before .before .before .field-a .ensures) (bodies-end (c .before .loop .inv .2 C) (omega arith))
+returns c = λ l table.
+    let p1 = c .before in
+    let p3 = p1 .before .before in
+    let p6 = p3 .before .before .before in
+    let a = p6 .args in
+    λ C. bodies-whole (a .aims) (a .falls) (p3 .field-a .ensures) (bodies-end (p1 .loop .inv .2 l table C) (omega arith))
 
 pub bodies-spec : {M : Type 1} → statement M
 bodies-spec =

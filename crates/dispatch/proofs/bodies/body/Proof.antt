@@ -25,19 +25,29 @@ same-length : tie.Need-same-length
 same-length c = search needs
 
 returns : tie.Need-returns
-returns c =
-    let a = c .before .before .before .before .before .before .before .before .before .before .before .before .before .before .args in
-    λ C h. body-does (wantIn (a .t)) _ _ _ _ (sym
-    (c .before .before .before .before .before .before .before .before .before .before .before .wants .ensures) ∙
-    c .before .before .before .before .before .before .before .before .before .before .if1 .taken)
-    (c .before .before .before .before .before .before .before .body-of .ensures) C h
-    (c .before .before .before .before .before .before .before .before .before .at-depth .ensures)
-    (c .before .before .before .before .before .before .expression .ensures) (c .before .before .jump .ensures _)
+returns c = λ l table.
+    let p2 = c .before .before in
+    let p6 = p2 .before .before .before .before in
+    let p7 = p6 .before in
+    let p8 = p7 .before in
+    let p11 = p8 .before .before .before in
+    let p13 = p11 .before .before in
+    let p14 = p13 .before in
+    let p17 = p14 .before .before .before in
+    let a = p17 .args in
+    λ C h. body-does (wantIn (a .aims)) _ _ _ (a .c .now) _ (sym
+    (p14 .wants .ensures) ∙
+    p13 .if1 .taken)
+    (p8 .body-of .ensures) C h
+    (p11 .at-depth .ensures)
+    (p7 .expression .ensures l table) (p2 .jump .ensures l table _)
 
 returns-2 : tie.Need-returns-2
-returns-2 c =
-    let a = c .before .before .before .before .args in
-    λ C h. body-skips (wantIn (a .t)) _ _ _ (sym (c .before .wants .ensures) ∙ c .if1 .left)
+returns-2 c = λ l table.
+    let p1 = c .before in
+    let p4 = p1 .before .before .before in
+    let a = p4 .args in
+    λ C h. body-skips (wantIn (a .aims)) _ _ _ (sym (p1 .wants .ensures) ∙ c .if1 .left)
 
 pub body-spec : {M : Type 1} → statement M
 body-spec =

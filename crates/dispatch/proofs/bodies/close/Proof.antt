@@ -17,9 +17,14 @@ same-length : tie.Need-same-length
 same-length c = search needs
 
 returns : tie.Need-returns
-returns c =
-    λ s. close-does (c .before .before .before .before .before .before .before .before .at-depth .ensures)
-    (c .before .before .before .before .before .before .emit .ensures s tt) (c .before .before .emit2 .ensures s tt)
+returns c = λ l table.
+    let p2 = c .before .before in
+    let p6 = p2 .before .before .before .before in
+    let p7 = p6 .before in
+    let p10 = p7 .before .before .before in
+    let p13 = p10 .before .before .before in
+    λ s. close-does (p13 .args .c .now) (p10 .at-depth .ensures)
+    (p7 .emit .ensures l table s tt) (p2 .emit2 .ensures l table s tt)
 
 pub close-spec : {M : Type 1} → statement M
 close-spec =

@@ -16,7 +16,7 @@ abbrev μ-loop : tie.MeasureT-loop
 μ-loop t n last₀ k₀ last k = n - k
 
 loop-holds : tie.Need-loop-holds Inv-loop μ-loop
-loop-holds c = (omega arith, sym (last-none (wantIn (c .args .t))))
+loop-holds c = (omega arith, sym (last-none (wantIn (c .args .aims))))
 
 wants-requires : tie.Need-wants-requires Inv-loop μ-loop
 wants-requires c κs = search needs
@@ -33,7 +33,7 @@ loop-less c = omega arith
 loop-again : tie.Need-loop-again Inv-loop μ-loop
 loop-again c = (
   omega arith,
-  last-on (wantIn (c .before .before .before .before .args .t)) _ _ _ _ (c .before .wants .ensures)
+  last-on (wantIn (c .before .before .before .before .args .aims)) _ _ _ _ (c .before .wants .ensures)
       (c .before .before .before .loop .inv .1) (c .later .ensures),
 )
 
@@ -41,7 +41,7 @@ returns : tie.Need-returns Inv-loop μ-loop
 returns c =
     let w = c .before .loop in
     let q : w .k ≡ c .before .before .args .n = omega arith in
-    w .inv .1 ∙ ap (lastOf (wantIn (c .before .before .args .t))) q
+    w .inv .1 ∙ ap (lastOf (wantIn (c .before .before .args .aims))) q
 
 pub last-wanted-spec : {M : Type 1} → statement M
 last-wanted-spec =

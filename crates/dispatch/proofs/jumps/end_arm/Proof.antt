@@ -11,10 +11,14 @@ same-length : tie.Need-same-length
 same-length c = search needs
 
 returns : tie.Need-returns
-returns c = λ s. end-jumps _ _ _ (c .before .before .before .before .if1 .taken) (c .before .before .jump .ensures s)
+returns c = λ l table.
+    let p2 = c .before .before in
+    let p5 = p2 .before .before .before in
+    λ s. end-jumps _ _ _ (p5 .if1 .taken) (p2 .jump .ensures l table s)
 
 returns-2 : tie.Need-returns-2
-returns-2 c = λ s. end-none _ _ _ (c .if1 .left)
+returns-2 c = λ l table.
+    λ s. end-none _ _ _ (c .if1 .left)
 
 pub end-arm-spec : {M : Type 1} → statement M
 end-arm-spec = tie.close (tie.spec jump-requires same-length returns returns-2)

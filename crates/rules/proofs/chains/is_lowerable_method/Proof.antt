@@ -1,11 +1,11 @@
--- `rules::chains::is_lowerable_method` meets its contract: the tests are those of the definition.
-use mathlib.Core.Path.{ap, ap₂, _∙_}
-use mathlib.Core.Bool.{_&&_, _||_}
+-- `rules::chains::is_lowerable_method` meets its contract: a method lowers by its count and its keyword.
+use mathlib.Core.Path.{sym, ap, ap₂, _∙_}
+use mathlib.Core.Bool.{_&&_}
 use lib.Dec.{leb}
-use Rattle.text.specs.Keyword.{isCall, isCurry}
 use Rattle.sheet.specs.Text.{text}
 use Rattle.lowering.specs.Limits.{maxArgs}
-use Rattle.lowering.specs.Steps.{isLowerableMethod}
+use Rattle.rules.specs.Keywords.{keywordOf, asMethod}
+use Rattle.rules.proofs.KeywordLaws.{method-lowers}
 use borrow.Author.Needs.{needs}
 use Rattle.rules.proofs.chains.is_lowerable_method.Statement.{statement}
 use Rattle.rules.proofs.chains.is_lowerable_method.Tie as tie
@@ -16,34 +16,26 @@ field-a-requires c κs = search needs
 text-requires : tie.Need-text-requires
 text-requires c κs = search needs
 
-is-call-requires : tie.Need-is-call-requires
-is-call-requires c κs = search needs
-
-is-curry-requires : tie.Need-is-curry-requires
-is-curry-requires c κs = search needs
-
-is-lowerable-call-requires : tie.Need-is-lowerable-call-requires
-is-lowerable-call-requires c κs = search needs
+keyword-of-requires : tie.Need-keyword-of-requires
+keyword-of-requires c κs = search needs
 
 count-requires : tie.Need-count-requires
 count-requires c κs = search needs
 
+as-method-requires : tie.Need-as-method-requires
+as-method-requires c κs = search needs
+
 returns : tie.Need-returns
-unfolding isLowerableMethod
 returns c =
-    let s = c .before .before .before .before .before .before .before .args .s .now in
-    let name-is = c .before .before .before .before .text .ensures ∙ ap (text s) (c .before .before .before .before .before .field-a .ensures) in
-    let own-is = ap₂ _||_ (c .before .before .before .is-call .ensures ∙ ap isCall name-is) (c .before .before .is-curry .ensures ∙ ap isCurry name-is) in
-    ap₂ (λ b n. b && leb n maxArgs) (ap₂ _||_ own-is (c .before .is-lowerable-call .ensures)) (c .count .ensures)
+    let read = c .before .before .before in
+    let a = read .before .before .before .args in
+    let s = a .s .now in
+    let name-is = read .text .ensures ∙ ap (text s) (read .before .field-a .ensures) in
+    let word-is = c .before .before .keyword-of .ensures ∙ ap keywordOf name-is in
+    ap₂ (λ n b. leb n maxArgs && b) (c .before .count .ensures) (c .as-method .ensures ∙ ap asMethod word-is)
+    ∙ sym (method-lowers s (a .x))
 
 pub is-lowerable-method-spec : {M : Type 1} → statement M
 is-lowerable-method-spec =
     tie.close
-    (tie.spec
-    field-a-requires
-    text-requires
-    is-call-requires
-    is-curry-requires
-    is-lowerable-call-requires
-    count-requires
-    returns)
+    (tie.spec field-a-requires text-requires keyword-of-requires count-requires as-method-requires returns)

@@ -1,12 +1,9 @@
--- `store::ops::after` meets its contract: one law for each way.
-use Rattle.store.specs.TableLaws.{pops-fit, after-some, after-none}
+-- `store::ops::after` meets its contract: the depth by the table of effects. Assumes nothing of the table but in the answer.
 use native.Mathlib.Omega.{arith}
+use Rattle.store.specs.TableLaws.{pops-fit, after-some, after-none}
 use borrow.Author.Needs.{needs}
 use Rattle.store.proofs.ops.after.Statement.{statement}
 use Rattle.store.proofs.ops.after.Tie as tie
-
-effects-requires : tie.Need-effects-requires
-effects-requires c κs = search needs
 
 array-read-entry : tie.Need-array-read-entry
 array-read-entry c = search needs
@@ -34,16 +31,8 @@ counted-requires c κs = search needs
 
 add-pops : tie.Need-add-pops
 add-pops c =
-    let second = c .before in
-    let first = second .before .before in
-    let start = first .before .before .before in
-    let table = first .before .before .effects .ensures in
-    pops-fit (start .args .t1) (start .args .n) 0 _ 0 _ _
-    (first .entry .ensures table (omega arith))
-    (second .entry2 .ensures table (omega arith))
-    (c .counted .ensures)
-    (search needs)
-    (start .fits .n)
+    let start = c .before .before .before in
+    pops-fit _ _ _ (start .args .n) (c .counted .ensures) (c .before .before .entry .ok) (search needs) (start .fits .n)
 
 array-read-entry-3 : tie.Need-array-read-entry-3
 array-read-entry-3 c = search needs
@@ -61,27 +50,25 @@ add-result : tie.Need-add-result
 add-result c = search needs
 
 returns : tie.Need-returns
-returns c =
+returns c = λ table.
     let third = c .before in
-    let second = third .before .before .before in
-    let first = second .before .before in
-    let table = first .before .before .effects .ensures in
+    let second = third .before .before in
+    let first = second .before in
     after-some _ _ _ _ _ _ _
     (first .entry .ensures table (omega arith))
     (second .entry2 .ensures table (omega arith))
-    (third .before .before .counted .ensures)
+    (third .before .counted .ensures)
     (third .entry3 .ensures table (omega arith))
 
 returns-2 : tie.Need-returns-2
-returns-2 c =
+returns-2 c = λ table.
     let third = c .before in
-    let second = third .before .before .before in
-    let first = second .before .before in
-    let table = first .before .before .effects .ensures in
+    let second = third .before .before in
+    let first = second .before in
     after-none _ _ _ _ _ _ _
     (first .entry .ensures table (omega arith))
     (second .entry2 .ensures table (omega arith))
-    (third .before .before .counted .ensures)
+    (third .before .counted .ensures)
     (third .entry3 .ensures table (omega arith))
     (c .if1 .left)
 
@@ -89,7 +76,6 @@ pub after-spec : {M : Type 1} → statement M
 after-spec =
     tie.close
     (tie.spec
-    effects-requires
     array-read-entry
     entry-requires
     cast-pops

@@ -48,9 +48,23 @@ same-length : tie.Need-same-length
 same-length c = search needs
 
 returns : tie.Need-returns
-returns c = λ R k. left-out _ _ _ _ _ _ _ _ _ _ _ _ _ _ _ _ _ _ _ _ R k (c .before .before .before .before .before .before .before .before .before .before .node-count .ensures) (c .before .before .before .before .before .before .before .before .before .before .before .before .before .before .before .before .before .guards .ensures) (c .before .before .before .before .before .before .before .before .before .before .before .before .before .before .before .before .case-heads .ensures .items) (c .before .before .before .before .before .before .before .before .before .before .before .before .before .before .before .ranges-of .ensures .items)
-    (c .before .before .before .before .before .before .before .before .before .before .before .before .before .before .cuts-of .ensures .numbers) (c .before .before .before .before .before .before .before .before .before .before .before .before .before .runs-of .ensures) (c .before .before .before .before .before .before .before .before .before .before .before .before .run-heads .ensures .items) (c .before .before .before .before .before .before .before .before .before .before .before .places-of .ensures) (c .before .before .before .before .before .before .before .before .held .ensures)
-    _ _ _ _ _ (c .before .before .before .before .field-b .ensures) (c .before .before .before .run-count .ensures) (c .before .before .tables-len .ensures) (c .before .image-len .ensures) (omega arith)
+returns c =
+    let p1 = c .before in
+    let p2 = p1 .before in
+    let p3 = p2 .before in
+    let p4 = p3 .before in
+    let p7 = p4 .before .before .before in
+    let p9 = p7 .before .before in
+    let p10 = p9 .before in
+    let p11 = p10 .before in
+    let p12 = p11 .before in
+    let p13 = p12 .before in
+    let p14 = p13 .before in
+    let p15 = p14 .before in
+    let p16 = p15 .before in
+    λ R k. left-out _ _ _ _ _ _ _ _ _ _ _ _ _ _ _ _ _ _ _ _ R k (p9 .node-count .ensures) (p16 .guards .ensures) (p15 .case-heads .ensures .items) (p14 .ranges-of .ensures .items)
+    (p13 .cuts-of .ensures .numbers) (p12 .runs-of .ensures) (p11 .run-heads .ensures .items) (p10 .places-of .ensures) (p7 .held .ensures)
+    _ _ _ _ _ (p4 .field-b .ensures) (p3 .run-count .ensures) (p2 .tables-len .ensures) (λ a g. p1 .image-len .ensures _ _ _ a g) (omega (arith, c .if1 .taken))
 
 write-requires : tie.Need-write-requires
 write-requires c κs = search needs
@@ -62,9 +76,25 @@ same-length-3 : tie.Need-same-length-3
 same-length-3 c = search needs
 
 returns-2 : tie.Need-returns-2
-returns-2 c = λ R k. put-in _ _ _ _ _ _ _ _ _ _ _ _ _ _ _ _ _ _ _ _ R k (c .before .before .before .before .before .before .before .before .before .before .before .before .before .before .before .node-count .ensures) (c .before .before .before .before .before .before .before .before .before .before .before .before .before .before .before .before .before .before .before .before .before .before .guards .ensures) (c .before .before .before .before .before .before .before .before .before .before .before .before .before .before .before .before .before .before .before .before .before .case-heads .ensures .items) (c .before .before .before .before .before .before .before .before .before .before .before .before .before .before .before .before .before .before .before .before .ranges-of .ensures .items)
-    (c .before .before .before .before .before .before .before .before .before .before .before .before .before .before .before .before .before .before .before .cuts-of .ensures .numbers) (c .before .before .before .before .before .before .before .before .before .before .before .before .before .before .before .before .before .before .runs-of .ensures) (c .before .before .before .before .before .before .before .before .before .before .before .before .before .before .before .before .before .run-heads .ensures .items) (c .before .before .before .before .before .before .before .before .before .before .before .before .before .before .before .before .places-of .ensures) (c .before .before .before .before .before .before .before .before .before .before .before .before .before .held .ensures)
-    _ _ _ _ _ (c .before .before .before .before .before .before .before .before .before .field-b .ensures) (c .before .before .before .before .before .before .before .before .run-count .ensures) (c .before .before .before .before .before .before .before .tables-len .ensures) (c .before .before .before .before .before .before .image-len .ensures) _ (omega arith) (c .before .before .write .ensures)
+returns-2 c =
+    let p2 = c .before .before in
+    let p6 = p2 .before .before .before .before in
+    let p7 = p6 .before in
+    let p8 = p7 .before in
+    let p9 = p8 .before in
+    let p12 = p9 .before .before .before in
+    let p14 = p12 .before .before in
+    let p15 = p14 .before in
+    let p16 = p15 .before in
+    let p17 = p16 .before in
+    let p18 = p17 .before in
+    let p19 = p18 .before in
+    let p20 = p19 .before in
+    let p21 = p20 .before in
+    λ R k. put-in _ _ _ _ _ _ _ _ _ _ _ _ _ _ _ _ _ _ _ _ R k (p14 .node-count .ensures) (p21 .guards .ensures) (p20 .case-heads .ensures .items) (p19 .ranges-of .ensures .items)
+    (p18 .cuts-of .ensures .numbers) (p17 .runs-of .ensures) (p16 .run-heads .ensures .items) (p15 .places-of .ensures) (p12 .held .ensures)
+    _ _ _ _ _ (p9 .field-b .ensures) (p8 .run-count .ensures) (p7 .tables-len .ensures) (λ a g. p6 .image-len .ensures _ _ _ a g) _
+    (omega (arith, p2 .before .before .before .if1 .left)) (p2 .write .ensures)
 
 pub build-switch-spec : {M : Type 1} → statement M
 build-switch-spec =

@@ -3,14 +3,15 @@ use Rattle.to_image.specs.HeldLaws.{planned-holds}
 use borrow.Author.Needs.{needs}
 use Rattle.to_image.proofs.switched.held.Statement.{statement}
 use Rattle.to_image.proofs.switched.held.Tie as tie
-use Rattle.to_image.proofs.switched.held.Reads as reads
-use Rattle.to_image.proofs.switched.held.Lts as lts
-use Rattle.dispatch.proofs.case_consts.Reads as case-consts-reads
-use Rattle.dispatch.proofs.switch.Reads as switch-reads
-use Rattle.store.proofs.start.Reads as start-reads
+
+effects-requires : tie.Need-effects-requires
+effects-requires c κs = search needs
 
 start-requires : tie.Need-start-requires
 start-requires c κs = search needs
+
+clear-index-requires : tie.Need-clear-index-requires
+clear-index-requires c κs = search needs
 
 switch-requires : tie.Need-switch-requires
 switch-requires c κs = search needs
@@ -18,12 +19,30 @@ switch-requires c κs = search needs
 case-consts-requires : tie.Need-case-consts-requires
 case-consts-requires c κs = search needs
 
+state-of-requires : tie.Need-state-of-requires
+state-of-requires c κs = search needs
+
 same-length : tie.Need-same-length
 same-length c = search needs
 
 returns : tie.Need-returns
-returns c = λ P. planned-holds _ _ _ _ _ _ _ _ _ _ _ P (c .before .before .before .before .before .before .before .start .ensures) (c .before .before .before .before .before .before .switch .ensures) (c .before .before .case-consts .ensures)
+returns c =
+    let added = c .before .before .before .before in
+    let switched = added .before .before .before .before .before in
+    let cleared = switched .before .before .before .before .before .before in
+    let begun = cleared .before .before in
+    λ P. planned-holds _ _ _ _ _ _ (begun .start .result) _ _ _ _ _ _ P (begun .start .ensures) (cleared .clear-index .ensures)
+    (switched .switch .ensures _ (begun .before .effects .ensures)) (added .case-consts .ensures _) (c .state-of .ensures)
 
 pub held-spec : {M : Type 1} → statement M
 held-spec =
-    tie.close (tie.spec start-requires switch-requires case-consts-requires same-length returns)
+    tie.close
+    (tie.spec
+    effects-requires
+    start-requires
+    clear-index-requires
+    switch-requires
+    case-consts-requires
+    state-of-requires
+    same-length
+    returns)

@@ -28,9 +28,6 @@ put-front-requires c κs = search needs
 put-switches-requires : tie.Need-put-switches-requires
 put-switches-requires c κs = search needs
 
-consts-at-requires : tie.Need-consts-at-requires
-consts-at-requires c κs = search needs
-
 put-cases-requires : tie.Need-put-cases-requires
 put-cases-requires c κs = search needs
 
@@ -41,16 +38,25 @@ same-length : tie.Need-same-length
 same-length c = search needs
 
 returns : tie.Need-returns
-returns c = let c₀ = c .before .before .before .before .before .before .before .before .before .before .before .before .before .before .before .before .before .before .before .before .before .before in
-    let start = c .before .before .before .before .before .before .before .before .before .before .before .before .before .before .before .before .before .before .before .before .before .place-after in
-    let run-at = c .before .before .before .before .before .before .before .before .before .before .before .before .before .before .before .before .before .before .before .before .run-targets in
-    let cases = c .before .before .before .before .before .before .before .before .before .before .before .before .before .before .before .before .before .before .before .field-b in
-    let runs = c .before .before .before .before .before .before .before .before .before .before .before .before .before .before .before .before .before .before .run-count in
-    let tables = c .before .before .before .before .before .before .before .before .before .before .before .before .before .before .before .before .table-count in
-    let consts = c .before .before .before .before .before .before .before .before .consts-at in
-    λ S h. written S (start .result) (tables .result) (cases .result) (runs .result) (c₀ .case-targets .result) (run-at .result)
-    (start .ensures) (c₀ .case-targets .ensures) (run-at .ensures) (tables .ensures) (cases .ensures) (runs .ensures)
-    (consts .result) (consts .ensures) (c .before .before .before .before .before .before .before .before .before .before .before .before .before .before .before .put-front .ensures) (c .before .before .before .before .before .before .before .before .before .before .before .put-switches .ensures) (c .before .before .before .before .before .before .put-cases .ensures) (c .before .before .put-ranges .ensures) h
+returns c =
+    let p2 = c .before .before in
+    let p6 = p2 .before .before .before .before in
+    let p10 = p6 .before .before .before .before in
+    let p14 = p10 .before .before .before .before in
+    let p15 = p14 .before in
+    let p17 = p15 .before .before in
+    let p18 = p17 .before in
+    let p19 = p18 .before in
+    let p20 = p19 .before in
+    let p21 = p20 .before in
+    let start = p20 .place-after in
+    let run-at = p19 .run-targets in
+    let cases = p18 .field-b in
+    let runs = p17 .run-count in
+    let tables = p15 .table-count in
+    λ S h. written S (start .result) (tables .result) (cases .result) (runs .result) (p21 .case-targets .result) (run-at .result)
+    (start .ensures) (p21 .case-targets .ensures) (run-at .ensures) (tables .ensures) (cases .ensures) (runs .ensures)
+    (λ a g. p14 .put-front .ensures _ a g) (p10 .put-switches .ensures) (p6 .put-cases .ensures) (p2 .put-ranges .ensures) h
 
 pub write-spec : {M : Type 1} → statement M
 write-spec =
@@ -64,7 +70,6 @@ write-spec =
     table-count-requires
     put-front-requires
     put-switches-requires
-    consts-at-requires
     put-cases-requires
     put-ranges-requires
     same-length

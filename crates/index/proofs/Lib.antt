@@ -1,0 +1,21 @@
+-- Laws of the index by hash, of the four pools and of the memos.
+pub mod PrevLaws
+pub mod SearchLaws
+pub mod DifferLaws
+pub mod IndexedLaws
+pub mod TableLaws
+pub mod LookupLaws
+pub mod PoolLaws
+pub mod BesideLaws
+pub mod HashLaws
+pub mod ConstLaws
+pub mod NameLaws
+pub mod SlotLaws
+pub mod MemoLaws
+pub mod HeldLaws
+pub mod ChainLaws
+pub mod ChainHashLaws
+pub mod ChainWalkLaws
+pub mod LodgeLaws
+pub mod IndexesLaws
+pub mod StartLaws

@@ -1,0 +1,132 @@
+-- Names: the same names have the same hash (`names-alike`), and one law for each answer of the code.
+use Prim.Native.Nat.{ℕ, _/_, _%_, _<_}
+use mathlib.Core.Path.{_≡_, refl, sym, ap, ap₂, _∙_, subst}
+use mathlib.Core.Bool.{Bool, true, false, not}
+use mathlib.Core.List.{List, [], _∷_}
+use Rattle.text.specs.Same.{same}
+use Rattle.text.specs.SameLaws.{same-refl, same-true}
+use Rattle.sheet.specs.Text.{text}
+use Rattle.lowering.specs.Pools.{Name, name, sameName, nameBytes, bang}
+use Rattle.keys.specs.Keys.{nameOf, isMarked, markOf, marked, markBy}
+use Rattle.keys.specs.BangLaws.{texts-same-on, texts-same-off}
+use Rattle.index.specs.Pool.{Alike}
+use Rattle.index.specs.Hash.{byteStep, spread, foldHash, bytesHash}
+use Rattle.index.specs.Names.{isName, sameNameOf, nameWith, nameHashOf, nameHash}
+use Rattle.index.proofs.HashLaws.{bytes-word, fold-append}
+use Rattle.index.proofs.ConstLaws.{alike-by}
+
+module _ (s : List ℕ) where
+  pub names-told : (m n : Name) → sameName s m n ≡ true → nameBytes s m ≡ nameBytes s n
+  unfolding sameName
+  names-told m n h = same-true (nameBytes s m) (nameBytes s n) h
+
+  pub names-of : (m n : Name) → nameBytes s m ≡ nameBytes s n → sameName s m n ≡ true
+  unfolding sameName
+  names-of m n e = subst (λ (y : List ℕ). same (nameBytes s m) y ≡ true) e (same-refl (nameBytes s m))
+
+  pub name-self : (n : Name) → sameName s n n ≡ true
+  name-self n = names-of n n refl
+
+  pub name-word : (n : Name) → nameHashOf s n < 4294967296
+  unfolding nameHashOf
+  name-word n = bytes-word (nameBytes s n)
+
+  pub name-hashed : (m n : Name) → sameName s m n ≡ true → nameHashOf s n ≡ nameHashOf s m
+  unfolding nameHashOf
+  name-hashed m n h = ap bytesHash (sym (names-told m n h))
+
+  pub names-alike : Alike (sameNameOf s) (nameHash s)
+  unfolding nameHashOf
+  names-alike =
+      alike-by (λ (k : ℕ). nameBytes s (nameOf s k)) (sameNameOf s) (nameHash s) bytesHash
+      (λ i j h. names-told (nameOf s i) (nameOf s j) h)
+      (λ i j e. names-of (nameOf s i) (nameOf s j) e)
+      (λ k. refl)
+      (λ k. name-word (nameOf s k))
+
+  -- two keys that have one name have the same name
+  pub name-one : (n : Name) (i j : ℕ) → isName s n i ≡ true → isName s n j ≡ true → sameNameOf s i j ≡ true
+  name-one n i j a b =
+      names-of (nameOf s i) (nameOf s j) (sym (names-told n (nameOf s i) a) ∙ names-told n (nameOf s j) b)
+
+-- `!` is one step more
+hash-marked : (x : List ℕ) → foldHash 0 (marked x true) ≡ byteStep (foldHash 0 x) bang
+unfolding marked markBy foldHash
+hash-marked x = fold-append 0 x (bang ∷ [])
+
+hash-plain : (x : List ℕ) → foldHash 0 (marked x false) ≡ foldHash 0 x
+unfolding marked markBy foldHash
+hash-plain x = fold-append 0 x []
+
+module _ (s : List ℕ) where
+  with-bytes : (t : ℕ) (m : Bool) → nameBytes s (nameWith s t m) ≡ marked (text s t) m
+  unfolding nameBytes marked
+  with-bytes t m = refl
+
+  -- a key's name by its text and its mark
+  pub name-whole : (k : ℕ) → nameOf s k ≡ nameWith s (nameOf s k .text) (isMarked s (k / 3) (k % 3))
+  unfolding nameOf markOf
+  name-whole k = refl
+
+  -- from what the code read of key k: its text t, and whether it is marked
+  pub name-read : (k : ℕ) {t : ℕ} {b : Bool} → t ≡ nameOf s k .text → b ≡ isMarked s (k / 3) (k % 3) → nameWith s t b ≡ nameOf s k
+  name-read k e f = ap₂ (nameWith s) e f ∙ sym (name-whole k)
+
+  pub name-read-on :
+      (k : ℕ) {t : ℕ} {b : Bool} → t ≡ nameOf s k .text → b ≡ isMarked s (k / 3) (k % 3) → b ≡ true
+      → nameWith s t true ≡ nameOf s k
+  name-read-on k e f h = name-read k e (sym h ∙ f)
+
+  pub with-plain : (t : ℕ) → nameWith s t false ≡ name t 0
+  unfolding markBy
+  with-plain t = refl
+
+  pub name-read-off :
+      (k : ℕ) {t : ℕ} {b : Bool} → t ≡ nameOf s k .text → b ≡ isMarked s (k / 3) (k % 3) → b ≡ false → name t 0 ≡ nameOf s k
+  name-read-off k {t} e f h = sym (with-plain t) ∙ name-read k e (sym h ∙ f)
+
+  -- the hash of what the code read: the text x with number t, and its fold f
+  module _ (t : ℕ) (m : Bool) {f : ℕ} {x : List ℕ} (is : x ≡ text s t) (fold : f ≡ foldHash 0 x) where
+    pub name-hash-on : {g h : ℕ} → m ≡ true → g ≡ byteStep f bang → h ≡ spread g → h ≡ nameHashOf s (nameWith s t m)
+    unfolding nameHashOf bytesHash
+    name-hash-on e q r =
+        r
+        ∙ ap spread
+        (q
+        ∙ ap (λ (v : ℕ). byteStep v bang) fold
+        ∙ sym (hash-marked x)
+        ∙ ap (foldHash 0) (ap₂ marked is (sym e) ∙ sym (with-bytes t m)))
+
+    pub name-hash-off : {h : ℕ} → m ≡ false → h ≡ spread f → h ≡ nameHashOf s (nameWith s t m)
+    unfolding nameHashOf bytesHash
+    name-hash-off e r =
+        r ∙ ap spread (fold ∙ sym (hash-plain x) ∙ ap (foldHash 0) (ap₂ marked is (sym e) ∙ sym (with-bytes t m)))
+
+  -- a comparison of the name with text t and mark m with that of key c, whose text is d
+  module _ (t c : ℕ) (m : Bool) {d : ℕ} (at : d ≡ nameOf s c .text) where
+    compared : isName s (nameWith s t m) c ≡ same (marked (text s t) m) (marked (text s d) (isMarked s (c / 3) (c % 3)))
+    unfolding sameName
+    compared =
+        ap₂ same (with-bytes t m)
+        (ap (nameBytes s) (name-whole c)
+        ∙ with-bytes (nameOf s c .text) (isMarked s (c / 3) (c % 3))
+        ∙ ap (λ (i : ℕ). marked (text s i) (isMarked s (c / 3) (c % 3))) (sym at))
+
+    pub name-compared :
+        {x y : List ℕ} {r : Bool} → x ≡ text s t → y ≡ text s d
+        → r ≡ same (marked x m) (marked y (isMarked s (c / 3) (c % 3))) → r ≡ isName s (nameWith s t m) c
+    name-compared p q h =
+        h
+        ∙ ap₂ same (ap (λ (z : List ℕ). marked z m) p) (ap (λ (z : List ℕ). marked z (isMarked s (c / 3) (c % 3))) q)
+        ∙ sym compared
+
+    -- where both have one text, the marks tell
+    module _ (one : t ≡ d) {b : Bool} (mark : b ≡ isMarked s (c / 3) (c % 3)) where
+      texts : (k : Bool) → m ≡ k → isName s (nameWith s t m) c ≡ same (marked (text s t) k) (marked (text s t) b)
+      texts k e = compared ∙ ap₂ same (ap (marked (text s t)) e) (ap₂ (λ (i : ℕ) (u : Bool). marked (text s i) u) (sym one) (sym mark))
+
+      pub name-marked : m ≡ true → b ≡ isName s (nameWith s t m) c
+      name-marked e = sym (texts true e ∙ texts-same-on (text s t) (text s t) b (same-refl (text s t)))
+
+      pub name-plain : m ≡ false → not b ≡ isName s (nameWith s t m) c
+      name-plain e = sym (texts false e ∙ texts-same-off (text s t) (text s t) b (same-refl (text s t)))

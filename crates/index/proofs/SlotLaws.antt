@@ -1,0 +1,82 @@
+-- Slots: keys in use have different slots, within a pool and across pools, by the kinds of their nodes.
+use Prim.Native.Nat.{ℕ, _+_, _*_, _/_, _%_, _<_}
+use mathlib.Core.Path.{_≡_, sym, ap, _∙_}
+use mathlib.Core.List.{List}
+use native.Mathlib.Omega.{arith}
+use native.Mathlib.Decide.{decLt}
+use Rattle.sheet.specs.Node.{kind}
+use Rattle.lowering.specs.Kinds.{propertyKind}
+use Rattle.keys.specs.Used.{ConstKey, TokenKey, ChainKey, NameKey}
+use Rattle.index.specs.Consts.{constSlot}
+use Rattle.index.specs.Names.{nameSlot}
+
+-- over plain numbers
+half : (p q a b : ℕ) → 2 * p + (a + 1) % 2 ≡ 2 * q + (b + 1) % 2 → p ≡ q
+half p q a b e = omega arith
+
+rest : (p q a b : ℕ) → 2 * p + (a + 1) % 2 ≡ 2 * q + (b + 1) % 2 → (a + 1) % 2 ≡ (b + 1) % 2
+rest p q a b e = omega arith
+
+first-end : (a b : ℕ) → a < b → b < 3 → (a + 1) % 2 ≡ (b + 1) % 2 → a ≡ 0
+first-end a b l m e = omega arith
+
+last-end : (a b : ℕ) → a < b → b < 3 → (a + 1) % 2 ≡ (b + 1) % 2 → b ≡ 2
+last-end a b l m e = omega arith
+
+below-three : (k : ℕ) → k % 3 < 3
+below-three k = omega arith
+
+joined : (i j : ℕ) → i / 3 ≡ j / 3 → i % 3 ≡ j % 3 → i ≡ j
+joined i j e f = omega arith
+
+pub node-slots : (i j : ℕ) → constSlot i ≡ constSlot j → i ≡ j
+node-slots i j e = omega arith
+
+pub name-slots : (s : List ℕ) (i j : ℕ) → NameKey s i → NameKey s j → nameSlot i ≡ nameSlot j → i ≡ j
+unfolding nameSlot
+name-slots s i j a b e =
+    by (half (i / 3) (j / 3) (i % 3) (j % 3) e) (rest (i / 3) (j / 3) (i % 3) (j % 3) e) (decLt (i % 3) (j % 3)) (decLt (j % 3) (i % 3))
+  where
+    never :
+        (m n : ℕ) → NameKey s m → NameKey s n → m / 3 ≡ n / 3 → (m % 3 + 1) % 2 ≡ (n % 3 + 1) % 2 → m % 3 < n % 3 → ⊥
+    never m n x y p q l =
+        let low = x .own (first-end (m % 3) (n % 3) l (below-three n) q) in
+        let dot = ap (kind s) p ∙ y .setter (last-end (m % 3) (n % 3) l (below-three n) q) in
+        omega arith
+
+    by : i / 3 ≡ j / 3 → (i % 3 + 1) % 2 ≡ (j % 3 + 1) % 2 → Dec (i % 3 < j % 3) → Dec (j % 3 < i % 3) → i ≡ j
+    by p q (yes l) m = absurd (never i j a b p q l)
+    by p q (no l) (yes m) = absurd (never j i b a (sym p) (sym q) m)
+    by p q (no l) (no m) = joined i j p (omega arith)
+
+-- a node's slot is a name's only where the node is a Property
+pub name-beside : (s : List ℕ) (i j : ℕ) → NameKey s j → constSlot i ≡ nameSlot j → kind s i ≡ propertyKind
+unfolding nameSlot
+name-beside s i j b e =
+    let same : j / 3 ≡ i = omega arith in
+    let mid : j % 3 ≡ 1 = omega arith in
+    sym (ap (kind s) same) ∙ b .getter mid
+
+-- no two pools share a slot
+module _ (s : List ℕ) where
+  pub const-token : (i j : ℕ) → ConstKey s i → TokenKey s j → constSlot i ≡ constSlot j → ⊥
+  const-token i j a b e = let k = ap (kind s) (node-slots i j e) in omega arith
+
+  pub const-chain : (i j : ℕ) → ConstKey s i → ChainKey s j → constSlot i ≡ constSlot j → ⊥
+  const-chain i j a b e = let k = ap (kind s) (node-slots i j e) in omega arith
+
+  pub token-chain : (i j : ℕ) → TokenKey s i → ChainKey s j → constSlot i ≡ constSlot j → ⊥
+  token-chain i j a b e = let k = ap (kind s) (node-slots i j e) in omega arith
+
+  pub const-name : (i j : ℕ) → ConstKey s i → NameKey s j → constSlot i ≡ nameSlot j → ⊥
+  const-name i j a b e = let k = name-beside s i j b e in omega arith
+
+  pub token-name : (i j : ℕ) → TokenKey s i → NameKey s j → constSlot i ≡ nameSlot j → ⊥
+  token-name i j a b e = let k = name-beside s i j b e in omega arith
+
+  pub chain-name : (i j : ℕ) → ChainKey s i → NameKey s j → constSlot i ≡ nameSlot j → ⊥
+  chain-name i j a b e = let k = name-beside s i j b e in omega arith
+
+pub name-slot-below : (nodes k : ℕ) → k < 3 * nodes → nameSlot k < 2 * nodes
+unfolding nameSlot
+name-slot-below nodes k l = omega arith

@@ -1,0 +1,84 @@
+-- Where heads and memos have been cleared no index has an entry, whatever the words were (`indexes-start`).
+use Prim.Native.Nat.{ℕ, _+_, _*_, _-_, _%_, _≤_, _<_}
+use mathlib.Core.Path.{_≡_, sym, ap, ap₂, _∙_, subst}
+use mathlib.Core.Bool.{Bool}
+use mathlib.Core.List.{List}
+use native.Mathlib.Omega.{arith}
+use lib.ListN.{length, getD}
+use Rattle.sheet.specs.Layout.{nodeCount}
+use Rattle.chains.specs.Same.{sameNodes}
+use Rattle.scratch.specs.declared.Layout.{Layout}
+use Rattle.scratch.specs.declared.Index.{Index}
+use Rattle.scratch.specs.Clear.{cleared}
+use Rattle.scratch.specs.Places.{Small, memosAt, memosFrom, headsAt, indexEnd, nameHeads, constHeads, tokenHeads, clearedIndex}
+use Rattle.scratch.proofs.ClearLaws.{cleared-length, cleared-other, cleared-zero}
+use Rattle.scratch.proofs.PlaceLaws.{memos-lie, index-fits}
+use Rattle.index.specs.Pool.{Pool}
+use Rattle.index.specs.Consts.{sameConstOf, constHash, sameTokenOf, tokenHash}
+use Rattle.index.specs.Names.{sameNameOf, nameHash}
+use Rattle.index.specs.Held.{namesHeld}
+use Rattle.index.specs.Chains.{chainHash}
+use Rattle.index.specs.Indexes.{Indexes}
+use Rattle.index.proofs.PoolLaws.{pool-none}
+use Rattle.index.proofs.MemoLaws.{told-none}
+use Rattle.index.proofs.LodgeLaws.{Lodged, lodged-room, const-lodged, token-lodged, chain-lodged, name-lodged}
+
+module _
+    (s : List ℕ) (l : Layout) (small : Small l) (nodes : l .nodes ≡ nodeCount s) (xs : List ℕ) (room : indexEnd l ≤ length xs)
+  where
+    abbrev memoed : List ℕ
+    memoed = cleared (memosAt l) 1024 xs
+
+    abbrev heads : ℕ
+    heads = nameHeads l + constHeads l + 2 * tokenHeads l
+
+    abbrev ys : List ℕ
+    ys = cleared (headsAt l) heads memoed
+
+    -- no place is cut off
+    words : clearedIndex l xs ≡ ys
+    unfolding clearedIndex
+    words =
+        let e = index-fits l in
+        let a : headsAt l % 4294967296 ≡ headsAt l = omega arith in
+        let b : heads % 4294967296 ≡ heads = omega arith in
+        ap₂ (λ (at n : ℕ). cleared at n (cleared (memosFrom l) 1024 xs)) a b
+        ∙ ap (λ (ms : ℕ). cleared (headsAt l) heads (cleared ms 1024 xs)) (memos-lie small)
+
+    long : length ys ≡ length xs
+    long = cleared-length (headsAt l) heads memoed ∙ cleared-length (memosAt l) 1024 xs
+
+    -- the heads of an index are 0
+    head-zero :
+        {Used : ℕ → Type 0} {slot : ℕ → ℕ} {ix : Index} {cap : ℕ} → Lodged l Used slot ix cap → (b : ℕ) → b < ix .count
+        → getD ys (ix .heads + b) 0 ≡ 0
+    head-zero {ix = ix} d b h =
+        let m = cleared-length (memosAt l) 1024 xs in
+        let z : ix .heads + b ≡ headsAt l + (ix .heads + b - headsAt l) = omega arith in
+        ap (λ (i : ℕ). getD ys i 0) z
+        ∙ cleared-zero (headsAt l) heads memoed (omega arith) (ix .heads + b - headsAt l) (omega arith)
+
+    memo-zero : (i : ℕ) → i < 512 → getD ys (memosAt l + 2 * i) 0 ≡ 0
+    memo-zero i h =
+        cleared-other (headsAt l) heads memoed (memosAt l + 2 * i) (λ k m q. omega arith)
+        ∙ cleared-zero (memosAt l) 1024 xs (omega arith) (2 * i) (omega arith)
+
+    empty :
+        (same : ℕ → ℕ → Bool) (hash : ℕ → ℕ) {Used : ℕ → Type 0} {slot : ℕ → ℕ} {ix : Index} {cap : ℕ} → Lodged l Used slot ix cap
+        → Pool same hash Used slot ix cap 0 ys
+    empty same hash {Used} {slot} {ix} {cap} d =
+        let n = long in
+        pool-none same hash Used slot ix cap ys (lodged-room d (length ys) (omega arith)) (head-zero d)
+
+    pub indexes-start : Indexes s l 0 0 0 0 (clearedIndex l xs)
+    indexes-start =
+        subst (Indexes s l 0 0 0 0) (sym words)
+        (record {
+          small = small;
+          nodes = nodes;
+          consts = empty (sameConstOf s) (constHash s) (const-lodged small nodes);
+          tokens = empty (sameTokenOf s) (tokenHash s) (token-lodged small nodes);
+          chains = empty (sameNodes s) (chainHash s (namesHeld s l 0 ys)) (chain-lodged small nodes);
+          names = empty (sameNameOf s) (nameHash s) (name-lodged small nodes);
+          memos = told-none memo-zero;
+        })

@@ -1,0 +1,50 @@
+-- `index::const_hash` meets its contract.
+use Rattle.index.proofs.ConstLaws.{read-string, read-number}
+use borrow.Author.Needs.{needs}
+use Rattle.index.proofs.const_hash.Statement.{statement}
+use Rattle.index.proofs.const_hash.Tie as tie
+
+kind-requires : tie.Need-kind-requires
+kind-requires c κs = search needs
+
+field-a-requires : tie.Need-field-a-requires
+field-a-requires c κs = search needs
+
+text-requires : tie.Need-text-requires
+text-requires c κs = search needs
+
+hash-bytes-requires : tie.Need-hash-bytes-requires
+hash-bytes-requires c κs = search needs
+
+returns : tie.Need-returns
+returns c =
+    let fa = c .before .before .before in
+    let a = fa .before .before .before .args in
+    read-string (a .s .now) (a .j) (fa .before .kind .ensures) (fa .field-a .ensures)
+    (c .before .text .ensures) (c .hash-bytes .ensures) (c .before .before .if1 .taken)
+
+field-b-requires : tie.Need-field-b-requires
+field-b-requires c κs = search needs
+
+number-hash-requires : tie.Need-number-hash-requires
+number-hash-requires c κs = search needs
+
+returns-2 : tie.Need-returns-2
+returns-2 c =
+    let fa = c .before .before .before in
+    let a = fa .before .before .before .args in
+    read-number (a .s .now) (a .j) (fa .before .kind .ensures) (fa .field-a .ensures)
+    (c .before .field-b .ensures) (c .number-hash .ensures) (c .before .before .if1 .left)
+
+pub const-hash-spec : {M : Type 1} → statement M
+const-hash-spec =
+    tie.close
+    (tie.spec
+    kind-requires
+    field-a-requires
+    text-requires
+    hash-bytes-requires
+    returns
+    field-b-requires
+    number-hash-requires
+    returns-2)

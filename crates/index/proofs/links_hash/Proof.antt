@@ -1,0 +1,70 @@
+-- `index::links_hash` meets its contract. Invariant: the links left, from the hash of those passed on, give the hash of all.
+use native.Mathlib.Omega.{arith}
+use Rattle.index.proofs.ChainWalkLaws.{Walking, walk-starts, walk-goes, walk-stops, walk-ends}
+use borrow.Author.Needs.{needs}
+use Rattle.index.proofs.links_hash.Statement.{statement}
+use Rattle.index.proofs.links_hash.Tie as tie
+
+abbrev Inv-loop : tie.InvT-loop
+Inv-loop s x l n j left₀ h₀ c₀ left h c = Walking s l n x j left h c
+
+abbrev μ-loop : tie.MeasureT-loop
+μ-loop s x l n j left₀ h₀ c₀ left h c = left
+
+loop-holds : tie.Need-loop-holds Inv-loop μ-loop
+loop-holds c =
+    let a = c .before .before .args in
+    walk-starts (a .s .now) (a .l) (a .n) (a .x .now) (a .j)
+
+link-hash-requires : tie.Need-link-hash-requires Inv-loop μ-loop
+link-hash-requires c κs = search needs
+
+goes-on-requires : tie.Need-goes-on-requires Inv-loop μ-loop
+goes-on-requires c κs = search needs
+
+rest-of-requires : tie.Need-rest-of-requires Inv-loop μ-loop
+rest-of-requires c κs = search needs
+
+sub-left : tie.Need-sub-left Inv-loop μ-loop
+sub-left c = omega arith
+
+loop-less : tie.Need-loop-less Inv-loop μ-loop
+loop-less c = omega arith
+
+loop-again : tie.Need-loop-again Inv-loop μ-loop
+loop-again c =
+    let linked = c .before .before .before in
+    let w = linked .before .before .loop in
+    let a = linked .before .before .before .before .before .args in
+    walk-goes (a .s .now) (a .l) (a .n) (a .x .now) (a .j) (w .left) (w .h) (w .c) (w .inv) (linked .before .loop-test .taken)
+    (linked .link-hash .ensures) (c .before .before .goes-on .ensures) (c .before .if1 .taken) (c .rest-of .ensures)
+
+returns : tie.Need-returns Inv-loop μ-loop
+returns c =
+    let linked = c .before .before in
+    let w = linked .before .before .loop in
+    let a = linked .before .before .before .before .before .args in
+    walk-stops (a .s .now) (a .l) (a .n) (a .x .now) (a .j) (w .left) (w .h) (w .c) (w .inv) (linked .before .loop-test .taken)
+    (linked .link-hash .ensures) (c .before .goes-on .ensures) (c .if1 .left)
+
+returns-2 : tie.Need-returns-2 Inv-loop μ-loop
+returns-2 c =
+    let w = c .before .loop in
+    let a = c .before .before .before .before .args in
+    walk-ends (a .s .now) (a .l) (a .n) (a .x .now) (a .j) (w .left) (w .h) (w .c) (w .inv) (c .loop-test .left)
+
+pub links-hash-spec : {M : Type 1} → statement M
+links-hash-spec =
+    tie.close
+    (tie.spec
+    Inv-loop
+    μ-loop
+    loop-holds
+    link-hash-requires
+    goes-on-requires
+    rest-of-requires
+    sub-left
+    loop-less
+    loop-again
+    returns
+    returns-2)

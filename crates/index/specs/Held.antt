@@ -1,0 +1,32 @@
+-- The names that the scratch holds, with their index and their memos, and what a search for one answers.
+use Prim.Native.Nat.{ℕ, _*_}
+use mathlib.Core.Path.{_≡_}
+use mathlib.Core.List.{List, map}
+use Rattle.lowering.specs.Pools.{Name, firstWhere, sameName}
+use Rattle.keys.specs.Keys.{nameOf}
+use Rattle.keys.specs.Used.{NameKey}
+use Rattle.scratch.specs.declared.Layout.{Layout}
+use Rattle.scratch.specs.Places.{Small, namesAt, memosAt, nameIndex, region}
+use Rattle.index.specs.Pool.{Pool}
+use Rattle.index.specs.Names.{sameNameOf, nameHash, nameSlot}
+use Rattle.index.specs.Memo.{Told, NameAt}
+
+-- the first n names
+unfoldable pub namesHeld : List ℕ → Layout → ℕ → List ℕ → List Name
+namesHeld s l n xs = map (nameOf s) (region (namesAt l) n xs)
+
+abbrev pub NamePool : List ℕ → Layout → ℕ → List ℕ → Type 0
+NamePool s l n xs = Pool (sameNameOf s) (nameHash s) (NameKey s) nameSlot (nameIndex l) (3 * l .nodes) n xs
+
+abbrev pub NameMemos : List ℕ → Layout → ℕ → List ℕ → Type 0
+NameMemos s l n xs = Told (NameAt s (namesHeld s l n xs)) (memosAt l) xs
+
+-- n names stand, and what the memos tell of them is true
+pub record NamesHold (s : List ℕ) (l : Layout) (n : ℕ) (xs : List ℕ) : Type 0 where
+  pub small : Small l
+  pub pool : NamePool s l n xs
+  pub memos : NameMemos s l n xs
+
+-- r is the place of this name among them
+pub record FindsName (s : List ℕ) (l : Layout) (n : ℕ) (nm : Name) (xs : List ℕ) (r : ℕ) : Type 0 where
+  pub found : NamesHold s l n xs → r ≡ firstWhere (sameName s nm) (namesHeld s l n xs)

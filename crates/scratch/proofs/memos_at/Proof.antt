@@ -1,0 +1,36 @@
+-- `scratch::memos_at` meets its contract.
+use native.Mathlib.Omega.{arith}
+use Rattle.scratch.specs.Places.{memosFrom}
+use borrow.Author.Needs.{needs}
+use Rattle.scratch.proofs.memos_at.Statement.{statement}
+use Rattle.scratch.proofs.memos_at.Tie as tie
+
+cast-word : tie.Need-cast-word
+cast-word c = search needs
+
+mul-word : tie.Need-mul-word
+mul-word c = search needs
+
+add-word : tie.Need-add-word
+add-word c = search needs
+
+cast-word-2 : tie.Need-cast-word-2
+cast-word-2 c = search needs
+
+mul-word-2 : tie.Need-mul-word-2
+mul-word-2 c = search needs
+
+add-word-2 : tie.Need-add-word-2
+add-word-2 c = search needs
+
+word-requires : tie.Need-word-requires
+word-requires c κs = search needs
+
+returns : tie.Need-returns
+unfolding memosFrom
+returns c = omega arith
+
+pub memos-at-spec : {M : Type 1} → statement M
+memos-at-spec =
+    tie.close
+    (tie.spec cast-word mul-word add-word cast-word-2 mul-word-2 add-word-2 word-requires returns)
