@@ -35,7 +35,10 @@ fn jump_on(stop: u32, to: u32) -> Op
 
 // SkipIfNotUnit and Pop.
 fn unless(t: &[u8; 125], c: &mut [u32; COUNTS], x: &mut [u32], to: u32, pos: u32)
-    ensures { λ _. ⌜ ((l : Layout) → now (t .entry) ≡ effectTable → (s : List ℕ) (i : ℕ) → Does s l (now (x .entry)) (stateOf (now (c .entry))) (now (x .exit)) (stateOf (now (c .exit))) (afterOne (kinds.Unless to) i pos)) ⌝ }
+    ensures { λ _. ⌜
+        ((l : Layout) → now (t .entry) ≡ effectTable → (s : List ℕ) (i : ℕ)
+        → Does s l (now (x .entry)) (stateOf (now (c .entry))) (now (x .exit)) (stateOf (now (c .exit))) (afterOne
+        (kinds.Unless to) i pos)) ⌝ }
 {
     emit(t, c, x, Op::SkipIfNotUnit(to), pos, 0);
     emit(t, c, x, Op::Pop, pos, 0);
@@ -43,7 +46,9 @@ fn unless(t: &[u8; 125], c: &mut [u32; COUNTS], x: &mut [u32], to: u32, pos: u32
 
 // What stands behind sibling `i`, which has position `pos`.
 pub fn after_one(t: &[u8; 125], c: &mut [u32; COUNTS], x: &mut [u32], by: After, i: u32, pos: u32)
-    ensures { λ _. ⌜ ((l : Layout) → now (t .entry) ≡ effectTable → (s : List ℕ) → Does s l (now (x .entry)) (stateOf (now (c .entry))) (now (x .exit)) (stateOf (now (c .exit))) (afterOne by i pos)) ⌝ }
+    ensures { λ _. ⌜
+        ((l : Layout) → now (t .entry) ≡ effectTable → (s : List ℕ)
+        → Does s l (now (x .entry)) (stateOf (now (c .entry))) (now (x .exit)) (stateOf (now (c .exit))) (afterOne by i pos)) ⌝ }
 {
     match by {
         After::Nothing => {}

@@ -111,9 +111,10 @@ pub fn first_arg(w: Way, s: &[u8], j: u32) -> u32
 
 // What comes before the arguments, and where the receiver's name stands.
 pub fn open(s: &[u8], t: &[u8; 125], c: &mut [u32; COUNTS], x: &mut [u32], w: Way, j: u32) -> u32
-    ensures { λ r. ⌜
-        ((l : Layout) → now (t .entry) ≡ effectTable → (Facts w (now (s .entry)) j → Does (now (s .entry)) l (now (x .entry)) (stateOf (now (c .entry))) (now (x .exit)) (stateOf (now (c .exit))) (ways.opened w (now (s .entry)) j))
-        × (Facts w (now (s .entry)) j → (a : Made) → Holds (now (s .entry)) l (now (x .entry)) (stateOf (now (c .entry))) a → r ≡ ways.openedAt w (now (s .entry)) j a)) ⌝ }
+    ensures { λ r. let sheet = now (s .entry) in ⌜
+        ((l : Layout) → now (t .entry) ≡ effectTable → (Facts w sheet j
+        → Does sheet l (now (x .entry)) (stateOf (now (c .entry))) (now (x .exit)) (stateOf (now (c .exit))) (ways.opened w sheet j)) ×
+        (Facts w sheet j → (a : Made) → Holds sheet l (now (x .entry)) (stateOf (now (c .entry))) a → r ≡ ways.openedAt w sheet j a)) ⌝ }
 {
     match w {
         Way::FnPtr => 0,
@@ -139,7 +140,10 @@ fn call_ref(
     j: u32,
     receiver: Receiver,
 )
-    ensures { λ _. ⌜ ((l : Layout) → now (t .entry) ≡ effectTable → Plain (now (s .entry)) j → nodes.count (now (s .entry)) j < 256 → NameKey (now (s .entry)) (3 * j + 0) → Does (now (s .entry)) l (now (x .entry)) (stateOf (now (c .entry))) (now (x .exit)) (stateOf (now (c .exit))) (constructs.callRef (now (s .entry)) j receiver)) ⌝ }
+    ensures { λ _. let sheet = now (s .entry) in ⌜
+        ((l : Layout) → now (t .entry) ≡ effectTable → Plain sheet j → nodes.count sheet j < 256 → NameKey sheet (3 * j + 0)
+        → Does sheet l (now (x .entry)) (stateOf (now (c .entry))) (now (x .exit)) (stateOf (now (c .exit)))
+        (constructs.callRef sheet j receiver)) ⌝ }
 {
     let name = add_name(s, c, x, j, 0);
     let op = Op::CallRef {
@@ -152,7 +156,9 @@ fn call_ref(
 
 // The receiver's value under `others` other arguments.
 fn rotate(t: &[u8; 125], c: &mut [u32; COUNTS], x: &mut [u32], others: u32)
-    ensures { λ _. ⌜ ((l : Layout) → now (t .entry) ≡ effectTable → (s : List ℕ) → Does s l (now (x .entry)) (stateOf (now (c .entry))) (now (x .exit)) (stateOf (now (c .exit))) (constructs.rotate others)) ⌝ }
+    ensures { λ _. ⌜
+        ((l : Layout) → now (t .entry) ≡ effectTable → (s : List ℕ)
+        → Does s l (now (x .entry)) (stateOf (now (c .entry))) (now (x .exit)) (stateOf (now (c .exit))) (constructs.rotate others)) ⌝ }
 {
     if others == 0 {
         return;
@@ -162,7 +168,10 @@ fn rotate(t: &[u8; 125], c: &mut [u32; COUNTS], x: &mut [u32], others: u32)
 
 // A call through the name at place `at`.
 fn close_named(s: &[u8], t: &[u8; 125], c: &mut [u32; COUNTS], x: &mut [u32], j: u32, at: u32)
-    ensures { λ _. ⌜ ((l : Layout) → now (t .entry) ≡ effectTable → Plain (now (s .entry)) j → nodes.count (now (s .entry)) j < 256 → NameKey (now (s .entry)) (3 * j + 0) → Does (now (s .entry)) l (now (x .entry)) (stateOf (now (c .entry))) (now (x .exit)) (stateOf (now (c .exit))) (ways.closeNamed (now (s .entry)) j at)) ⌝ }
+    ensures { λ _. let sheet = now (s .entry) in ⌜
+        ((l : Layout) → now (t .entry) ≡ effectTable → Plain sheet j → nodes.count sheet j < 256 → NameKey sheet (3 * j + 0)
+        → Does sheet l (now (x .entry)) (stateOf (now (c .entry))) (now (x .exit)) (stateOf (now (c .exit)))
+        (ways.closeNamed sheet j at)) ⌝ }
 {
     emit(t, c, x, Op::LoadNamed(at), position(s, child(j)), 0);
     rotate(t, c, x, one_less(count(s, j)));
@@ -179,7 +188,11 @@ fn call_as(
     op: u32,
     capture: u32,
 )
-    ensures { λ _. ⌜ ((l : Layout) → now (t .entry) ≡ effectTable → nameOf (now (s .entry)) (3 * j + 0) ≡ name (nodes.fieldA (now (s .entry)) j) capture → nodes.count (now (s .entry)) j < 256 → capture < 2 → NameKey (now (s .entry)) (3 * j + 0) → Does (now (s .entry)) l (now (x .entry)) (stateOf (now (c .entry))) (now (x .exit)) (stateOf (now (c .exit))) (constructs.callAs (now (s .entry)) j op capture)) ⌝ }
+    ensures { λ _. let sheet = now (s .entry) in ⌜
+        ((l : Layout) → now (t .entry) ≡ effectTable → nameOf sheet (3 * j + 0) ≡ name (nodes.fieldA sheet j) capture
+        → nodes.count sheet j < 256 → capture < 2 → NameKey sheet (3 * j + 0)
+        → Does sheet l (now (x .entry)) (stateOf (now (c .entry))) (now (x .exit)) (stateOf (now (c .exit)))
+        (constructs.callAs sheet j op capture)) ⌝ }
 {
     let name = add_name(s, c, x, j, 0);
     let call = Op::Call {
@@ -200,7 +213,11 @@ fn one_more(n: u32) -> u32
 
 // The operator's token, the call's name and Call.
 fn call_token(s: &[u8], t: &[u8; 125], c: &mut [u32; COUNTS], x: &mut [u32], j: u32)
-    ensures { λ _. ⌜ ((l : Layout) → now (t .entry) ≡ effectTable → Plain (now (s .entry)) j → nodes.count (now (s .entry)) j < 256 → NameKey (now (s .entry)) (3 * j + 0) → TokenKey (now (s .entry)) j → Does (now (s .entry)) l (now (x .entry)) (stateOf (now (c .entry))) (now (x .exit)) (stateOf (now (c .exit))) (constructs.callToken (now (s .entry)) j)) ⌝ }
+    ensures { λ _. let sheet = now (s .entry) in ⌜
+        ((l : Layout) → now (t .entry) ≡ effectTable → Plain sheet j → nodes.count sheet j < 256 → NameKey sheet (3 * j + 0)
+        → TokenKey sheet j
+        → Does sheet l (now (x .entry)) (stateOf (now (c .entry))) (now (x .exit)) (stateOf (now (c .exit)))
+        (constructs.callToken sheet j)) ⌝ }
 {
     let at = add_token(s, c, x, j);
     call_as(s, t, c, x, j, one_more(at), 0);
@@ -208,7 +225,10 @@ fn call_token(s: &[u8], t: &[u8; 125], c: &mut [u32; COUNTS], x: &mut [u32], j: 
 
 // The end of a call of values.
 fn call_end(s: &[u8], t: &[u8; 125], c: &mut [u32; COUNTS], x: &mut [u32], j: u32)
-    ensures { λ _. ⌜ ((l : Layout) → now (t .entry) ≡ effectTable → Facts (kinds.Value) (now (s .entry)) j → Does (now (s .entry)) l (now (x .entry)) (stateOf (now (c .entry))) (now (x .exit)) (stateOf (now (c .exit))) (constructs.callEnd (now (s .entry)) j)) ⌝ }
+    ensures { λ _. let sheet = now (s .entry) in ⌜
+        ((l : Layout) → now (t .entry) ≡ effectTable → Facts (kinds.Value) sheet j
+        → Does sheet l (now (x .entry)) (stateOf (now (c .entry))) (now (x .exit)) (stateOf (now (c .exit)))
+        (constructs.callEnd sheet j)) ⌝ }
 {
     if stores_token(s, j) {
         call_token(s, t, c, x, j);
@@ -219,7 +239,10 @@ fn call_end(s: &[u8], t: &[u8; 125], c: &mut [u32; COUNTS], x: &mut [u32], j: u3
 
 // `call(f, ..)`.
 fn close_pointer(s: &[u8], t: &[u8; 125], c: &mut [u32; COUNTS], x: &mut [u32], j: u32)
-    ensures { λ _. ⌜ ((l : Layout) → now (t .entry) ≡ effectTable → Does (now (s .entry)) l (now (x .entry)) (stateOf (now (c .entry))) (now (x .exit)) (stateOf (now (c .exit))) (ways.closed (kinds.FnPtrCall) (now (s .entry)) j 0)) ⌝ }
+    ensures { λ _. let sheet = now (s .entry) in ⌜
+        ((l : Layout) → now (t .entry) ≡ effectTable
+        → Does sheet l (now (x .entry)) (stateOf (now (c .entry))) (now (x .exit)) (stateOf (now (c .exit))) (ways.closed
+        (kinds.FnPtrCall) sheet j 0)) ⌝ }
 {
     let op = Op::CallFnPtr {
         argc: one_less(count(s, j)),
@@ -230,7 +253,10 @@ fn close_pointer(s: &[u8], t: &[u8; 125], c: &mut [u32; COUNTS], x: &mut [u32], 
 
 // What comes behind the arguments, with the receiver's name at place `at`.
 pub fn close(s: &[u8], t: &[u8; 125], c: &mut [u32; COUNTS], x: &mut [u32], w: Way, j: u32, at: u32)
-    ensures { λ _. ⌜ ((l : Layout) → now (t .entry) ≡ effectTable → Facts w (now (s .entry)) j → Does (now (s .entry)) l (now (x .entry)) (stateOf (now (c .entry))) (now (x .exit)) (stateOf (now (c .exit))) (ways.closed w (now (s .entry)) j at)) ⌝ }
+    ensures { λ _. let sheet = now (s .entry) in ⌜
+        ((l : Layout) → now (t .entry) ≡ effectTable → Facts w sheet j
+        → Does sheet l (now (x .entry)) (stateOf (now (c .entry))) (now (x .exit)) (stateOf (now (c .exit)))
+        (ways.closed w sheet j at)) ⌝ }
 {
     match w {
         Way::FnPtr => emit(t, c, x, Op::MakeFnPtr, position(s, child(j)), 0),

@@ -28,7 +28,10 @@ pub fn end_of(levels: u32, s: &[u8], code: u32, j: u32) -> u32
 // The end of And (`stop` 0) and Or (1), from depth `d`, with the code's end at place `end`.
 pub fn verdict(t: &[u8; 125], c: &mut [u32; COUNTS], x: &mut [u32], stop: u32, end: u32, d: u32)
     requires { ⌜ stop < 2 ⌝ }
-    ensures { λ _. ⌜ ((l : Layout) → now (t .entry) ≡ effectTable → (s : List ℕ) (a : Made) → d ≤ a .pools .emitted → Holds s l (now (x .entry)) (stateOf (now (c .entry))) a → Fits l (verdict stop end d a) → Holds s l (now (x .exit)) (stateOf (now (c .exit))) (verdict stop end d a)) ⌝ }
+    ensures { λ _. ⌜
+        ((l : Layout) → now (t .entry) ≡ effectTable → (s : List ℕ) (a : Made) → d ≤ a .pools .emitted
+        → Holds s l (now (x .entry)) (stateOf (now (c .entry))) a → Fits l (verdict stop end d a)
+        → Holds s l (now (x .exit)) (stateOf (now (c .exit))) (verdict stop end d a)) ⌝ }
 {
     emit(t, c, x, Op::Bool(1 - stop), 0, 0);
     emit(t, c, x, Op::Jump(end), 0, 0);

@@ -21,7 +21,10 @@ use store::states::COUNTS;
 
 // A constant.
 pub fn constant(s: &[u8], t: &[u8; 125], c: &mut [u32; COUNTS], x: &mut [u32], j: u32)
-    ensures { λ _. ⌜ ((l : Layout) → now (t .entry) ≡ effectTable → ConstKey (now (s .entry)) j → Does (now (s .entry)) l (now (x .entry)) (stateOf (now (c .entry))) (now (x .exit)) (stateOf (now (c .exit))) (constructs.constant (now (s .entry)) j)) ⌝ }
+    ensures { λ _. let sheet = now (s .entry) in ⌜
+        ((l : Layout) → now (t .entry) ≡ effectTable → ConstKey sheet j
+        → Does sheet l (now (x .entry)) (stateOf (now (c .entry))) (now (x .exit)) (stateOf (now (c .exit)))
+        (constructs.constant sheet j)) ⌝ }
 {
     let at = add_const(s, c, x, j);
     emit(t, c, x, Op::Const(at), 0, 0);
@@ -29,7 +32,10 @@ pub fn constant(s: &[u8], t: &[u8; 125], c: &mut [u32; COUNTS], x: &mut [u32], j
 
 // A name, loaded.
 pub fn load_named(s: &[u8], t: &[u8; 125], c: &mut [u32; COUNTS], x: &mut [u32], j: u32)
-    ensures { λ _. ⌜ ((l : Layout) → now (t .entry) ≡ effectTable → Plain (now (s .entry)) j → NameKey (now (s .entry)) (3 * j + 0) → Does (now (s .entry)) l (now (x .entry)) (stateOf (now (c .entry))) (now (x .exit)) (stateOf (now (c .exit))) (constructs.loadNamed (now (s .entry)) j)) ⌝ }
+    ensures { λ _. let sheet = now (s .entry) in ⌜
+        ((l : Layout) → now (t .entry) ≡ effectTable → Plain sheet j → NameKey sheet (3 * j + 0)
+        → Does sheet l (now (x .entry)) (stateOf (now (c .entry))) (now (x .exit)) (stateOf (now (c .exit)))
+        (constructs.loadNamed sheet j)) ⌝ }
 {
     let at = add_name(s, c, x, j, 0);
     emit(t, c, x, Op::LoadNamed(at), position(s, j), 0);
@@ -37,7 +43,10 @@ pub fn load_named(s: &[u8], t: &[u8; 125], c: &mut [u32; COUNTS], x: &mut [u32],
 
 // A variable: a local, or a name.
 pub fn variable(s: &[u8], t: &[u8; 125], c: &mut [u32; COUNTS], x: &mut [u32], j: u32)
-    ensures { λ _. ⌜ ((l : Layout) → now (t .entry) ≡ effectTable → Plain (now (s .entry)) j → NameKey (now (s .entry)) (3 * j + 0) → Does (now (s .entry)) l (now (x .entry)) (stateOf (now (c .entry))) (now (x .exit)) (stateOf (now (c .exit))) (constructs.variable (now (s .entry)) j)) ⌝ }
+    ensures { λ _. let sheet = now (s .entry) in ⌜
+        ((l : Layout) → now (t .entry) ≡ effectTable → Plain sheet j → NameKey sheet (3 * j + 0)
+        → Does sheet l (now (x .entry)) (stateOf (now (c .entry))) (now (x .exit)) (stateOf (now (c .exit)))
+        (constructs.variable sheet j)) ⌝ }
 {
     let found = slots::resolve(s, sheet::text(s, field_a(s, j)));
     match found {

@@ -69,7 +69,10 @@ fn siblings(
     n: u32,
     from: u32,
 )
-    ensures { λ _. ⌜ ((l : Layout) → now (t .entry) ≡ effectTable → Right (now (s .entry)) → Row (now (s .entry)) n from → Does (now (s .entry)) l (now (x .entry)) (stateOf (now (c .entry))) (now (x .exit)) (stateOf (now (c .exit))) (rows (now (s .entry)) (lowered levels (now (s .entry))) by n from)) ⌝ }
+    ensures { λ _. let sheet = now (s .entry) in ⌜
+        ((l : Layout) → now (t .entry) ≡ effectTable → Right sheet → Row sheet n from
+        → Does sheet l (now (x .entry)) (stateOf (now (c .entry))) (now (x .exit)) (stateOf (now (c .exit))) (rows sheet
+        (lowered levels sheet) by n from)) ⌝ }
 {
     let mut i: u32 = 0;
     let mut j = from;
@@ -83,7 +86,10 @@ fn siblings(
 
 // Array: its elements, MakeArray. One with too many elements is kept.
 fn array(levels: u32, s: &[u8], t: &[u8; 125], c: &mut [u32; COUNTS], x: &mut [u32], j: u32)
-    ensures { λ _. ⌜ ((l : Layout) → now (t .entry) ≡ effectTable → Right (now (s .entry)) → Valid (now (s .entry)) j → Does (now (s .entry)) l (now (x .entry)) (stateOf (now (c .entry))) (now (x .exit)) (stateOf (now (c .exit))) (constructs.array (now (s .entry)) (lowered levels (now (s .entry))) j)) ⌝ }
+    ensures { λ _. let sheet = now (s .entry) in ⌜
+        ((l : Layout) → now (t .entry) ≡ effectTable → Right sheet → Valid sheet j
+        → Does sheet l (now (x .entry)) (stateOf (now (c .entry))) (now (x .exit)) (stateOf (now (c .exit))) (constructs.array sheet
+        (lowered levels sheet) j)) ⌝ }
 {
     let n = count(s, j);
     if n <= MAX_ELEMENTS {
@@ -96,7 +102,10 @@ fn array(levels: u32, s: &[u8], t: &[u8; 125], c: &mut [u32; COUNTS], x: &mut [u
 
 // Interpolated string.
 fn interpolated(levels: u32, s: &[u8], t: &[u8; 125], c: &mut [u32; COUNTS], x: &mut [u32], j: u32)
-    ensures { λ _. ⌜ ((l : Layout) → now (t .entry) ≡ effectTable → Right (now (s .entry)) → Valid (now (s .entry)) j → Does (now (s .entry)) l (now (x .entry)) (stateOf (now (c .entry))) (now (x .exit)) (stateOf (now (c .exit))) (constructs.interpolated (now (s .entry)) (lowered levels (now (s .entry))) j)) ⌝ }
+    ensures { λ _. let sheet = now (s .entry) in ⌜
+        ((l : Layout) → now (t .entry) ≡ effectTable → Right sheet → Valid sheet j
+        → Does sheet l (now (x .entry)) (stateOf (now (c .entry))) (now (x .exit)) (stateOf (now (c .exit)))
+        (constructs.interpolated sheet (lowered levels sheet) j)) ⌝ }
 {
     emit(t, c, x, Op::InterpolateStart, 0, 0);
     siblings(levels, s, t, c, x, After::Append, count(s, j), child(j));
@@ -115,7 +124,10 @@ fn short_circuit(
     j: u32,
 )
     requires { ⌜ stop < 2 ⌝ }
-    ensures { λ _. ⌜ ((l : Layout) → now (t .entry) ≡ effectTable → Right (now (s .entry)) → Valid (now (s .entry)) j → Does (now (s .entry)) l (now (x .entry)) (stateOf (now (c .entry))) (now (x .exit)) (stateOf (now (c .exit))) (constructs.shortCircuit stop (now (s .entry)) (lowered levels (now (s .entry))) end j)) ⌝ }
+    ensures { λ _. let sheet = now (s .entry) in ⌜
+        ((l : Layout) → now (t .entry) ≡ effectTable → Right sheet → Valid sheet j
+        → Does sheet l (now (x .entry)) (stateOf (now (c .entry))) (now (x .exit)) (stateOf (now (c .exit)))
+        (constructs.shortCircuit stop sheet (lowered levels sheet) end j)) ⌝ }
 {
     let by = After::Decide {
         stop,
@@ -136,7 +148,10 @@ fn coalesce(
     end: u32,
     j: u32,
 )
-    ensures { λ _. ⌜ ((l : Layout) → now (t .entry) ≡ effectTable → Right (now (s .entry)) → Valid (now (s .entry)) j → 1 ≤ nodes.count (now (s .entry)) j → Does (now (s .entry)) l (now (x .entry)) (stateOf (now (c .entry))) (now (x .exit)) (stateOf (now (c .exit))) (constructs.coalesce (now (s .entry)) (lowered levels (now (s .entry))) end j)) ⌝ }
+    ensures { λ _. let sheet = now (s .entry) in ⌜
+        ((l : Layout) → now (t .entry) ≡ effectTable → Right sheet → Valid sheet j → 1 ≤ nodes.count sheet j
+        → Does sheet l (now (x .entry)) (stateOf (now (c .entry))) (now (x .exit)) (stateOf (now (c .exit))) (constructs.coalesce sheet
+        (lowered levels sheet) end j)) ⌝ }
 {
     let n = one_less(count(s, j));
     let first = child(j);
@@ -146,7 +161,10 @@ fn coalesce(
 
 // FnCall.
 fn call(levels: u32, s: &[u8], t: &[u8; 125], c: &mut [u32; COUNTS], x: &mut [u32], j: u32)
-    ensures { λ _. ⌜ ((l : Layout) → now (t .entry) ≡ effectTable → Right (now (s .entry)) → Valid (now (s .entry)) j → nodes.kind (now (s .entry)) j ≡ 13 → Does (now (s .entry)) l (now (x .entry)) (stateOf (now (c .entry))) (now (x .exit)) (stateOf (now (c .exit))) (constructs.fnCall (now (s .entry)) (lowered levels (now (s .entry))) j)) ⌝ }
+    ensures { λ _. let sheet = now (s .entry) in ⌜
+        ((l : Layout) → now (t .entry) ≡ effectTable → Right sheet → Valid sheet j → nodes.kind sheet j ≡ 13
+        → Does sheet l (now (x .entry)) (stateOf (now (c .entry))) (now (x .exit)) (stateOf (now (c .exit))) (constructs.fnCall sheet
+        (lowered levels sheet) j)) ⌝ }
 {
     let w = way_of(s, j);
     let at = calls::open(s, t, c, x, w, j);
@@ -165,7 +183,10 @@ fn call(levels: u32, s: &[u8], t: &[u8; 125], c: &mut [u32; COUNTS], x: &mut [u3
 
 // The operands and names of the links of chain `j`, up to one that does not lower.
 fn walk(levels: u32, s: &[u8], t: &[u8; 125], c: &mut [u32; COUNTS], x: &mut [u32], j: u32)
-    ensures { λ _. ⌜ ((l : Layout) → now (t .entry) ≡ effectTable → Right (now (s .entry)) → Linked (now (s .entry)) j → Does (now (s .entry)) l (now (x .entry)) (stateOf (now (c .entry))) (now (x .exit)) (stateOf (now (c .exit))) (constructs.steps (now (s .entry)) (lowered levels (now (s .entry))) (flatten.links maxDepth (now (s .entry)) j))) ⌝ }
+    ensures { λ _. let sheet = now (s .entry) in ⌜
+        ((l : Layout) → now (t .entry) ≡ effectTable → Right sheet → Linked sheet j
+        → Does sheet l (now (x .entry)) (stateOf (now (c .entry))) (now (x .exit)) (stateOf (now (c .exit))) (constructs.steps sheet
+        (lowered levels sheet) (flatten.links maxDepth sheet j))) ⌝ }
 {
     let mut left = MAX_DEPTH;
     let mut at = j;
@@ -190,7 +211,10 @@ fn walk(levels: u32, s: &[u8], t: &[u8; 125], c: &mut [u32; COUNTS], x: &mut [u3
 
 // Dot, Index. The code of a chain that fails is taken back.
 fn chain(levels: u32, s: &[u8], t: &[u8; 125], c: &mut [u32; COUNTS], x: &mut [u32], j: u32)
-    ensures { λ _. ⌜ ((l : Layout) → now (t .entry) ≡ effectTable → Right (now (s .entry)) → Linked (now (s .entry)) j → Does (now (s .entry)) l (now (x .entry)) (stateOf (now (c .entry))) (now (x .exit)) (stateOf (now (c .exit))) (constructs.chain (now (s .entry)) (lowered levels (now (s .entry))) j)) ⌝ }
+    ensures { λ _. let sheet = now (s .entry) in ⌜
+        ((l : Layout) → now (t .entry) ≡ effectTable → Right sheet → Linked sheet j
+        → Does sheet l (now (x .entry)) (stateOf (now (c .entry))) (now (x .exit)) (stateOf (now (c .exit))) (constructs.chain sheet
+        (lowered levels sheet) j)) ⌝ }
 {
     if flattens(s, j) {
         let root = child(j);
@@ -220,7 +244,9 @@ pub fn expression(
     x: &mut [u32],
     j: u32,
 )
-    ensures { λ _. ⌜ ((l : Layout) → now (t .entry) ≡ effectTable → Right (now (s .entry)) → Valid (now (s .entry)) j → Does (now (s .entry)) l (now (x .entry)) (stateOf (now (c .entry))) (now (x .exit)) (stateOf (now (c .exit))) (lowered levels (now (s .entry)) j)) ⌝ }
+    ensures { λ _. let sheet = now (s .entry) in ⌜
+        ((l : Layout) → now (t .entry) ≡ effectTable → Right sheet → Valid sheet j
+        → Does sheet l (now (x .entry)) (stateOf (now (c .entry))) (now (x .exit)) (stateOf (now (c .exit))) (lowered levels sheet j)) ⌝ }
 {
     if levels == 0 {
         residual(t, c, x, j);

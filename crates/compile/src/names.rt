@@ -27,9 +27,11 @@ fn key_of(j: u32, f: u32) -> u32
 
 // The name with key 3 · `j` + `f`, and where it stands.
 pub fn add_name(s: &[u8], c: &mut [u32; COUNTS], x: &mut [u32], j: u32, f: u32) -> u32
-    ensures { λ r. ⌜
-        ((l : Layout) → (f < 3 → NameKey (now (s .entry)) (3 * j + f) → Does (now (s .entry)) l (now (x .entry)) (stateOf (now (c .entry))) (now (x .exit)) (stateOf (now (c .exit))) (addName (now (s .entry)) (nameOf (now (s .entry)) (3 * j + f))))
-        × ((a : Made) → f < 3 → NameKey (now (s .entry)) (3 * j + f) → Holds (now (s .entry)) l (now (x .entry)) (stateOf (now (c .entry))) a → r ≡ nameAt (now (s .entry)) (nameOf (now (s .entry)) (3 * j + f)) (a .pools))) ⌝ }
+    ensures { λ r. let sheet = now (s .entry) in ⌜
+        ((l : Layout) → (f < 3 → NameKey sheet (3 * j + f)
+        → Does sheet l (now (x .entry)) (stateOf (now (c .entry))) (now (x .exit)) (stateOf (now (c .exit))) (addName sheet
+        (nameOf sheet (3 * j + f)))) × ((a : Made) → f < 3 → NameKey sheet (3 * j + f)
+        → Holds sheet l (now (x .entry)) (stateOf (now (c .entry))) a → r ≡ nameAt sheet (nameOf sheet (3 * j + f)) (a .pools))) ⌝ }
 {
     store::add_name(s, c, x, key_of(j, f))
 }

@@ -33,7 +33,10 @@ use store::states::COUNTS;
 
 // A variable's name, for the root of a chain.
 pub fn root_name(s: &[u8], c: &mut [u32; COUNTS], x: &mut [u32], v: u32)
-    ensures { λ _. ⌜ ((l : Layout) → Valid (now (s .entry)) v → Does (now (s .entry)) l (now (x .entry)) (stateOf (now (c .entry))) (now (x .exit)) (stateOf (now (c .exit))) (constructs.rootName (now (s .entry)) v)) ⌝ }
+    ensures { λ _. let sheet = now (s .entry) in ⌜
+        ((l : Layout) → Valid sheet v
+        → Does sheet l (now (x .entry)) (stateOf (now (c .entry))) (now (x .exit)) (stateOf (now (c .exit)))
+        (constructs.rootName sheet v)) ⌝ }
 {
     if kind(s, v) == VARIABLE {
         let _at = add_name(s, c, x, v, 0);
@@ -42,7 +45,11 @@ pub fn root_name(s: &[u8], c: &mut [u32; COUNTS], x: &mut [u32], v: u32)
 
 // The name, getter and setter of property `v`, which a link is taken with.
 fn property(s: &[u8], c: &mut [u32; COUNTS], x: &mut [u32], v: u32, link: u32)
-    ensures { λ _. ⌜ ((l : Layout) → nodes.kind (now (s .entry)) v ≡ 11 → v ≡ flatten.operandOf (now (s .entry)) link → nodes.kind (now (s .entry)) link ≡ 14 → Valid (now (s .entry)) v → Valid (now (s .entry)) link → Does (now (s .entry)) l (now (x .entry)) (stateOf (now (c .entry))) (now (x .exit)) (stateOf (now (c .exit))) (constructs.property (now (s .entry)) v)) ⌝ }
+    ensures { λ _. let sheet = now (s .entry) in ⌜
+        ((l : Layout) → nodes.kind sheet v ≡ 11 → v ≡ flatten.operandOf sheet link → nodes.kind sheet link ≡ 14 → Valid sheet v
+        → Valid sheet link
+        → Does sheet l (now (x .entry)) (stateOf (now (c .entry))) (now (x .exit)) (stateOf (now (c .exit)))
+        (constructs.property sheet v)) ⌝ }
 {
     let _name = add_name(s, c, x, v, 0);
     let _getter = add_name(s, c, x, v, 1);
@@ -51,14 +58,20 @@ fn property(s: &[u8], c: &mut [u32; COUNTS], x: &mut [u32], v: u32, link: u32)
 
 // The name of method `v`.
 fn method(s: &[u8], c: &mut [u32; COUNTS], x: &mut [u32], v: u32)
-    ensures { λ _. ⌜ ((l : Layout) → nodes.kind (now (s .entry)) v ≡ 12 → Valid (now (s .entry)) v → Does (now (s .entry)) l (now (x .entry)) (stateOf (now (c .entry))) (now (x .exit)) (stateOf (now (c .exit))) (stepNames flatten.method (now (s .entry)) v)) ⌝ }
+    ensures { λ _. let sheet = now (s .entry) in ⌜
+        ((l : Layout) → nodes.kind sheet v ≡ 12 → Valid sheet v
+        → Does sheet l (now (x .entry)) (stateOf (now (c .entry))) (now (x .exit)) (stateOf (now (c .exit)))
+        (stepNames flatten.method sheet v)) ⌝ }
 {
     let _name = add_name(s, c, x, v, 0);
 }
 
 // The names of the step of a link.
 pub fn step_names(s: &[u8], c: &mut [u32; COUNTS], x: &mut [u32], link: u32)
-    ensures { λ _. ⌜ ((l : Layout) → Valid (now (s .entry)) (flatten.operandOf (now (s .entry)) link) → ChainKey (now (s .entry)) link → Does (now (s .entry)) l (now (x .entry)) (stateOf (now (c .entry))) (now (x .exit)) (stateOf (now (c .exit))) (stepNames (flatten.stepRule (now (s .entry)) link) (now (s .entry)) (flatten.operandOf (now (s .entry)) link))) ⌝ }
+    ensures { λ _. let sheet = now (s .entry) in ⌜
+        ((l : Layout) → Valid sheet (flatten.operandOf sheet link) → ChainKey sheet link
+        → Does sheet l (now (x .entry)) (stateOf (now (c .entry))) (now (x .exit)) (stateOf (now (c .exit))) (stepNames
+        (flatten.stepRule sheet link) sheet (flatten.operandOf sheet link))) ⌝ }
 {
     let by = step_rule(s, link);
     match by {
@@ -71,14 +84,17 @@ pub fn step_names(s: &[u8], c: &mut [u32; COUNTS], x: &mut [u32], link: u32)
 
 // How many values the chain of node `j` takes off the stack.
 fn popped(s: &[u8], j: u32) -> u32
-    ensures { λ r. ⌜ r ≡ entries.chainOperands (now (s .entry)) j + links.temporary (now (s .entry)) (nodes.child j) ⌝ }
+    ensures { λ r. let sheet = now (s .entry) in ⌜ r ≡ entries.chainOperands sheet j + links.temporary sheet (nodes.child j) ⌝ }
 {
     operands(s, j) + temporary(s, child(j))
 }
 
 // The chain's entry and Chain.
 pub fn close_chain(s: &[u8], t: &[u8; 125], c: &mut [u32; COUNTS], x: &mut [u32], j: u32)
-    ensures { λ _. ⌜ ((l : Layout) → now (t .entry) ≡ effectTable → ChainKey (now (s .entry)) j → (a : Made) → Pooled (now (s .entry)) (a .pools .names) j → Holds (now (s .entry)) l (now (x .entry)) (stateOf (now (c .entry))) a → Fits l (constructs.closeChain (now (s .entry)) j a) → Holds (now (s .entry)) l (now (x .exit)) (stateOf (now (c .exit))) (constructs.closeChain (now (s .entry)) j a)) ⌝ }
+    ensures { λ _. let sheet = now (s .entry) in ⌜
+        ((l : Layout) → now (t .entry) ≡ effectTable → ChainKey sheet j → (a : Made) → Pooled sheet (a .pools .names) j
+        → Holds sheet l (now (x .entry)) (stateOf (now (c .entry))) a → Fits l (constructs.closeChain sheet j a)
+        → Holds sheet l (now (x .exit)) (stateOf (now (c .exit))) (constructs.closeChain sheet j a)) ⌝ }
 {
     let at = add_chain(s, c, x, j);
     emit(t, c, x, Op::Chain(at), position(s, j), popped(s, j));

@@ -71,7 +71,8 @@ fn coalesce(levels: u32, s: &[u8], j: u32) -> Tally
 
 // The operands of a chain's links, up to one that does not lower.
 fn walk(levels: u32, s: &[u8], j: u32) -> Tally
-    ensures { λ r. ⌜ r ≡ capped (counts.walk (now (s .entry)) (counts.tally levels (now (s .entry))) (links maxDepth (now (s .entry)) j)) ⌝ }
+    ensures { λ r. ⌜
+        r ≡ capped (counts.walk (now (s .entry)) (counts.tally levels (now (s .entry))) (links maxDepth (now (s .entry)) j)) ⌝ }
 {
     let mut sum = nothing();
     let mut left = MAX_DEPTH;

@@ -48,7 +48,8 @@ pub fn beyond(m: usize, at: usize, n: usize) -> bool
 
 // `n` words of the scratch from `b` on.
 fn put_part(x: &[u32], b: usize, n: usize, image: &mut [u32], at: usize) -> usize
-    ensures { λ r. ⌜ (b + n ≤ length (now (x .entry)) → Puts (now (image .entry)) (now (image .exit)) at r (region b n (now (x .entry)))) ⌝ }
+    ensures { λ r. ⌜
+        (b + n ≤ length (now (x .entry)) → Puts (now (image .entry)) (now (image .exit)) at r (region b n (now (x .entry)))) ⌝ }
 {
     if beyond(x.len(), b, n) {
         return at;

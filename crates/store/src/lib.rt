@@ -114,7 +114,8 @@ fn put_op(x: &mut [u32], code: u32, w: [u32; 4])
 fn push(t: &[u8; 125], c: &mut [u32; COUNTS], x: &mut [u32], w: [u32; 4], pos: u32, n: u32)
     ensures { λ _. ⌜
         ((l : Layout) → now (t .entry) ≡ effectTable → (s : List ℕ) (op : Op) → w ≡ opWords op
-        → Does s l (now (x .entry)) (states.stateOf (now (c .entry))) (now (x .exit)) (states.stateOf (now (c .exit))) (made.emit op pos n)) ⌝ }
+        → Does s l (now (x .entry)) (states.stateOf (now (c .entry))) (now (x .exit)) (states.stateOf (now (c .exit)))
+        (made.emit op pos n)) ⌝ }
 {
     let code = c[CODE];
     let d = after(t, w, n, c[DEPTH]);
@@ -128,7 +129,8 @@ fn push(t: &[u8; 125], c: &mut [u32; COUNTS], x: &mut [u32], w: [u32; 4], pos: u
 pub fn emit(t: &[u8; 125], c: &mut [u32; COUNTS], x: &mut [u32], op: Op, pos: u32, n: u32)
     ensures { λ _. ⌜
         ((l : Layout) → now (t .entry) ≡ effectTable → (s : List ℕ) → Narrow op
-        → Does s l (now (x .entry)) (states.stateOf (now (c .entry))) (now (x .exit)) (states.stateOf (now (c .exit))) (made.emit op pos n)) ⌝ }
+        → Does s l (now (x .entry)) (states.stateOf (now (c .entry))) (now (x .exit)) (states.stateOf (now (c .exit)))
+        (made.emit op pos n)) ⌝ }
 {
     push(t, c, x, op_words(op), pos, n);
 }
@@ -137,7 +139,8 @@ pub fn emit(t: &[u8; 125], c: &mut [u32; COUNTS], x: &mut [u32], op: Op, pos: u3
 pub fn residual(t: &[u8; 125], c: &mut [u32; COUNTS], x: &mut [u32], j: u32)
     ensures { λ _. ⌜
         ((l : Layout) → now (t .entry) ≡ effectTable → (s : List ℕ)
-        → Does s l (now (x .entry)) (states.stateOf (now (c .entry))) (now (x .exit)) (states.stateOf (now (c .exit))) (made.residual j)) ⌝ }
+        → Does s l (now (x .entry)) (states.stateOf (now (c .entry))) (now (x .exit)) (states.stateOf (now (c .exit)))
+        (made.residual j)) ⌝ }
 {
     let e = c[RESIDUALS];
     emit(t, c, x, Op::EvalAst(e), 0, 0);
@@ -149,11 +152,11 @@ pub fn residual(t: &[u8; 125], c: &mut [u32; COUNTS], x: &mut [u32], j: u32)
 
 // The constant of node `j`, and its place.
 pub fn add_const(s: &[u8], c: &mut [u32; COUNTS], x: &mut [u32], j: u32) -> u32
-    ensures { λ r. ⌜
-        ((l : Layout) → Adds (now (s .entry)) l (now (x .entry)) (states.stateOf (now (c .entry))) (now (x .exit)) (states.stateOf (now (c .exit))) r
-        (ConstKey (now (s .entry)) j)
-        (made.addConst (now (s .entry)) (pools.constOf (now (s .entry)) j))
-        (λ a. pools.constAt (now (s .entry)) (pools.constOf (now (s .entry)) j) (a .pools))) ⌝ }
+    ensures { λ r. let sheet = now (s .entry) in ⌜
+        ((l : Layout)
+        → Adds sheet l (now (x .entry)) (states.stateOf (now (c .entry))) (now (x .exit)) (states.stateOf (now (c .exit))) r
+        (ConstKey sheet j) (made.addConst sheet (pools.constOf sheet j)) (λ a. pools.constAt sheet (pools.constOf sheet j)
+        (a .pools))) ⌝ }
 {
     let l = layout_of(c);
     let n = c[CONSTS];
@@ -171,11 +174,10 @@ pub fn add_const(s: &[u8], c: &mut [u32; COUNTS], x: &mut [u32], j: u32) -> u32
 
 // The token of node `j`, and its place.
 pub fn add_token(s: &[u8], c: &mut [u32; COUNTS], x: &mut [u32], j: u32) -> u32
-    ensures { λ r. ⌜
-        ((l : Layout) → Adds (now (s .entry)) l (now (x .entry)) (states.stateOf (now (c .entry))) (now (x .exit)) (states.stateOf (now (c .exit))) r
-        (TokenKey (now (s .entry)) j)
-        (made.addToken (nodes.fieldC (now (s .entry)) j))
-        (λ a. pools.tokenAt (nodes.fieldC (now (s .entry)) j) (a .pools))) ⌝ }
+    ensures { λ r. let sheet = now (s .entry) in ⌜
+        ((l : Layout)
+        → Adds sheet l (now (x .entry)) (states.stateOf (now (c .entry))) (now (x .exit)) (states.stateOf (now (c .exit))) r
+        (TokenKey sheet j) (made.addToken (nodes.fieldC sheet j)) (λ a. pools.tokenAt (nodes.fieldC sheet j) (a .pools))) ⌝ }
 {
     let l = layout_of(c);
     let n = c[TOKENS];
@@ -193,12 +195,10 @@ pub fn add_token(s: &[u8], c: &mut [u32; COUNTS], x: &mut [u32], j: u32) -> u32
 
 // The name with key `k`, which has text `t` and `!` where `m` says, sought by its bytes, and its place.
 fn push_name(s: &[u8], c: &mut [u32; COUNTS], x: &mut [u32], k: u32, t: u32, m: bool) -> u32
-    ensures { λ r. ⌜
-        ((l : Layout) → t ≡ nameOf (now (s .entry)) k .text → m ≡ isMarked (now (s .entry)) (k / 3) (k % 3)
-        → Adds (now (s .entry)) l (now (x .entry)) (states.stateOf (now (c .entry))) (now (x .exit)) (states.stateOf (now (c .exit))) r
-        (NameKey (now (s .entry)) k)
-        (made.addName (now (s .entry)) (nameOf (now (s .entry)) k))
-        (λ a. pools.nameAt (now (s .entry)) (nameOf (now (s .entry)) k) (a .pools))) ⌝ }
+    ensures { λ r. let sheet = now (s .entry) in ⌜
+        ((l : Layout) → t ≡ nameOf sheet k .text → m ≡ isMarked sheet (k / 3) (k % 3)
+        → Adds sheet l (now (x .entry)) (states.stateOf (now (c .entry))) (now (x .exit)) (states.stateOf (now (c .exit))) r
+        (NameKey sheet k) (made.addName sheet (nameOf sheet k)) (λ a. pools.nameAt sheet (nameOf sheet k) (a .pools))) ⌝ }
 {
     let l = layout_of(c);
     let n = c[NAMES];
@@ -216,11 +216,10 @@ fn push_name(s: &[u8], c: &mut [u32; COUNTS], x: &mut [u32], k: u32, t: u32, m: 
 
 // The name with key `k` (3 · node + field), and its place. What is known of its text number is asked first.
 pub fn add_name(s: &[u8], c: &mut [u32; COUNTS], x: &mut [u32], k: u32) -> u32
-    ensures { λ r. ⌜
-        ((l : Layout) → Adds (now (s .entry)) l (now (x .entry)) (states.stateOf (now (c .entry))) (now (x .exit)) (states.stateOf (now (c .exit))) r
-        (NameKey (now (s .entry)) k)
-        (made.addName (now (s .entry)) (nameOf (now (s .entry)) k))
-        (λ a. pools.nameAt (now (s .entry)) (nameOf (now (s .entry)) k) (a .pools))) ⌝ }
+    ensures { λ r. let sheet = now (s .entry) in ⌜
+        ((l : Layout)
+        → Adds sheet l (now (x .entry)) (states.stateOf (now (c .entry))) (now (x .exit)) (states.stateOf (now (c .exit))) r
+        (NameKey sheet k) (made.addName sheet (nameOf sheet k)) (λ a. pools.nameAt sheet (nameOf sheet k) (a .pools))) ⌝ }
 {
     let t = text_of(s, k);
     if is_marked(s, k) {

@@ -75,7 +75,8 @@ loop-again c =
       one-next s (at .i) (at .j) _ (at .inv .1) (c .next .ensures),
       c .before .before .before .put-two .kept .0 ∙ at .inv .2,
       λ ts hs ns h.
-          case-next s ks (a .t6) (at .i) (count .field-b .result) _ (found .place .result) (omega (arith, start .pre .0, count .field-b .ensures))
+          case-next s ks (a .t6) (at .i) (count .field-b .result) _ (found .place .result) (omega
+          (arith, start .pre .0, count .field-b .ensures))
           (test .loop-test .taken) refl (found .place .ensures ts hs ns h ∙ ap (placeIn s ks) (at .inv .1))
           (c .before .before .before .put-two .ensures) (at .inv .3 ts hs ns h),
     )

@@ -22,7 +22,8 @@ returns c =
     let ns = namesHeld s (a .l) (a .n) (a .x .now) in
     λ h.
     c .chain-of .ensures
-    ∙ chain-placed s ns (a .j) (a .first) (c .before .root-place .result) _ (c .before .before .child .ensures) (c .before .root-place .ensures h)
+    ∙ chain-placed s ns (a .j) (a .first) (c .before .root-place .result) _ (c .before .before .child .ensures)
+    (c .before .root-place .ensures h)
 
 pub chain-at-spec : {M : Type 1} → statement M
 chain-at-spec = tie.close (tie.spec child-requires root-place-requires chain-of-requires returns)

@@ -25,8 +25,14 @@ abbrev μ-loop : tie.MeasureT-loop
 loop-holds : tie.Need-loop-holds Inv-loop μ-loop
 unfolding stepsWords
 loop-holds c =
-    let a = c .before .before .before .args in
-    (omega arith, omega arith, left-starts (a .s .now) (namesHeld (a .s .now) (a .l) (a .n) (a .x .now)) (a .j), refl, λ _. written-none (a .out .now))
+    let a = c .before .before .before .args in (
+      omega arith,
+      omega arith,
+      left-starts (a .s .now) (namesHeld (a .s .now) (a .l) (a .n) (a .x .now)) (a .j),
+      refl,
+      λ _. written-none
+          (a .out .now),
+    )
 
 step-at-requires : tie.Need-step-at-requires Inv-loop μ-loop
 step-at-requires c κs = search needs
@@ -89,7 +95,8 @@ loop-again c =
     (put .before .step-words .ensures) (put .put-six .ensures) (l .inv .4 h′) in (
       omega arith,
       omega (arith, width-few s (l .c)),
-      left-more s ns (a .j) (l .i) (l .k) (l .left) (l .c) _ _ h g (c .before .before .before .width .ensures) (c .rest-of .ensures) (l .inv .2),
+      left-more s ns (a .j) (l .i) (l .k) (l .left) (l .c) _ _ h g (c .before .before .before .width .ensures) (c .rest-of .ensures)
+          (l .inv .2),
       put .put-six .kept .0 ∙ l .inv .3,
       w,
     )
@@ -121,7 +128,8 @@ returns-2 c =
     let a = c .before .before .before .before .before .args in
     let ns = namesHeld (a .s .now) (a .l) (a .n) (a .x .now) in
     let l = c .before .loop in
-    λ h′. step-done (a .s .now) ns (a .j) (l .i) (l .k) (l .left) (l .c) (c .before .before .before .before .before .pre) (c .loop-test .left)
+    λ h′. step-done (a .s .now) ns (a .j) (l .i) (l .k) (l .left) (l .c) (c .before .before .before .before .before .pre)
+    (c .loop-test .left)
     (l .inv .2) (l .inv .4 h′)
 
 pub chain-steps-spec : {M : Type 1} → statement M

@@ -80,7 +80,8 @@ loop-again c =
     (c .before .before .before .before .before .before .before .before .before .loop .inv .3 h) in (
       omega arith,
       ap₂ _+_ (c .before .before .before .before .before .before .before .before .before .loop .inv .1) (c .link-count .ensures)
-          ∙ sym (count-more (a .s .now) (a .js .now) i (c .before .before .before .before .before .before .before .before .loop-test .taken)),
+          ∙ sym (count-more (a .s .now) (a .js .now) i
+          (c .before .before .before .before .before .before .before .before .loop-test .taken)),
       c .before .before .before .put-six .kept .0 ∙ c .before .before .before .before .before .before .before .before .before .loop .inv .2,
       w,
     )

@@ -57,8 +57,12 @@ loop-again c =
     (c .before .before .before .before .before .before .before .before .loop-test .taken)
     (c .before .before .before .before .before .kind .ensures) (c .before .before .before .before .field-a .ensures)
     (c .before .before .before .field-b .ensures) (c .before .before .put-three .ensures)
-    (c .before .before .before .before .before .before .before .before .before .loop .inv .2) in
-    (omega arith, c .before .before .put-three .kept .0 ∙ c .before .before .before .before .before .before .before .before .before .loop .inv .1, w)
+    (c .before .before .before .before .before .before .before .before .before .loop .inv .2) in (
+      omega arith,
+      c .before .before .put-three .kept .0 ∙ c .before .before .before .before .before .before .before .before .before .loop
+          .inv .1,
+      w,
+    )
 
 same-length : tie.Need-same-length Inv-loop μ-loop
 same-length c = c .before .loop .inv .1

@@ -24,7 +24,8 @@ returns c =
 returns-2 : tie.Need-returns-2
 returns-2 c =
     let a = c .before .before .before .before .args in
-    λ _. root-plain (a .s .now) (namesHeld (a .s .now) (a .l) (a .n) (a .x .now)) (a .v) 0 (λ e. c .if1 .left (c .before .kind .ensures ∙ e))
+    λ _. root-plain (a .s .now) (namesHeld (a .s .now) (a .l) (a .n) (a .x .now)) (a .v) 0 (λ e. c .if1 .left
+    (c .before .kind .ensures ∙ e))
 
 pub root-place-spec : {M : Type 1} → statement M
 root-place-spec =

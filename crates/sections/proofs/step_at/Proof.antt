@@ -71,7 +71,8 @@ returns c =
     let a = c .before .before .before .before .before .before .before .args in
     let s = a .s .now in
     let ns = namesHeld s (a .l) (a .n) (a .x .now) in
-    let r = sym (step-is (stepRule s (a .c)) Index (sym (c .before .before .before .before .step-rule .ensures) ∙ c .before .enum-told .given .1)) in
+    let r = sym (step-is (stepRule s (a .c)) Index (sym
+    (c .before .before .before .before .step-rule .ensures) ∙ c .before .enum-told .given .1)) in
     λ _. step-index s ns (a .c) (a .k) 0 0 0 r (c .step-of .ensures)
 
 returns-2 : tie.Need-returns-2
@@ -81,8 +82,10 @@ returns-2 c =
     let ns = namesHeld s (a .l) (a .n) (a .x .now) in
     let o = c .before .before .before .before .before .before .before .before .before .operand-of .ensures in
     λ h.
-    let first = named-by s ns (a .c) (fieldA s) o (c .before .before .before .before .before .before .field-a .ensures) (placed (c .before .before .before .before .before .text-place .ensures) h) in
-    let second = named-by s ns (a .c) (fieldB s) o (c .before .before .before .before .field-b .ensures) (placed (c .before .before .before .text-place2 .ensures) h) in
+    let first = named-by s ns (a .c) (fieldA s) o (c .before .before .before .before .before .before .field-a .ensures) (placed
+    (c .before .before .before .before .before .text-place .ensures) h) in
+    let second = named-by s ns (a .c) (fieldB s) o (c .before .before .before .before .field-b .ensures) (placed
+    (c .before .before .before .text-place2 .ensures) h) in
     let third = named-by s ns (a .c) (fieldC s) o (c .before .before .field-c .ensures) (placed (c .before .text-place3 .ensures) h) in
     step-property s ns (a .c) (a .k) _ _ _ first second third (c .step-of2 .ensures)
 
@@ -92,9 +95,11 @@ returns-3 c =
     let a = c .before .before .before .before .before .before .before .before .before .args in
     let s = a .s .now in
     let ns = namesHeld s (a .l) (a .n) (a .x .now) in
-    let r = sym (step-is (stepRule s (a .c)) Method (sym (c .before .before .before .before .before .before .step-rule .ensures) ∙ c .before .before .before .enum-told3 .given .1)) in
+    let r = sym (step-is (stepRule s (a .c)) Method (sym
+    (c .before .before .before .before .before .before .step-rule .ensures) ∙ c .before .before .before .enum-told3 .given .1)) in
     λ h.
-    let first = named-by s ns (a .c) (fieldA s) (c .before .before .before .before .before .operand-of .ensures) (c .before .before .field-a2 .ensures) (placed (c .before .text-place4 .ensures) h) in
+    let first = named-by s ns (a .c) (fieldA s) (c .before .before .before .before .before .operand-of .ensures)
+    (c .before .before .field-a2 .ensures) (placed (c .before .text-place4 .ensures) h) in
     step-method s ns (a .c) (a .k) _ 0 0 r first (c .step-of3 .ensures)
 
 returns-4 : tie.Need-returns-4
@@ -103,7 +108,8 @@ returns-4 c =
     let a = c .before .before .before .before .before .before .before .args in
     let s = a .s .now in
     let ns = namesHeld s (a .l) (a .n) (a .x .now) in
-    let r = sym (step-is (stepRule s (a .c)) Nothing (sym (c .before .before .before .before .step-rule .ensures) ∙ c .before .enum-told4 .given .1)) in
+    let r = sym (step-is (stepRule s (a .c)) Nothing (sym
+    (c .before .before .before .before .step-rule .ensures) ∙ c .before .enum-told4 .given .1)) in
     λ _. step-none s ns (a .c) (a .k) 0 0 0 r (c .step-of4 .ensures)
 
 pub step-at-spec : {M : Type 1} → statement M

@@ -96,7 +96,8 @@ loop-again c =
       omega arith,
       omega (arith, count-more (a .s .now) (a .js .now) (l .i) (test .loop-test .taken), count .link-count .ensures),
       omega (arith, within, l .inv .3),
-      put-length (l .out) (part .chain-steps .last .1 .0) (l .at) (l .at + 6 * r - l .at) (omega (arith, within)) (part .chain-steps .kept .1 .0) ∙ l .inv .3,
+      put-length (l .out) (part .chain-steps .last .1 .0) (l .at) (l .at + 6 * r - l .at) (omega (arith, within))
+          (part .chain-steps .kept .1 .0) ∙ l .inv .3,
       λ h e.
           all-next (a .s .now) ns (a .js .now) (l .i) (l .at) (l .at + 6 * r - l .at) _ e (test .loop-test .taken) (l .inv .1)
           (omega (arith, count .link-count .ensures)) (part .chain-steps .ensures h) refl (l .inv .4 h e),

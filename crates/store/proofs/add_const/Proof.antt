@@ -68,7 +68,8 @@ returns-2 c =
     adds-any (p17 .layout-of .ensures)
     (const-adds-new (p21 .args .s .now) (p17 .layout-of .result) (p21 .args .x .now) (p21 .args .c .now) (p21 .args .j) _ _
     (p15 .const-hash .ensures)
-    (finds-at (p14 .const-index .ensures) (p11 .before .seek-const .ensures)) _ (p11 .if1 .left) (p9 .const-place .ensures) (p8 .put .ensures)
+    (finds-at (p14 .const-index .ensures) (p11 .before .seek-const .ensures)) _ (p11 .if1 .left) (p9 .const-place .ensures)
+    (p8 .put .ensures)
     (p14 .const-index .ensures) (p4 .link .ensures) (p3 .note .ensures)
     (λ full. const-of (p21 .args .c .now) full _ (c .wrapping-add-u32 .ensures)))
 

@@ -33,7 +33,8 @@ returns c = λ l text mark.
     let s = p10 .args .s .now in
     adds-any (p6 .layout-of .ensures)
     (name-adds-old s (p6 .layout-of .result) (p10 .args .x .now) (p10 .args .c .now) (p10 .args .k) (p10 .args .t) _ _
-    (p10 .args .m) (name-read s (p10 .args .k) text mark) (p4 .name-hash .ensures) (finds-at (c .before .before .before .name-index .ensures) (c .before .seek-name .ensures)) (c .if1 .taken)) l
+    (p10 .args .m) (name-read s (p10 .args .k) text mark) (p4 .name-hash .ensures) (finds-at
+    (c .before .before .before .name-index .ensures) (c .before .seek-name .ensures)) (c .if1 .taken)) l
 
 name-place-requires : tie.Need-name-place-requires
 name-place-requires c κs = search needs

@@ -31,7 +31,8 @@ returns c = λ l table.
     λ p n b v.
     let named = p9 .add-name .ensures l in
     let few = subst (λ (m : ℕ). m < 256) (sym (p6 .count .ensures)) n in
-    call-as-does _ _ _ _ _ p (p6 .count .ensures) (p3 .position .ensures) (λ a h. named .1 a (lit< tt) v h) (named .0 (lit< tt) v) (p2 .emit .ensures l table _ (few, b))
+    call-as-does _ _ _ _ _ p (p6 .count .ensures) (p3 .position .ensures) (λ a h. named .1 a (lit< tt) v h) (named .0 (lit< tt) v)
+    (p2 .emit .ensures l table _ (few, b))
 
 pub call-as-spec : {M : Type 1} → statement M
 call-as-spec =

@@ -31,7 +31,8 @@ returns c = λ l table.
     λ p n v.
     let named = p9 .add-name .ensures l in
     let few = subst (λ (m : ℕ). m < 256) (sym (p6 .count .ensures)) n in
-    call-ref-does _ _ _ _ p (p6 .count .ensures) (p3 .position .ensures) (λ a h. named .1 a (lit< tt) v h) (named .0 (lit< tt) v) (p2 .emit .ensures l table _ few)
+    call-ref-does _ _ _ _ p (p6 .count .ensures) (p3 .position .ensures) (λ a h. named .1 a (lit< tt) v h) (named .0 (lit< tt) v)
+    (p2 .emit .ensures l table _ few)
 
 pub call-ref-spec : {M : Type 1} → statement M
 call-ref-spec =

@@ -23,7 +23,8 @@ returns c = λ l table.
     let p3 = p2 .before in
     let p7 = p3 .before .before .before .before in
     let p8 = p7 .before in
-    λ p n v t. call-token-does _ _ (p3 .one-more .ensures) (p8 .add-token .ensures l .place) (p8 .add-token .ensures l .does t) (p2 .call-as .ensures l table p n (omega arith) v)
+    λ p n v t. call-token-does _ _ (p3 .one-more .ensures) (p8 .add-token .ensures l .place) (p8 .add-token .ensures l .does t)
+    (p2 .call-as .ensures l table p n (omega arith) v)
 
 pub call-token-spec : {M : Type 1} → statement M
 call-token-spec =

@@ -47,7 +47,8 @@ returns c = λ l table.
     let s = p21 .args .s .now in
     let others = p8 .one-less .ensures ∙ ap (λ (n : ℕ). n - 1) (p9 .count .ensures) in
     let at-pos = p15 .position .ensures ∙ ap (position s) (p16 .child .ensures) in
-    λ p n v. close-named-does _ _ _ _ others at-pos (p14 .emit .ensures l table _ tt) (p7 .rotate .ensures l table _) (p2 .call-ref .ensures l table p n v)
+    λ p n v. close-named-does _ _ _ _ others at-pos (p14 .emit .ensures l table _ tt) (p7 .rotate .ensures l table _)
+    (p2 .call-ref .ensures l table p n v)
 
 pub close-named-spec : {M : Type 1} → statement M
 close-named-spec =

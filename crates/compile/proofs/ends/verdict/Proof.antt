@@ -30,7 +30,9 @@ returns c = λ l table.
     let p13 = p9 .before .before .before .before in
     let p14 = p13 .before in
     let p18 = p14 .before .before .before .before in
-    λ s a few h room. verdict-holds (p18 .args .stop) (p18 .args .end) (p18 .args .d) a few h room (p14 .emit .ensures l table s tt) (p9 .emit2 .ensures l table s tt) (λ b g k. held-at-depth (p9 .emit2 .last .1 .0) (p5 .at-depth .ensures) g k) (p2 .emit3 .ensures l table s tt)
+    λ s a few h room. verdict-holds (p18 .args .stop) (p18 .args .end) (p18 .args .d) a few h room (p14 .emit .ensures l table s tt)
+    (p9 .emit2 .ensures l table s tt) (λ b g k. held-at-depth (p9 .emit2 .last .1 .0) (p5 .at-depth .ensures) g k)
+    (p2 .emit3 .ensures l table s tt)
 
 pub verdict-spec : {M : Type 1} → statement M
 verdict-spec =

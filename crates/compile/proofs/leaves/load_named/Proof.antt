@@ -24,7 +24,8 @@ returns c = λ l table.
     let p7 = p3 .before .before .before .before in
     let p8 = p7 .before in
     let named = p8 .add-name .ensures l in
-    λ p v. load-named-does _ _ p (p3 .position .ensures) (λ a h. named .1 a (lit< tt) v h) (named .0 (lit< tt) v) (p2 .emit .ensures l table _ tt)
+    λ p v. load-named-does _ _ p (p3 .position .ensures) (λ a h. named .1 a (lit< tt) v h) (named .0 (lit< tt) v)
+    (p2 .emit .ensures l table _ tt)
 
 pub load-named-spec : {M : Type 1} → statement M
 load-named-spec =

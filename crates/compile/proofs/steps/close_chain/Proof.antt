@@ -26,7 +26,8 @@ returns c = λ l table.
     let p4 = p3 .before in
     let p8 = p4 .before .before .before .before in
     let p9 = p8 .before in
-    λ v a p h room. close-does _ _ _ _ a (p4 .position .ensures) (p3 .popped .ensures) (p9 .add-chain .ensures l .place a h p) (p9 .add-chain .ensures l .holds v a h p) (p2 .emit .ensures l table _ tt) room
+    λ v a p h room. close-does _ _ _ _ a (p4 .position .ensures) (p3 .popped .ensures) (p9 .add-chain .ensures l .place a h p)
+    (p9 .add-chain .ensures l .holds v a h p) (p2 .emit .ensures l table _ tt) room
 
 pub close-chain-spec : {M : Type 1} → statement M
 close-chain-spec =
