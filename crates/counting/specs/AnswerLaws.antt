@@ -18,10 +18,10 @@ use Rattle.counting.specs.Tally.{instructions, nothing, plus, takenBack,
 use Rattle.counting.specs.TallyLaws.{nothing-plus, capped-capped}
 use Rattle.counting.specs.Plan.{array, plan}
 use Rattle.counting.specs.PlanLaws.{array-few, array-many}
-use Rattle.counting.specs.Link.{link, grade, least, temporary}
-use Rattle.counting.specs.LinkLaws.{reach-starts, reach-more, reach-last, reach-done}
+use Rattle.counting.specs.Link.{isPlain, link, grade, least, temporary}
+use Rattle.counting.specs.LinkLaws.{plain-chain, reach-starts, reach-more, reach-last, reach-done}
 use Rattle.counting.specs.Count.{Rec, siblings, coalesce, walk, chain, tally}
-use Rattle.counting.specs.CodeLaws.{nothing-capped, sum-starts, sum-leaf, sum-node, sum-done, walk-more, walk-last, walk-fails, walk-nowhere, walk-done, chain-stays, chain-fails, chain-lowers, coalesce-counts, tally-parts}
+use Rattle.counting.specs.CodeLaws.{one-capped, nothing-capped, sum-starts, sum-leaf, sum-node, sum-done, walk-more, walk-last, walk-fails, walk-nowhere, walk-done, chain-stays, chain-fails, chain-lowers, coalesce-counts, tally-parts}
 
 -- ---- plans
 
@@ -180,6 +180,9 @@ module _ (s : List ℕ) (j : ℕ) where
 -- ---- nodes
 
 module _ (s : List ℕ) (t : Rec) (j : ℕ) where
+  pub chain-plain : {b : Bool} {r : Tally} → b ≡ isPlain s j → b ≡ true → r ≡ instructions 1 → r ≡ capped (chain s t j)
+  chain-plain e h r-is = r-is ∙ sym (ap capped (plain-chain s t j (sym e ∙ h)) ∙ one-capped)
+
   module _ {far : ℕ} (e : far ≡ least s (links maxDepth s j)) where
     pub chain-stayed : {r : Tally} → far ≡ 0 → r ≡ instructions 1 → r ≡ capped (chain s t j)
     chain-stayed h r-is = r-is ∙ chain-stays s t j (sym e ∙ h)

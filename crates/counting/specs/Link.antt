@@ -1,11 +1,11 @@
 -- What of a chain's link is counted: the operands of its step.
 use Prim.Native.Nat.{ℕ, min}
-use mathlib.Core.Bool.{true, false}
+use mathlib.Core.Bool.{Bool, true, false, _&&_}
 use mathlib.Core.List.{List, [], _∷_}
 use lib.Dec.{eqb}
 use Rattle.sheet.specs.Node.{kind, count, child}
-use Rattle.lowering.specs.Kinds.{variableKind, thisKind}
-use Rattle.lowering.specs.Flatten.{operandOf, StepRule, index, property, method, none, stepRule}
+use Rattle.lowering.specs.Kinds.{variableKind, thisKind, propertyKind, dotKind}
+use Rattle.lowering.specs.Flatten.{restOf, goesOn, operandOf, StepRule, index, property, method, none, stepRule}
 use Rattle.lowering.specs.Steps.{isLowerableMethod}
 use Rattle.counting.specs.declared.links.Link.{Link}
 use Rattle.counting.specs.declared.links.Link.the-variants.{Lowers, Fails, Nowhere}
@@ -35,3 +35,11 @@ least s (c ∷ cs) = min (grade (link s c)) (least s cs)
 unfoldable pub temporary : List ℕ → ℕ → ℕ
 temporary s v =
     elim (eqb (kind s v) variableKind) [ true ↦ 0 | false ↦ elim (eqb (kind s v) thisKind) [ true ↦ 0 | false ↦ 1 ] ]
+
+-- chain j is one Property of a variable or of `this`: no operand, and no root that is lowered
+unfoldable pub isPlain : List ℕ → ℕ → Bool
+isPlain s j =
+    elim (goesOn s j) [
+      | true ↦ false
+      | false ↦ eqb (kind s j) dotKind && eqb (kind s (restOf s j)) propertyKind && eqb (temporary s (child j)) 0
+    ]

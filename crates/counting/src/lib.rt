@@ -12,6 +12,7 @@ pub mod plans;
 pub mod tallies;
 
 use links::Link;
+use links::is_plain;
 use links::link_of;
 use links::reach;
 use links::temporary;
@@ -100,6 +101,9 @@ fn walk(levels: u32, s: &[u8], j: u32) -> Tally
 fn chain(levels: u32, s: &[u8], j: u32) -> Tally
     ensures { λ r. ⌜ r ≡ capped (counts.chain (now (s .entry)) (counts.tally levels (now (s .entry))) j) ⌝ }
 {
+    if is_plain(s, j) {
+        return instructions(1);
+    }
     let far = reach(s, j);
     if far == 0 {
         return instructions(1);

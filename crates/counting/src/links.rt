@@ -10,6 +10,8 @@ use rules::chains::is_lowerable_method;
 use rules::chains::operand_of;
 use rules::chains::rest_of;
 use rules::chains::step_rule;
+use rules::kinds::DOT;
+use rules::kinds::PROPERTY;
 use rules::kinds::THIS;
 use rules::kinds::VARIABLE;
 use sheet::child;
@@ -94,4 +96,16 @@ pub fn temporary(s: &[u8], v: u32) -> u32
 {
     let k = kind(s, v);
     if (k == VARIABLE) | (k == THIS) { 0 } else { 1 }
+}
+
+// Chain `j` is one Property of a variable or of `this`: one instruction, and nothing to be counted.
+pub fn is_plain(s: &[u8], j: u32) -> bool
+    ensures { λ r. ⌜ r ≡ linked.isPlain (now (s .entry)) j ⌝ }
+{
+    if goes_on(s, j) {
+        return false;
+    }
+    let rest = rest_of(s, j);
+    let none = temporary(s, child(j)) == 0;
+    (kind(s, j) == DOT) & (kind(s, rest) == PROPERTY) & none
 }

@@ -3,7 +3,7 @@ use Prim.Native.Nat.{_+_, _*_, _-_}
 use mathlib.Core.Path.{sym, ap, _∙_}
 use Rattle.counting.specs.Plan.{isLeaf}
 use Rattle.counting.specs.CodeLaws.{sum-none, leaf-tally, tally-none, tally-coalesce, tally-chain}
-use Rattle.counting.specs.AnswerLaws.{SumLeft, sum-begins, sum-passes, sum-goes, sum-ends, WalkLeft, walk-begins, walk-goes, walk-stops, walk-failed, walk-lost, walk-ends, chain-stayed, chain-failed, chain-lowered, coalesce-counted, tally-parted}
+use Rattle.counting.specs.AnswerLaws.{chain-plain, SumLeft, sum-begins, sum-passes, sum-goes, sum-ends, WalkLeft, walk-begins, walk-goes, walk-stops, walk-failed, walk-lost, walk-ends, chain-stayed, chain-failed, chain-lowered, coalesce-counted, tally-parted}
 use borrow.Author.Needs.{needs}
 use native.Mathlib.Omega.{arith}
 use Rattle.counting.specs.Count as counts
@@ -26,6 +26,7 @@ use Rattle.counting.proofs.walk.Reads as walk
 use Rattle.counting.proofs.walk.Kinds as walk-kinds
 use Rattle.counting.proofs.+chain+coalesce+siblings+tally+walk.Lts-walk as walk-lts
 use Rattle.counting.proofs.links.link_of.Reads as link-of-reads
+use Rattle.counting.proofs.links.is_plain.Reads as is-plain-reads
 use Rattle.counting.proofs.links.reach.Reads as reach-reads
 use Rattle.counting.proofs.links.temporary.Reads as temporary-reads
 use Rattle.counting.proofs.plans.is_leaf.Reads as is-leaf-reads
@@ -94,7 +95,7 @@ abbrev walk-below : ℕ → In 1 walk-kinds.ps
 walk-below t = and 1 walk-kinds.ps (falls 1 walk-kinds.ps _<_ μ-walk t) walk.Pre
 
 abbrev chain-claims : ℕ → chain-lts.Claims
-chain-claims t = (reach-reads.Asked, reach-reads.Learnt, instructions-reads.Asked, instructions-reads.Learnt, walk-below t, walk.Post, taken-back-reads.Asked, taken-back-reads.Learnt, plus-reads.Asked, plus-reads.Learnt, child-reads.Asked, child-reads.Learnt, temporary-reads.Asked, temporary-reads.Learnt, siblings-below t, siblings.Post)
+chain-claims t = (is-plain-reads.Asked, is-plain-reads.Learnt, instructions-reads.Asked, instructions-reads.Learnt, reach-reads.Asked, reach-reads.Learnt, walk-below t, walk.Post, taken-back-reads.Asked, taken-back-reads.Learnt, plus-reads.Asked, plus-reads.Learnt, child-reads.Asked, child-reads.Learnt, temporary-reads.Asked, temporary-reads.Learnt, siblings-below t, siblings.Post)
 
 abbrev coalesce-claims : ℕ → coalesce-lts.Claims
 coalesce-claims t = (count-reads.Asked, count-reads.Learnt, one-less-reads.Asked, one-less-reads.Learnt, child-reads.Asked, child-reads.Learnt, siblings-below t, siblings.Post, skip-reads.Asked, skip-reads.Learnt, tally-below t, tally.Post, plus-reads.Asked, plus-reads.Learnt)
@@ -108,16 +109,30 @@ tally-claims t = (instructions-reads.Asked, instructions-reads.Learnt, plan-of-r
 abbrev walk-claims : ℕ → walk-lts.Claims
 walk-claims t = (nothing-reads.Asked, nothing-reads.Learnt, link-of-reads.Asked, link-of-reads.Learnt, siblings-below t, siblings.Post, plus-reads.Asked, plus-reads.Learnt, goes-on-reads.Asked, goes-on-reads.Learnt, rest-of-reads.Asked, rest-of-reads.Learnt)
 
-chain-reach-requires : (t : ℕ) → chain-lts.Need-reach-requires (chain-claims t) (chain-at t) chain.Post
-chain-reach-requires t c κs = search needs
+chain-is-plain-requires : (t : ℕ) → chain-lts.Need-is-plain-requires (chain-claims t) (chain-at t) chain.Post
+chain-is-plain-requires t c κs = search needs
 
 chain-instructions-requires : (t : ℕ) → chain-lts.Need-instructions-requires (chain-claims t) (chain-at t) chain.Post
 chain-instructions-requires t c κs = search needs
 
 chain-returns : (t : ℕ) → chain-lts.Need-returns (chain-claims t) (chain-at t) chain.Post
 chain-returns t c =
-    let a = c .before .before .before .before .args in
-    chain-stayed (a .s .now) (counts.tally (a .levels) (a .s .now)) (a .j) (c .before .before .reach .ensures) (c .before .if1 .taken) (c .instructions .ensures)
+    let test = c .before in
+    let asked = test .before in
+    let a = asked .before .before .args in
+    chain-plain (a .s .now) (counts.tally (a .levels) (a .s .now)) (a .j) (asked .is-plain .ensures) (test .if1 .taken)
+    (c .instructions .ensures)
+
+chain-reach-requires : (t : ℕ) → chain-lts.Need-reach-requires (chain-claims t) (chain-at t) chain.Post
+chain-reach-requires t c κs = search needs
+
+chain-instructions-requires-2 : (t : ℕ) → chain-lts.Need-instructions-requires-2 (chain-claims t) (chain-at t) chain.Post
+chain-instructions-requires-2 t c κs = search needs
+
+chain-returns-2 : (t : ℕ) → chain-lts.Need-returns-2 (chain-claims t) (chain-at t) chain.Post
+chain-returns-2 t c =
+    let a = c .before .before .before .before .before .before .args in
+    chain-stayed (a .s .now) (counts.tally (a .levels) (a .s .now)) (a .j) (c .before .before .reach .ensures) (c .before .if2 .taken) (c .instructions2 .ensures)
 
 chain-walk-requires : (t : ℕ) → chain-lts.Need-walk-requires (chain-claims t) (chain-at t) chain.Post
 chain-walk-requires t c κs = omega arith
@@ -125,17 +140,17 @@ chain-walk-requires t c κs = omega arith
 chain-taken-back-requires : (t : ℕ) → chain-lts.Need-taken-back-requires (chain-claims t) (chain-at t) chain.Post
 chain-taken-back-requires t c κs = search needs
 
-chain-instructions-requires-2 : (t : ℕ) → chain-lts.Need-instructions-requires-2 (chain-claims t) (chain-at t) chain.Post
-chain-instructions-requires-2 t c κs = search needs
+chain-instructions-requires-3 : (t : ℕ) → chain-lts.Need-instructions-requires-3 (chain-claims t) (chain-at t) chain.Post
+chain-instructions-requires-3 t c κs = search needs
 
 chain-plus-requires : (t : ℕ) → chain-lts.Need-plus-requires (chain-claims t) (chain-at t) chain.Post
 chain-plus-requires t c κs = search needs
 
-chain-returns-2 : (t : ℕ) → chain-lts.Need-returns-2 (chain-claims t) (chain-at t) chain.Post
-chain-returns-2 t c =
-    let a = c .before .before .before .before .before .before .before .before .args in
-    chain-failed (a .s .now) (counts.tally (a .levels) (a .s .now)) (a .j) (c .before .before .before .before .before .before .reach .ensures) (c .before .before .before .if2 .taken)
-    (c .before .before .before .before .walk .ensures) (c .before .before .taken-back .ensures) (c .before .instructions2 .ensures) (c .plus .ensures)
+chain-returns-3 : (t : ℕ) → chain-lts.Need-returns-3 (chain-claims t) (chain-at t) chain.Post
+chain-returns-3 t c =
+    let a = c .before .before .before .before .before .before .before .before .before .before .args in
+    chain-failed (a .s .now) (counts.tally (a .levels) (a .s .now)) (a .j) (c .before .before .before .before .before .before .reach .ensures) (c .before .before .before .if3 .taken)
+    (c .before .before .before .before .walk .ensures) (c .before .before .taken-back .ensures) (c .before .instructions3 .ensures) (c .plus .ensures)
 
 chain-child-requires : (t : ℕ) → chain-lts.Need-child-requires (chain-claims t) (chain-at t) chain.Post
 chain-child-requires t c κs = search needs
@@ -149,18 +164,18 @@ chain-siblings-requires t c κs = omega arith
 chain-plus-requires-2 : (t : ℕ) → chain-lts.Need-plus-requires-2 (chain-claims t) (chain-at t) chain.Post
 chain-plus-requires-2 t c κs = search needs
 
-chain-instructions-requires-3 : (t : ℕ) → chain-lts.Need-instructions-requires-3 (chain-claims t) (chain-at t) chain.Post
-chain-instructions-requires-3 t c κs = search needs
+chain-instructions-requires-4 : (t : ℕ) → chain-lts.Need-instructions-requires-4 (chain-claims t) (chain-at t) chain.Post
+chain-instructions-requires-4 t c κs = search needs
 
 chain-plus-requires-3 : (t : ℕ) → chain-lts.Need-plus-requires-3 (chain-claims t) (chain-at t) chain.Post
 chain-plus-requires-3 t c κs = search needs
 
-chain-returns-3 : (t : ℕ) → chain-lts.Need-returns-3 (chain-claims t) (chain-at t) chain.Post
-chain-returns-3 t c =
-    let a = c .before .before .before .before .before .before .before .before .before .before .before .args in
-    chain-lowered (a .s .now) (counts.tally (a .levels) (a .s .now)) (a .j) (c .before .before .before .before .before .before .before .before .before .reach .ensures) (c .before .before .before .before .before .before .before .before .if1 .left) (c .before .before .before .before .before .before .if2 .left)
+chain-returns-4 : (t : ℕ) → chain-lts.Need-returns-4 (chain-claims t) (chain-at t) chain.Post
+chain-returns-4 t c =
+    let a = c .before .before .before .before .before .before .before .before .before .before .before .before .before .args in
+    chain-lowered (a .s .now) (counts.tally (a .levels) (a .s .now)) (a .j) (c .before .before .before .before .before .before .before .before .before .reach .ensures) (c .before .before .before .before .before .before .before .before .if2 .left) (c .before .before .before .before .before .before .if3 .left)
     (c .before .before .before .before .before .before .before .walk .ensures) (c .before .before .before .before .before .child .ensures) (c .before .before .before .before .temporary .ensures) (c .before .before .before .siblings .ensures)
-    (c .before .before .plus2 .ensures) (c .before .instructions3 .ensures) (c .plus3 .ensures)
+    (c .before .before .plus2 .ensures) (c .before .instructions4 .ensures) (c .plus3 .ensures)
 
 coalesce-count-requires : (t : ℕ) → coalesce-lts.Need-count-requires (coalesce-claims t) (coalesce-at t) coalesce.Post
 coalesce-count-requires t c κs = search needs
@@ -425,21 +440,24 @@ pub +chain+coalesce+siblings+tally+walk-spec : {M : Type 1} → statement M
     close μ-chain μ-coalesce μ-siblings μ-tally μ-walk (λ t. chain-lts.spec (chain-claims t)
     (chain-at t)
     chain.Post
-    (chain-reach-requires t)
+    (chain-is-plain-requires t)
     (chain-instructions-requires t)
     (chain-returns t)
+    (chain-reach-requires t)
+    (chain-instructions-requires-2 t)
+    (chain-returns-2 t)
     (chain-walk-requires t)
     (chain-taken-back-requires t)
-    (chain-instructions-requires-2 t)
+    (chain-instructions-requires-3 t)
     (chain-plus-requires t)
-    (chain-returns-2 t)
+    (chain-returns-3 t)
     (chain-child-requires t)
     (chain-temporary-requires t)
     (chain-siblings-requires t)
     (chain-plus-requires-2 t)
-    (chain-instructions-requires-3 t)
+    (chain-instructions-requires-4 t)
     (chain-plus-requires-3 t)
-    (chain-returns-3 t))
+    (chain-returns-4 t))
     (λ t. coalesce-lts.spec (coalesce-claims t)
     (coalesce-at t)
     coalesce.Post
