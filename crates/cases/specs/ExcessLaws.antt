@@ -8,14 +8,6 @@ pub excess-below : (lo hi : ℕ) → excess lo hi < 2 ^ 64
 unfolding shifted excess
 excess-below lo hi = omega arith
 
-pub low-excess : (lo hi : ℕ) → lo < 2 ^ 32 → hi < 2 ^ 32 → lowWord (excess lo hi) ≡ lo
-unfolding shifted excess lowWord
-low-excess lo hi h k = omega arith
-
-pub high-excess : (lo hi : ℕ) → lo < 2 ^ 32 → hi < 2 ^ 32 → highWord (excess lo hi) ≡ hi
-unfolding shifted excess highWord
-high-excess lo hi h k = omega arith
-
 pub excess-words : (e : ℕ) → e < 2 ^ 64 → excess (lowWord e) (highWord e) ≡ e
 unfolding shifted excess lowWord highWord
 excess-words e h = omega arith

@@ -5,7 +5,7 @@ use mathlib.Core.Bool.{Bool, true, false}
 use native.Mathlib.Omega.{arith}
 use lib.Dec.{leb, ltb}
 use lib.IntN.{ℤ, pos, negsuc}
-use lib.Signed.{leZ, ltZ}
+use lib.Signed.{ltZ}
 use mir.Syntax.{w64}
 use mir.Val.{ofZ, toZ, SFits}
 use mir.ValLaws.{ofZ-toZ, toZ-fits, ofZ-fits}
@@ -28,13 +28,6 @@ same-test a b c d f g = by (leb a b) refl
 abbrev low : ℕ → ℕ
 low n = 2 ^ 64 - suc n
 
-pub at-most : (a b : ℤ) → SFits w64 a → SFits w64 b → leZ a b ≡ leb (excessOf a) (excessOf b)
-unfolding shifted excessOf
-at-most (pos m) (pos n) f g = same-test m n (shifted m) (shifted n) (λ u. omega arith) (λ u. omega arith)
-at-most (pos m) (negsuc n) f g = sym (lt-leb (shifted m) (shifted (low n)) (omega arith))
-at-most (negsuc m) (pos n) f g = sym (le-leb (shifted (low m)) (shifted n) (omega arith))
-at-most (negsuc m) (negsuc n) f g = same-test n m (shifted (low m)) (shifted (low n)) (λ u. omega arith) (λ u. omega arith)
-
 pub below : (a b : ℤ) → SFits w64 a → SFits w64 b → ltZ a b ≡ ltb (excessOf a) (excessOf b)
 unfolding shifted excessOf
 below (pos m) (pos n) f g = same-test (suc m) n (suc (shifted m)) (shifted n) (λ u. omega arith) (λ u. omega arith)
@@ -52,10 +45,6 @@ pub below-bits : (x y : ℕ) → x < 2 ^ 64 → y < 2 ^ 64 → ltZ (toZ w64 x) (
 below-bits x y h k = cc (below (toZ w64 x) (toZ w64 y) (toZ-fits w64 x (record { fits = h })) (toZ-fits w64 y (record { fits = k })), stored x h, stored y k)
 
 -- and from an integer to its bits and back
-pub excess-of-below : (z : ℤ) → SFits w64 z → excessOf z < 2 ^ 64
-unfolding shifted excessOf
-excess-of-below z f = omega arith
-
 pub bits-back : (z : ℤ) → SFits w64 z → shifted (excessOf z) ≡ ofZ w64 z
 unfolding shifted excessOf
 bits-back z f = omega (arith, ofZ-fits w64 z f .fits)

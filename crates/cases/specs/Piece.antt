@@ -4,9 +4,6 @@ use mathlib.Core.Bool.{true, false}
 use mathlib.Core.List.{List}
 use lib.Dec.{eqb}
 use lib.ListN.{getD}
-use Rattle.cases.specs.declared.Atom.{Atom as HeldAtom}
-use Rattle.cases.specs.declared.Atom.the-variants.{Point, Between}
-use Rattle.cases.specs.Excess.{excessOf}
 use Rattle.cases.specs.Split.{Atom, point, between}
 
 -- cut i; the integer 0 where there is none
@@ -15,8 +12,3 @@ cutAt cs i = getD cs i (2 ^ 63)
 
 unfoldable pub atomAt : List ℕ → ℕ → Atom
 atomAt cs j = elim (eqb (j % 2) 0) [ true ↦ point (cutAt cs (j / 2)) | false ↦ between (cutAt cs (j / 2)) (cutAt cs (j / 2 + 1)) ]
-
--- the piece that the code holds
-unfoldable pub atomOf : HeldAtom → Atom
-atomOf (Point p) = point (excessOf p)
-atomOf (Between p q) = between (excessOf p) (excessOf q)

@@ -2,4 +2,4 @@
 use Prim.Native.Nat.{ℕ, _^_}
 
 abbrev pub cap : ℕ
-cap = 2 ^ 40
+cap = 2 ^ 24

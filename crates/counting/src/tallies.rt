@@ -5,7 +5,7 @@ ghost use Rattle.counting.specs.Limits.{cap};
 ghost use Rattle.counting.specs.Tally as tallies;
 
 // where counts are cut off
-pub const CAP: u64 = 1099511627776;
+pub const CAP: u64 = 16777216;
 
 // greatest count of emitted instructions that is not refused
 pub const MAX_EMITTED: u64 = 262143;

@@ -1,1 +1,7 @@
-pub mod CaseKeys
+pub mod ReadyLaws
+pub mod PartLaws
+pub mod TableLaws
+pub mod ArmDoes
+pub mod BodyDoes
+pub mod CaseDoes
+pub mod SwitchDoes

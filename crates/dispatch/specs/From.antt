@@ -38,8 +38,7 @@ module _ {s : List ℕ} {l : Layout} where
 
   -- H is done next, and G′ is left
   pub from-by : {xs ys zs : List ℕ} {st r t : State} {F G H : Made → Made} (G′ : Made → Made) → LeftFrom s l xs st F ys r G
-      → From s l ys r zs t H
-      → ((b : Made) → G b ≡ G′ (H b)) → Growing H → Growing G′ → LeftFrom s l xs st F zs t G′
+      → From s l ys r zs t H → ((b : Made) → G b ≡ G′ (H b)) → Growing H → Growing G′ → LeftFrom s l xs st F zs t G′
   from-by {H = H} G′ left does e up grows = record {
     each = λ a k h f.
         let o = left .each a k h f in
@@ -47,7 +46,6 @@ module _ {s : List ℕ} {l : Layout} where
         let room = subst (Fits l) (sym same) f in
         let more = grows .each (H (o .now)) in
         let on = up .each (o .now) in
-        let begun = o .begun in
         record { now = H (o .now); begun = omega arith; held = does .holds (o .now) (o .begun) (o .held) (omega arith); same = same };
   }
 
@@ -60,8 +58,7 @@ module _ {s : List ℕ} {l : Layout} where
 
   -- F, and then G
   pub from-seq : {xs ys zs : List ℕ} {st r t : State} {F G : Made → Made} → Growing F → Growing G → From s l xs st ys r F
-      → From s l ys r zs t G
-      → From s l xs st zs t (λ a. G (F a))
+      → From s l ys r zs t G → From s l xs st zs t (λ a. G (F a))
   from-seq {F = F} up grows first next = record {
     holds = λ a k h f.
         let more = grows .each (F a) in

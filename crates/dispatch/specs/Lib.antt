@@ -1,10 +1,4 @@
 pub mod Ready
 pub mod Parts
-pub mod PartLaws
-pub mod CapLaws
-pub mod ArmDoes
 pub mod From
-pub mod BodyDoes
-pub mod ListDoes
-pub mod CaseDoes
-pub mod SwitchDoes
+pub mod Consts

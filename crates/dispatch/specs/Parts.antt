@@ -2,16 +2,14 @@
 use Prim.Native.Nat.{ℕ, _+_, _%_}
 use mathlib.Core.Bool.{Bool, true, false}
 use mathlib.Core.List.{List}
-use lib.Dec.{eqb}
-use lib.ListN.{getD}
+use lib.Dec.{ltb}
 use Rattle.sheet.specs.Node.{position}
 use Rattle.bytecode.specs.declared.Op.the-variants.{JumpIfTrue}
-use Rattle.lowering.specs.Arms.{Guard, never, always, tried}
 use Rattle.emission.specs.Made.{Made, emit}
 use Rattle.emission.specs.Construct.{Low}
 use Rattle.store.specs.declared.State.{State}
 use Rattle.switching.specs.Change as change
-use Rattle.dispatch.specs.declared.Targets.{Targets}
+use Rattle.tables.specs.Columns.{caseExitAt, bodyAt, defaultAt, endAt, fallbackAt, cell}
 
 -- one more emitted, no code
 abbrev pub droppedIn : State → State
@@ -30,38 +28,24 @@ droppedIn st = record {
   steps = st .steps;
 }
 
--- where bodies stand, and which are wanted
-abbrev pub placeIn : Targets → ℕ → ℕ
-placeIn t k = getD (t .body) k 0
+-- where the body of block k stands, and the targets of all jumps
+abbrev pub placeIn : List ℕ → ℕ → ℕ
+placeIn w k = cell w (bodyAt + k)
 
-abbrev pub wantIn : Targets → ℕ → Bool
-wantIn t k = getD (t .want) k false
+abbrev pub targetsIn : List ℕ → change.Targets
+targetsIn w = record { body = placeIn w; fallback = cell w fallbackAt; default = cell w defaultAt; end = cell w endAt }
 
-abbrev pub targetsIn : Targets → change.Targets
-targetsIn t = record { body = placeIn t; fallback = t .fallback; default = t .default; end = t .end }
+-- head q of the cases has a chain
+abbrev pub chainIn : List ℕ → ℕ → Bool
+chainIn w q = ltb (cell w (caseExitAt + q)) 2
 
--- guards
-unfoldable pub isAlways : Guard → Bool
-isAlways never = false
-isAlways always = true
-isAlways tried = false
-
-unfoldable pub isTried : Guard → Bool
-isTried never = false
-isTried always = false
-isTried tried = true
-
--- the guard at node g and the jump, if it is tried
-unfoldable pub tryOne : Guard → List ℕ → Low → ℕ → ℕ → Made → Made
-tryOne w s low to g a = elim (isTried w) [ true ↦ emit (JumpIfTrue to) (position s g) 0 (low g a) | false ↦ a ]
+-- the guard at node g, and the jump
+unfoldable pub tryOne : List ℕ → Low → ℕ → ℕ → Made → Made
+tryOne s low to g a = emit (JumpIfTrue to) (position s g) 0 (low g a)
 
 -- the end of a chain, if a guard was tried
 unfoldable pub endArm : Bool → Bool → ℕ → Made → Made
 endArm any drop to a = elim any [ true ↦ change.jumpTo drop to a | false ↦ a ]
-
--- the last that passes, plus 1
-unfoldable pub later : ℕ → ℕ → Bool → ℕ
-later last i t = elim t [ true ↦ i + 1 | false ↦ last ]
 
 -- the body of block k, if it is wanted
 unfoldable pub bodyIf : (ℕ → Bool) → List ℕ → Low → ℕ → Bool → ℕ → Made → Made

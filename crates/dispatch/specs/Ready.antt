@@ -8,10 +8,8 @@ use Rattle.numbers.specs.Numbers.{numbersOk}
 use Rattle.checks.specs.Checked.{numberOf, checked}
 use Rattle.lowering.specs.All.{All}
 use Rattle.lowering.specs.Kinds.{switchKind}
-use Rattle.lowering.specs.Nodes.{Right, right, accepted-sizes, accepted-shape}
+use Rattle.lowering.specs.Nodes.{Right}
 use Rattle.lowering.specs.SwitchSheet.{blockCount}
-use Rattle.switching.specs.SameLaws.{AllIn}
-use Rattle.tables.specs.Accepted.{accepted-numbers}
 
 -- an accepted sheet with a Switch
 pub record Ready (s : List ℕ) : Type 0 where
@@ -20,13 +18,6 @@ pub record Ready (s : List ℕ) : Type 0 where
   pub accepted : numberOf (checked s) ≡ 0
   pub switch : kind s 0 ≡ switchKind
 
-pub ready : (s : List ℕ) → numberOf (checked s) ≡ 0 → kind s 0 ≡ switchKind → Ready s
-ready s h e = record { right = right s (accepted-sizes s h) (accepted-shape s h); numbers = accepted-numbers s h; accepted = h; switch = e }
-
 -- blocks of the Switch
 pub record Named (s : List ℕ) (ks : List ℕ) : Type 0 where
   pub each : All (λ k. k < blockCount s) ks
-
--- lists of them
-pub record NamedAll (s : List ℕ) (ls : List (List ℕ)) : Type 0 where
-  pub each : AllIn (λ k. k < blockCount s) ls

@@ -1,6 +1,6 @@
 // The bodies of the blocks, and the end of the switch.
 ghost use mathlib.Core.Path.{_≡_};
-ghost use Prim.Native.Nat.{ℕ, _<_};
+ghost use Prim.Native.Nat.{ℕ, _<_, _≤_};
 ghost use mathlib.Core.List.{List};
 ghost use Rattle.sheet.specs.Limits.{maxDepth};
 ghost use Rattle.lowering.specs.SwitchSheet.{blockCount};
@@ -10,20 +10,26 @@ ghost use Rattle.store.specs.States.{stateOf};
 ghost use Rattle.emission.specs.Made.{lowered};
 ghost use Rattle.switching.specs.Change as change;
 ghost use Rattle.switching.specs.LastLaws.{lastOf};
+ghost use Rattle.tables.specs.Columns.{cell, endAt};
+ghost use Rattle.tables.specs.Table.{Guards};
+ghost use Rattle.tables.specs.Planned.{Tables, wantIn};
 ghost use Rattle.dispatch.specs.Ready.{Ready};
 ghost use Rattle.dispatch.specs.Parts as parts;
 ghost use Rattle.dispatch.specs.From.{From};
-use crate::Targets;
 use crate::jumps::jump;
-use crate::wants;
 use bytecode::Op;
 use compile::expression;
+use lists::capped;
+use scratch::get;
 use sheet::field_a;
 use sheet::limits::MAX_DEPTH;
+use sheet::next;
 use store::emit;
 use store::states::COUNTS;
 use store::states::at_depth;
-use tables::body_of;
+use tables::END;
+use tables::GUARD_NODE;
+use tables::WANTED;
 
 // The body of block `k` over the subject, and the jump to the end, if the body is wanted.
 fn body(
@@ -31,61 +37,54 @@ fn body(
     t: &[u8; 125],
     c: &mut [u32; COUNTS],
     x: &mut [u32],
-    aims: Targets,
+    w: &[u32],
     drop: bool,
-    k: u32,
+    k: usize,
 )
+    requires { ⌜ k < 64 ⌝ }
     ensures { λ _. ⌜ ((l : Layout) → now (t .entry) ≡ effectTable → Ready (now (s .entry))
-        → k < blockCount (now (s .entry))
+        → Guards (now (s .entry)) (now (w .entry)) (blockCount (now (s .entry))) → k < blockCount (now (s .entry))
         → From (now (s .entry)) l (now (x .entry)) (stateOf (now (c .entry))) (now (x .exit)) (stateOf (now (c .exit)))
-        (parts.bodyIf (parts.wantIn aims) (now (s .entry)) (lowered maxDepth (now (s .entry))) (aims .end) drop k)) ⌝ }
+        (parts.bodyIf (wantIn (now (w .entry))) (now (s .entry)) (lowered maxDepth (now (s .entry)))
+        (cell (now (w .entry)) endAt) drop k)) ⌝ }
 {
-    if wants(aims, k) {
+    if get(w, WANTED + k) == 1 {
         at_depth(c, 1);
-        expression(MAX_DEPTH, s, t, c, x, body_of(s, k));
-        jump(t, c, x, drop, aims.end);
+        expression(MAX_DEPTH, s, t, c, x, next(s, get(w, GUARD_NODE + k)));
+        jump(t, c, x, drop, get(w, END));
     }
 }
 
-// Number `k` plus 1 if it passes, else what was found before.
-fn later(last: u64, k: u32, t: bool) -> u64
-    ensures { λ r. ⌜ r ≡ parts.later last k t ⌝ }
-{
-    if t { (k as u64) + 1 } else { last }
-}
-
 // The last block below `n` whose body is wanted, plus 1; 0 where there is none.
-fn last_wanted(aims: Targets, n: u32) -> u64
-    ensures { λ r. ⌜ r ≡ lastOf (parts.wantIn aims) n ⌝ }
+fn last_wanted(w: &[u32], n: usize) -> usize
+    requires { ⌜ n ≤ 64 ⌝ }
+    ensures { λ r. ⌜ r ≡ lastOf (wantIn (now (w .entry))) n ⌝ }
 {
     let mut last = 0;
-    let mut k: u32 = 0;
+    let mut k = 0;
     while k < n {
-        last = later(last, k, wants(aims, k));
-        k += 1;
+        if get(w, WANTED + k) == 1 {
+            last = k + 1;
+            k += 1;
+        } else {
+            k += 1;
+        }
     }
     last
 }
 
 // The bodies; `falls` says that the end follows.
-pub fn bodies(
-    s: &[u8],
-    t: &[u8; 125],
-    c: &mut [u32; COUNTS],
-    x: &mut [u32],
-    aims: Targets,
-    falls: bool,
-)
-    ensures { λ _. ⌜ ((l : Layout) → now (t .entry) ≡ effectTable → Ready (now (s .entry))
+pub fn bodies(s: &[u8], t: &[u8; 125], c: &mut [u32; COUNTS], x: &mut [u32], w: &[u32], falls: bool)
+    ensures { λ _. ⌜ ((l : Layout) → now (t .entry) ≡ effectTable → Ready (now (s .entry)) → Tables (now (s .entry)) (now (w .entry))
         → From (now (s .entry)) l (now (x .entry)) (stateOf (now (c .entry))) (now (x .exit)) (stateOf (now (c .exit)))
-        (change.bodiesTo (now (s .entry)) (lowered maxDepth (now (s .entry))) (parts.wantIn aims) (aims .end) falls
+        (change.bodiesTo (now (s .entry)) (lowered maxDepth (now (s .entry))) (wantIn (now (w .entry))) (cell (now (w .entry)) endAt) falls
         (blockCount (now (s .entry))) 0)) ⌝ }
 {
-    let n = field_a(s, 0);
-    let last = last_wanted(aims, n);
-    let mut k: u32 = 0;
+    let n = capped(field_a(s, 0) as usize);
+    let last = last_wanted(w, n);
+    let mut k = 0;
     while k < n {
-        body(s, t, c, x, aims, falls & (last <= (k as u64) + 1), k);
+        body(s, t, c, x, w, falls & (last <= k + 1), k);
         k += 1;
     }
 }

@@ -36,7 +36,6 @@ use rules::kinds::VARIABLE;
 use scratch::Index;
 use scratch::Layout;
 use scratch::chain_index;
-use scratch::const_index;
 use scratch::get;
 use scratch::memos_at;
 use scratch::name_index;
@@ -356,15 +355,7 @@ pub fn seek_name(s: &[u8], x: &[u32], ix: Index, n: u32, t: u32, m: bool, h: u32
     n
 }
 
-// Where the constant of node `j`, with hash `h`, stands among the `n` that the scratch holds; `n` where it does not.
-pub fn find_const(s: &[u8], x: &[u32], l: Layout, n: u32, j: u32, h: u32) -> u32
-    ensures { λ r. ⌜
-        Finds (sameConstOf (now (s .entry)) j) (constHash (now (s .entry))) constSlot (places.constIndex l) n h (now (x .entry)) r ⌝ }
-{
-    seek_const(s, x, const_index(l), n, j, h)
-}
-
-// The same of its token.
+// Where the token of node `j`, with hash `h`, stands among the `n` that the scratch holds; `n` where it does not.
 pub fn find_token(s: &[u8], x: &[u32], l: Layout, n: u32, j: u32, h: u32) -> u32
     ensures { λ r. ⌜
         Finds (sameTokenOf (now (s .entry)) j) (tokenHash (now (s .entry))) constSlot (places.tokenIndex l) n h (now (x .entry)) r ⌝ }

@@ -1,26 +1,16 @@
--- The rows of a switch's tables by their numbers.
-use Prim.Native.Nat.{ℕ, zero, suc}
-use mathlib.Core.List.{List, [], _∷_, _++_, map}
-use lib.ListN.{getD}
-use Rattle.sheet.specs.Node.{child}
-use Rattle.sheet.specs.Walk.{skip}
-use Rattle.switches.specs.Switch.{firstCase}
-use Rattle.cases.specs.Excess.{shifted}
-use Rattle.cases.specs.Range.{Range}
-use Rattle.cases.specs.Split.{Entry}
+-- The rows of a switch's tables by their numbers, read from the flat table. Definitions; assume nothing.
+use Prim.Native.Nat.{ℕ, zero, suc, _+_, _-_, _/_, _%_, min}
+use mathlib.Core.Bool.{true, false}
+use mathlib.Core.List.{List, [], _∷_, _++_}
+use lib.Dec.{eqb, ltb}
 use Rattle.bytecode.specs.declared.Switch.{Switch}
-use Rattle.bytecode.specs.declared.SwitchCase.{SwitchCase}
-use Rattle.bytecode.specs.declared.SwitchRange.{SwitchRange}
-use Rattle.lowering.specs.Pools.{constOf, sameConst, firstWhere}
-use Rattle.lowering.specs.SwitchTables.{oneIf}
-use Rattle.tables.specs.declared.Run.{Run}
-use Rattle.tables.specs.Heads.{noRun}
-use Rattle.tables.specs.Runs.{entryOf}
+use Rattle.tables.specs.Columns.{caseNumberAt, lowAt, highAt, runFirstAt, runLastAt, runNumberAt, runPlaceAt, runExitAt, casePlaceAt}
+use Rattle.tables.specs.Columns.{caseExitAt, bodyAt, defaultAt, fallbackAt, caseConstAt, cell}
 
--- g 0, .., g (n - 1)
-unfoldable pub rowsOf : {A : Type 0} → (ℕ → A) → ℕ → List A
-rowsOf g zero = []
-rowsOf g (suc n) = rowsOf g n ++ (g n ∷ [])
+-- the words of rows 0, .., n - 1
+unfoldable pub rowsTo : (ℕ → List ℕ) → ℕ → List ℕ
+rowsTo f zero = []
+rowsTo f (suc n) = rowsTo f n ++ f n
 
 abbrev pub table : ℕ → ℕ → ℕ → Switch
 table ranged rows default = record { ranged = ranged; first = 0; rows = rows; default = default }
@@ -35,28 +25,44 @@ abbrev pub tablesOf : ℕ → ℕ → ℕ → ℕ → List Switch
 tablesOf n fallback m default = table 0 n fallback ∷ rangesIf m default
 
 -- how many they are
-unfoldable pub tableCount : ℕ → ℕ
-tableCount zero = 1
-tableCount (suc m) = 2
+abbrev pub tableCount : ℕ → ℕ
+tableCount m = 1 + min m 1
 
--- where the value of Case c stands among the constants of the nodes ks
-unfoldable pub placeIn : List ℕ → List ℕ → ℕ → ℕ
-placeIn s ks c = firstWhere (sameConst s (constOf s (child c))) (map (constOf s) ks)
+-- where a list goes, by its exit: to its chain at `place`, to the fallback, or to the body of a block
+unfoldable pub targetIn : List ℕ → ℕ → ℕ → ℕ → ℕ
+targetIn w exit place fallback =
+    elim (ltb exit 2) [
+      | true ↦ place
+      | false ↦ elim (eqb exit 2) [ true ↦ fallback | false ↦ cell w (bodyAt + exit - 3) ]
+    ]
 
--- row i of the cases, with the targets ts
-unfoldable pub caseRow : List ℕ → List ℕ → List ℕ → ℕ → SwitchCase
-caseRow s ks ts i = record { target = getD ts i 0; constant = placeIn s ks (skip s i (firstCase s)) }
+-- the target of the list whose number q stands in a cell, by two columns
+unfoldable pub targetAt : List ℕ → ℕ → ℕ → ℕ → ℕ → ℕ
+targetAt w number exits places fallback =
+    let q = cell w number in
+    targetIn w (cell w (exits + q)) (cell w (places + q)) (cell w fallback)
 
--- the row of an entry of the split, with target t
-unfoldable pub rangeRow : Entry → ℕ → SwitchRange
-rangeRow e t =
-    record {
-      from = shifted (e .from);
-      to = shifted (e .to);
-      inclusive = oneIf (e .inclusive);
-      target = t;
-    }
+-- of case i, and of run i
+abbrev pub caseTargetIn : List ℕ → ℕ → ℕ
+caseTargetIn w i = targetAt w (caseNumberAt + i) caseExitAt casePlaceAt fallbackAt
 
--- row i of the runs `at`, with the targets ts
-unfoldable pub runRow : List Range → List ℕ → List Run → List ℕ → ℕ → SwitchRange
-runRow rs cs at ts i = rangeRow (entryOf rs cs (getD at i noRun)) (getD ts i 0)
+abbrev pub runTargetIn : List ℕ → ℕ → ℕ
+runTargetIn w i = targetAt w (runNumberAt + i) runExitAt runPlaceAt defaultAt
+
+-- the words of case i
+unfoldable pub caseWordsIn : List ℕ → ℕ → List ℕ
+caseWordsIn w i = caseTargetIn w i ∷ cell w (caseConstAt + i) ∷ []
+
+-- the words of run i: its two cuts, whether it is closed, its target
+unfoldable pub rangeWordsIn : List ℕ → ℕ → List ℕ
+rangeWordsIn w i =
+    let from = cell w (runFirstAt + i) / 2 in
+    let last = cell w (runLastAt + i) in
+    let to = last / 2 + last % 2 in
+    cell w (lowAt + from)
+    ∷ cell w (highAt + from)
+    ∷ cell w (lowAt + to)
+    ∷ cell w (highAt + to)
+    ∷ (1 - last % 2)
+    ∷ runTargetIn w i
+    ∷ []

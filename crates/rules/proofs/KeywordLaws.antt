@@ -17,7 +17,7 @@ use Rattle.lowering.specs.Steps.{isLowerableMethod}
 use Rattle.rules.specs.declared.keywords.Keyword.{Keyword}
 use Rattle.rules.specs.declared.keywords.Keyword.the-variants.{Fn, Call, Eval, Curry, Other}
 use Rattle.rules.specs.Answers.{callRuleOf}
-use Rattle.rules.specs.Keywords.{keywordBy, keywordOf, ruleBy, asCall, asMethod}
+use Rattle.rules.specs.Keywords.{keywordBy, keywordOf, ruleBy, asMethod}
 
 -- ---- names
 
@@ -150,12 +150,6 @@ module _ (s : List ℕ) (j : ℕ) where
       (said-eval (eqb n 1) (leb 1 n) (leb n (maxArgs + 1)) (leb n maxArgs))
       (said-curry (eqb n 1) (leb 1 n) (leb n (maxArgs + 1)) (leb n maxArgs))
       (said-other (eqb n 1) (leb 1 n) (leb n (maxArgs + 1)) (leb n maxArgs))
-
-  pub call-lowers : isLowerableCall s j ≡ (leb (count s j) maxArgs && asCall (keywordOf (callee s j)))
-  unfolding isLowerableCall syntactic keywordOf asCall
-  call-lowers =
-      let few = leb (count s j) maxArgs in
-      by-keyword (callee s j) (λ f c e u. (few && not (e || f || c || u)) ≡ (few && asCall (keywordBy f c e u))) refl refl refl refl refl
 
   pub method-lowers : isLowerableMethod s j ≡ (leb (count s j) maxArgs && asMethod (keywordOf (callee s j)))
   unfolding isLowerableMethod isLowerableCall syntactic keywordOf asMethod

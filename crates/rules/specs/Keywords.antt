@@ -32,14 +32,6 @@ ruleBy Eval n = eval
 ruleBy Curry n = residual
 ruleBy Other n = elim (leb n maxArgs) [ true ↦ lowerable | false ↦ residual ]
 
--- generic dispatch takes the call
-unfoldable pub asCall : Keyword → Bool
-asCall Fn = false
-asCall Call = false
-asCall Eval = false
-asCall Curry = false
-asCall Other = true
-
 -- a method lowers
 unfoldable pub asMethod : Keyword → Bool
 asMethod Fn = false

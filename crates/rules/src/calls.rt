@@ -3,12 +3,10 @@ ghost use mathlib.Core.Path.{_≡_};
 ghost use Prim.Native.Nat.{_-_};
 ghost use Rattle.lowering.specs.Call as calls;
 ghost use Rattle.rules.specs.Answers as answers;
-use crate::keywords::as_call;
 use crate::keywords::keyword_of;
 use crate::keywords::rule_by;
 use crate::kinds::THIS;
 use crate::kinds::VARIABLE;
-use lowering::MAX_ARGS;
 use sheet::child;
 use sheet::count;
 use sheet::field_a;
@@ -32,14 +30,6 @@ pub enum First {
     Named,
     This,
     Value,
-}
-
-// Generic dispatch takes the call.
-pub fn is_lowerable_call(s: &[u8], j: u32) -> bool
-    ensures { λ r. ⌜ r ≡ calls.isLowerableCall (now (s .entry)) j ⌝ }
-{
-    let word = keyword_of(sheet::text(s, field_a(s, j)));
-    (count(s, j) <= MAX_ARGS) & as_call(word)
 }
 
 // The rule of call `j`.

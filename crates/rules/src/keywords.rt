@@ -75,19 +75,6 @@ pub fn rule_by(word: Keyword, n: u32) -> CallRule
     }
 }
 
-// Generic dispatch takes a call by that name.
-pub fn as_call(word: Keyword) -> bool
-    ensures { λ r. ⌜ r ≡ keywords.asCall word ⌝ }
-{
-    match word {
-        Keyword::Fn => false,
-        Keyword::Call => false,
-        Keyword::Eval => false,
-        Keyword::Curry => false,
-        Keyword::Other => true,
-    }
-}
-
 // A method by that name lowers: `call` and `curry` do, `eval` and `Fn` never.
 pub fn as_method(word: Keyword) -> bool
     ensures { λ r. ⌜ r ≡ keywords.asMethod word ⌝ }

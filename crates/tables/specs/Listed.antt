@@ -1,10 +1,10 @@
--- A list that an array holds, with its length beside it.
+-- A list that an array holds at its front, with its length beside it.
 use Prim.Native.Nat.{ℕ}
 use mathlib.Core.Path.{_≡_}
 use mathlib.Core.List.{List}
-use lib.ListN.{length}
+use lib.ListN.{length, take}
 
--- what is held, with the count n, is xs
-pub record Lists {A : Type 0} (got : List A) (n : ℕ) (xs : List A) : Type 0 where
-  pub items : got ≡ xs
+-- the first n of an array are exactly xs
+pub record Listed (at : List ℕ) (n : ℕ) (xs : List ℕ) : Type 0 where
+  pub items : take n at ≡ xs
   pub count : n ≡ length xs

@@ -1,25 +1,14 @@
-// The tables of a switch, written behind the front of the image. Each section goes to its own part of the image; what does not fit is left out.
+// The tables of a switch, each section at its place in the image; what does not fit is left out.
 ghost use mathlib.Core.Path.{_≡_};
-ghost use Prim.Native.Nat.{ℕ, _≤_};
-ghost use mathlib.Core.List.{List};
-ghost use lib.ListN.{length};
-ghost use Rattle.switches.specs.Switch.{caseCount};
-ghost use Rattle.cases.specs.Held as points;
-ghost use Rattle.cases.specs.Range.{Range};
-ghost use Rattle.bytecode.specs.Switch.{switchWords, caseWords, rangeWords};
+ghost use Prim.Native.Nat.{_≤_};
+ghost use Rattle.bytecode.specs.Switch.{switchWords};
 ghost use Rattle.lowering.specs.Image.{section};
-ghost use Rattle.scratch.specs.Places.{constsAt, region};
-ghost use Rattle.index.specs.Indexes.{Indexes};
-ghost use Rattle.rows.specs.Rows.{rowsOf, tablesOf, tableCount, caseRow, runRow};
+ghost use Rattle.rows.specs.Rows.{rowsTo, tablesOf, tableCount, caseWordsIn, rangeWordsIn};
 ghost use Rattle.image.specs.Puts.{Puts};
-use cases::Points;
 use image::beyond;
 use rows::case_rows;
 use rows::range_rows;
 use rows::switch_rows;
-use scratch::Layout;
-use sheet::field_b;
-use tables::Runs;
 
 // How many cases there may be.
 const MAX_CASES: usize = 64;
@@ -54,39 +43,27 @@ pub fn put_switches(
     e
 }
 
-// The rows of the Cases, over the `n` constants that the scratch holds.
-pub fn put_cases(
-    s: &[u8],
-    x: &[u32],
-    l: Layout,
-    n: u32,
-    image: &mut [u32],
-    at: usize,
-    targets: [u32; 64],
-) -> usize
-    ensures { λ r. let sheet = now (s .entry) in let words = now (x .entry) in ⌜
-        ((ts hs ns : ℕ) → Indexes sheet l n ts hs ns words → caseCount sheet ≤ 64 → Puts (now (image .entry)) (now (image .exit)) at r
-        (section caseWords (rowsOf (caseRow sheet (region (constsAt l) n words) targets) (caseCount sheet)))) ⌝ }
+// The rows of `n` cases, by the flat table.
+pub fn put_cases(image: &mut [u32], at: usize, w: &[u32], n: usize) -> usize
+    ensures { λ r. ⌜ (n ≤ 64 → Puts (now (image .entry)) (now (image .exit)) at r
+        (rowsTo (caseWordsIn (now (w .entry))) n)) ⌝ }
 {
-    let m = field_b(s, 0) as usize;
-    if MAX_CASES < m {
+    if MAX_CASES < n {
         return at;
     }
-    if beyond(image.len(), at, 2 * m) {
+    if beyond(image.len(), at, 2 * n) {
         return at;
     }
-    let e = at + 2 * m;
-    case_rows(s, &mut image[at..e], x, l, n, targets);
+    let e = at + 2 * n;
+    case_rows(&mut image[at..e], w, n);
     e
 }
 
-// The rows of the runs `q` over the cuts `p`.
-pub fn put_ranges(image: &mut [u32], at: usize, p: Points, q: Runs, targets: [u32; 255]) -> usize
-    ensures { λ r. ⌜
-        ((rs : List Range) → q .n ≤ 255 → Puts (now (image .entry)) (now (image .exit)) at r
-        (section rangeWords (rowsOf (runRow rs (points.held (p .at) (p .n)) (q .at) targets) (q .n)))) ⌝ }
+// The rows of `n` runs, by the flat table.
+pub fn put_ranges(image: &mut [u32], at: usize, w: &[u32], n: usize) -> usize
+    ensures { λ r. ⌜ (n ≤ 255 → Puts (now (image .entry)) (now (image .exit)) at r
+        (rowsTo (rangeWordsIn (now (w .entry))) n)) ⌝ }
 {
-    let n = q.n;
     if MAX_RUNS < n {
         return at;
     }
@@ -94,6 +71,6 @@ pub fn put_ranges(image: &mut [u32], at: usize, p: Points, q: Runs, targets: [u3
         return at;
     }
     let e = at + 6 * n;
-    range_rows(&mut image[at..e], p, q, targets);
+    range_rows(&mut image[at..e], w, n);
     e
 }

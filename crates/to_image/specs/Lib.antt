@@ -1,14 +1,3 @@
 pub mod Answer
 pub mod Making
-pub mod AnswerLaws
-pub mod PlainLaws
-pub mod SwitchLaws
-pub mod AimLaws
-pub mod BuiltLaws
-pub mod TableLaws
-pub mod First
-pub mod CaseTargets
-pub mod RunTargets
-pub mod HeldLaws
-pub mod WriteLaws
-pub mod SettledLaws
+pub mod Switched

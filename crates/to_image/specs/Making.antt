@@ -7,10 +7,13 @@ use lib.Dec.{ltb}
 use lib.ListN.{length, drop}
 use Rattle.sheet.specs.Layout.{nodeCount}
 use Rattle.checks.specs.Checked as Checked
-use Rattle.lowering.specs.Limits.{maxEmitted, scratchPerEmitted, scratchPerNode, scratchBesides, evalReached, tooManyEmitted, scratchTooShort}
+use Rattle.lowering.specs.Limits.{maxEmitted, scratchPerEmitted, scratchPerNode, scratchBesides, evalReached, tooManyEmitted}
+use Rattle.lowering.specs.Limits.{scratchTooShort, imageTooLong}
 use Rattle.lowering.specs.Image.{words}
 use Rattle.lowering.specs.Outcome.{lower}
 use Rattle.totals.specs.Total.{total}
+use Rattle.to_image.specs.declared.Answer.{Answer}
+use Rattle.to_image.specs.declared.Answer.the-variants.{Lowered, Refused}
 
 -- the refusal by counts: d that an `eval` is reached, e instructions, m words of scratch, n nodes
 unfoldable pub early : Bool → ℕ → ℕ → ℕ → ℕ
@@ -23,6 +26,10 @@ early d e m n =
             | false ↦ elim (ltb m (scratchPerEmitted * e + scratchPerNode * n + scratchBesides)) [ true ↦ scratchTooShort | false ↦ 0 ]
           ]
     ]
+
+-- the answer once n words are made, in an image with room for so many
+unfoldable pub ended : ℕ → ℕ → Answer
+ended room n = elim (ltb room n) [ true ↦ Refused imageTooLong | false ↦ Lowered n ]
 
 -- what the making of an image may take for granted: nothing refuses before the image is made
 pub record Ready (s : List ℕ) (e m : ℕ) : Type 0 where

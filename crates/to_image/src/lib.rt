@@ -1,13 +1,15 @@
 // What a lowering answers, the refusals by counts, and the image of an expression. Refusals 1 to 11 are found without touching a buffer.
 ghost use mathlib.Core.Path.{_≡_};
-ghost use Rattle.to_image.specs.Answer.{Answers};
-ghost use Rattle.to_image.specs.Making.{Ready, Built, early};
 ghost use lib.ListN.{length};
-ghost use Rattle.sheet.specs.Node.{kind};
+ghost use Rattle.checks.specs.Checked as Checked;
+ghost use Rattle.sheet.specs.Node as nodes;
 ghost use Rattle.lowering.specs.Kinds.{switchKind};
+ghost use Rattle.zeros.specs.Zeros.{Zeroed};
+ghost use Rattle.to_image.specs.Answer.{Answers};
+ghost use Rattle.to_image.specs.Making as making;
+ghost use Rattle.to_image.specs.Making.{Ready, Built, early};
 
 pub mod switched;
-pub mod targets;
 
 use crate::switched::build_switch;
 use bytecode::effects;
@@ -16,12 +18,15 @@ use checks::number;
 use compile::expression;
 use counting::tallies::MAX_EMITTED;
 use counting::tallies::Tally;
+use counting::tally;
 use image::image_len;
 use image::write_front;
 use lowering::EVAL_REACHED;
 use lowering::IMAGE_TOO_LONG;
 use lowering::SCRATCH_TOO_SHORT;
 use lowering::TOO_MANY_EMITTED;
+use plan::count;
+use plan::read;
 use scratch::Layout;
 use scratch::clear_index;
 use sheet::kind;
@@ -29,8 +34,7 @@ use sheet::limits::MAX_DEPTH;
 use sheet::node_count;
 use store::states::start;
 use store::states::state_of;
-use sums::SWITCH;
-use sums::total;
+use tables::SIZE;
 use zeros::zero;
 
 // What a lowering answers: the image's word count, or 01's refusal number.
@@ -38,6 +42,9 @@ pub enum Answer {
     Lowered { words: usize },
     Refused { number: u32 },
 }
+
+// The kind of a Switch.
+pub const SWITCH: u32 = 19;
 
 // words of scratch for each emitted instruction, for each node, and besides
 pub const PER_EMITTED: u64 = 16;
@@ -64,7 +71,8 @@ pub fn refusal(t: Tally, scratch: usize, nodes: u32) -> u32
 
 // The image of an expression: its word count; its words are written where they fit.
 pub fn build_plain(s: &[u8], image: &mut [u32], x: &mut [u32], most: u32) -> usize
-    ensures { λ r. ⌜ (Ready (now (s .entry)) most (length (now (x .entry))) → (kind (now (s .entry)) 0 ≡ switchKind → ⊥) → Built (now (s .entry)) (now (image .entry)) r (now (image .exit))) ⌝ }
+    ensures { λ r. let sheet = now (s .entry) in ⌜ (Ready sheet most (length (now (x .entry))) → (nodes.kind sheet 0 ≡ switchKind → ⊥)
+        → Built sheet (now (image .entry)) r (now (image .exit))) ⌝ }
 {
     let l = Layout {
         most,
@@ -83,35 +91,61 @@ pub fn build_plain(s: &[u8], image: &mut [u32], x: &mut [u32], most: u32) -> usi
     n
 }
 
-// The image of a sheet that nothing has refused: its word count; its words are written where they fit.
-fn build(s: &[u8], image: &mut [u32], x: &mut [u32], most: u32) -> usize
-    ensures { λ r. ⌜ (Ready (now (s .entry)) most (length (now (x .entry))) → Built (now (s .entry)) (now (image .entry)) r (now (image .exit))) ⌝ }
+// The end: the scratch is zeroed, and the words are counted, if the image has room for them.
+fn ended(scratch: &mut [u32], room: usize, words: usize) -> Answer
+    ensures { λ r. ⌜ r ≡ making.ended room words ⌝ }
+    ensures { λ _. ⌜ Zeroed (now (scratch .entry)) (now (scratch .exit)) ⌝ }
 {
-    if kind(s, 0) == SWITCH {
-        return build_switch(s, image, x, most);
-    }
-    build_plain(s, image, x, most)
-}
-
-// The image of a sheet, or 01's refusal number. Whatever the sheet and the buffers are, the answer and what is left are the definition's.
-pub fn lower(sheet: &[u8], image: &mut [u32], scratch: &mut [u32]) -> Answer
-    ensures { λ r. ⌜ Answers (now (sheet .entry)) (now (image .entry)) (now (scratch .entry)) r (now (image .exit)) (now (scratch .exit)) ⌝ }
-{
-    let v = number(check(sheet));
-    if v != 0 {
-        return Answer::Refused { number: v };
-    }
-    let t = total(sheet);
-    let k = refusal(t, scratch.len(), node_count(sheet));
-    if k != 0 {
-        return Answer::Refused { number: k };
-    }
-    let words = build(sheet, image, scratch, t.emitted as u32);
     zero(scratch);
-    if image.len() < words {
+    if room < words {
         return Answer::Refused {
             number: IMAGE_TOO_LONG,
         };
     }
     Answer::Lowered { words }
+}
+
+// An accepted expression: count, refuse, emit, write.
+fn lower_plain(sheet: &[u8], image: &mut [u32], scratch: &mut [u32]) -> Answer
+    ensures { λ r. let s = now (sheet .entry) in ⌜ (Checked.numberOf (Checked.checked s) ≡ 0 → (nodes.kind s 0 ≡ switchKind → ⊥)
+        → Answers s (now (image .entry)) (now (scratch .entry)) r (now (image .exit)) (now (scratch .exit))) ⌝ }
+{
+    let t = tally(MAX_DEPTH, sheet, 0);
+    let k = refusal(t, scratch.len(), node_count(sheet));
+    if k != 0 {
+        return Answer::Refused { number: k };
+    }
+    let words = build_plain(sheet, image, scratch, t.emitted as u32);
+    ended(scratch, image.len(), words)
+}
+
+// An accepted Switch: read it into the flat table, count, refuse, emit, write.
+fn lower_switch(sheet: &[u8], image: &mut [u32], scratch: &mut [u32]) -> Answer
+    ensures { λ r. let s = now (sheet .entry) in ⌜ (Checked.numberOf (Checked.checked s) ≡ 0 → nodes.kind s 0 ≡ switchKind
+        → Answers s (now (image .entry)) (now (scratch .entry)) r (now (image .exit)) (now (scratch .exit))) ⌝ }
+{
+    let mut w = [0u32; SIZE];
+    read(sheet, &mut w[..]);
+    let t = count(sheet, &mut w[..]);
+    let k = refusal(t, scratch.len(), node_count(sheet));
+    if k != 0 {
+        return Answer::Refused { number: k };
+    }
+    let n = build_switch(sheet, image, scratch, t.emitted as u32, &mut w[..]);
+    ended(scratch, image.len(), n)
+}
+
+// The image of a sheet, or 01's refusal number. Whatever the sheet and the buffers are, the answer and what is left are the definition's.
+pub fn lower(sheet: &[u8], image: &mut [u32], scratch: &mut [u32]) -> Answer
+    ensures { λ r. ⌜
+        Answers (now (sheet .entry)) (now (image .entry)) (now (scratch .entry)) r (now (image .exit)) (now (scratch .exit)) ⌝ }
+{
+    let v = number(check(sheet));
+    if v != 0 {
+        return Answer::Refused { number: v };
+    }
+    if kind(sheet, 0) == SWITCH {
+        return lower_switch(sheet, image, scratch);
+    }
+    lower_plain(sheet, image, scratch)
 }

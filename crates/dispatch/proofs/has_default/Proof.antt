@@ -1,10 +1,12 @@
 -- `dispatch::has_default` meets its contract.
-use Rattle.dispatch.specs.SwitchDoes.{default-not, default-is}
+use mathlib.Core.Path.{sym}
+use Rattle.switching.specs.LastLaws.{default-none}
+use Rattle.dispatch.proofs.SwitchDoes.{default-is}
 use Rattle.dispatch.proofs.has_default.Statement.{statement}
 use Rattle.dispatch.proofs.has_default.Tie as tie
 
 returns : tie.Need-returns
-returns c = default-not _ (c .if1 .taken)
+returns c = sym (default-none _ (c .if1 .taken))
 
 returns-2 : tie.Need-returns-2
 returns-2 c = default-is _ (c .if1 .left)

@@ -1,5 +1,5 @@
 -- `dispatch::subject` meets its contract.
-use Rattle.dispatch.specs.SwitchDoes.{subject-does}
+use Rattle.dispatch.proofs.SwitchDoes.{subject-does}
 use borrow.Author.Needs.{needs}
 use Rattle.dispatch.proofs.subject.Statement.{statement}
 use Rattle.dispatch.proofs.subject.Tie as tie

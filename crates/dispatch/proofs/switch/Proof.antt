@@ -1,7 +1,6 @@
 -- `dispatch::switch` meets its contract: its parts, one after another.
-use Rattle.dispatch.specs.SwitchDoes.{switch-does}
-use Rattle.lowering.specs.SwitchSheet.{rangesOf}
-use Rattle.cases.specs.Split.{split}
+use Rattle.tables.specs.Planned.{entries}
+use Rattle.dispatch.proofs.SwitchDoes.{switch-does}
 use mathlib.Core.Path.{_∙_}
 use borrow.Author.Needs.{needs}
 use Rattle.dispatch.proofs.switch.Statement.{statement}
@@ -30,42 +29,28 @@ close-requires c κs = search needs
 
 same-length : tie.Need-same-length
 same-length c =
-    let p2 = c .before .before in
-    let p6 = p2 .before .before .before .before in
-    let p7 = p6 .before in
-    let p11 = p7 .before .before .before .before in
-    let p12 = p11 .before in
-    let p16 = p12 .before .before .before .before in
-    let p18 = p16 .before .before in
-    let p22 = p18 .before .before .before .before in
-    let p23 = p22 .before in
-    p2 .close .kept .1 .1 .0 ∙ p7 .missing .kept .1 .1 .0 ∙
-    p12 .bodies .kept .1 .1 .1 .0 ∙
-    p18 .chains .kept .1 .1 .1 .0
+    let p7 = c .before .before .before .before .before .before .before in
+    let p12 = p7 .before .before .before .before .before in
+    let p18 = p12 .before .before .before .before .before .before in
+    let p23 = p18 .before .before .before .before .before in
+    c .before .before .close .kept .1 .1 .0
+    ∙ p7 .missing .kept .1 .1 .0
+    ∙ p12 .bodies .kept .1 .1 .1 .0
+    ∙ p18 .chains .kept .1 .1 .1 .0
     ∙ p23 .subject .kept .1 .1 .1 .0
 
 returns : tie.Need-returns
-returns c = λ l table.
-    let p2 = c .before .before in
-    let p6 = p2 .before .before .before .before in
-    let p7 = p6 .before in
-    let p11 = p7 .before .before .before .before in
-    let p12 = p11 .before in
-    let p13 = p12 .before in
-    let p17 = p13 .before .before .before .before in
-    let p18 = p17 .before in
-    let p22 = p18 .before .before .before .before in
-    let p23 = p22 .before in
-    let p26 = p23 .before .before .before in
-    let p29 = p26 .before .before .before in
-    let a = p29 .args in
-    λ C. switch-does (a .aims) (split (rangesOf (a .s .now))) _ _
-    (p13 .has-default .ensures)
-    (p26 .field-c .ensures)
-    (p23 .subject .ensures l table C)
-    (p18 .chains .ensures l table C)
-    (p12 .bodies .ensures l table C)
-    (p7 .missing .ensures l table _) (p2 .close .ensures l table _)
+returns c =
+    let p7 = c .before .before .before .before .before .before .before in
+    let p12 = p7 .before .before .before .before .before in
+    let p18 = p12 .before .before .before .before .before .before in
+    let p23 = p18 .before .before .before .before .before in
+    let p30 = p23 .before .before .before .before .before .before .before in
+    let a = p30 .args in
+    λ l table C T P.
+    switch-does (a .w .now) (entries (a .s .now)) _ _ (p12 .before .has-default .ensures) (p23 .before .before .before .field-c .ensures)
+    (p23 .subject .ensures l table C) (p18 .chains .ensures l table C T P) (p12 .bodies .ensures l table C T)
+    (p7 .missing .ensures l table _) (c .before .before .close .ensures l table _)
 
 pub switch-spec : {M : Type 1} → statement M
 switch-spec =

@@ -1,64 +1,93 @@
--- `rows::range_row` meets its contract, whatever the ranges are.
-use Rattle.lowering.specs.SwitchTables.{oneIf}
-use Rattle.cases.specs.Excess.{excessOf, lowWord, highWord}
-use mir.ValLaws.{toZ-ofZ}
-use mir.Syntax.{w64}
-use mathlib.Core.Path.{_∙_, ap}
-use Rattle.rows.specs.RangeLaws.{range-words}
-use Rattle.tables.specs.Runs.{entryOf}
-use Rattle.cases.specs.Held.{held}
+-- `rows::range_row` meets its contract: the cuts of the run's ends, and its target.
+use Rattle.rows.proofs.RowLaws.{range-words}
 use borrow.Author.Needs.{needs}
 use Rattle.rows.proofs.range_row.Statement.{statement}
 use Rattle.rows.proofs.range_row.Tie as tie
 
-run-from-requires : tie.Need-run-from-requires
-run-from-requires c κs = search needs
+add-get : tie.Need-add-get
+add-get c = search needs
 
-run-to-requires : tie.Need-run-to-requires
-run-to-requires c κs = search needs
+get-requires : tie.Need-get-requires
+get-requires c κs = search needs
 
-low-word-requires : tie.Need-low-word-requires
-low-word-requires c κs = search needs
+cast-from : tie.Need-cast-from
+cast-from c = search needs
 
-high-word-requires : tie.Need-high-word-requires
-high-word-requires c κs = search needs
+add-get-2 : tie.Need-add-get-2
+add-get-2 c = search needs
 
-low-word-requires-2 : tie.Need-low-word-requires-2
-low-word-requires-2 c κs = search needs
+get-requires-2 : tie.Need-get-requires-2
+get-requires-2 c κs = search needs
 
-high-word-requires-2 : tie.Need-high-word-requires-2
-high-word-requires-2 c κs = search needs
+add-to : tie.Need-add-to
+add-to c = search needs
 
-run-inclusive-requires : tie.Need-run-inclusive-requires
-run-inclusive-requires c κs = search needs
+cast-to : tie.Need-cast-to
+cast-to c = search needs
 
-one-if-requires : tie.Need-one-if-requires
-one-if-requires c κs = search needs
+add-get-3 : tie.Need-add-get-3
+add-get-3 c = search needs
+
+get-requires-3 : tie.Need-get-requires-3
+get-requires-3 c κs = search needs
+
+add-get-4 : tie.Need-add-get-4
+add-get-4 c = search needs
+
+get-requires-4 : tie.Need-get-requires-4
+get-requires-4 c κs = search needs
+
+add-get-5 : tie.Need-add-get-5
+add-get-5 c = search needs
+
+get-requires-5 : tie.Need-get-requires-5
+get-requires-5 c κs = search needs
+
+add-get-6 : tie.Need-add-get-6
+add-get-6 c = search needs
+
+get-requires-6 : tie.Need-get-requires-6
+get-requires-6 c κs = search needs
+
+sub-t15 : tie.Need-sub-t15
+sub-t15 c = search needs
+
+add-target-of : tie.Need-add-target-of
+add-target-of c = search needs
+
+target-of-requires : tie.Need-target-of-requires
+target-of-requires c κs = search needs
 
 returns : tie.Need-returns
 returns c =
-    let a = c .before .before .before .before .before .before .before .before .args in
-    λ rs.
-    let e = entryOf rs (held (a .p .at) (a .p .n)) (a .x) in
-    let from = ap excessOf (toZ-ofZ w64 (c .before .before .before .before .before .before .before .run-from .result) (search needs)) ∙
-    c .before .before .before .before .before .before .before .run-from .ensures rs in
-    let to = ap excessOf (toZ-ofZ w64 (c .before .before .before .before .before .before .run-to .result) (search needs)) ∙
-    c .before .before .before .before .before .before .run-to .ensures rs in
-    range-words e (a .target) _ _ _ _ _ (c .before .before .before .before .before .low-word .ensures ∙ ap lowWord from)
-    (c .before .before .before .before .high-word .ensures ∙ ap highWord from)
-    (c .before .before .before .low-word2 .ensures ∙ ap lowWord to) (c .before .before .high-word2 .ensures ∙ ap highWord to)
-    (c .one-if .ensures ∙ ap oneIf (c .before .run-inclusive .ensures rs (held (a .p .at) (a .p .n))))
+    let cuts = c .before in
+    let last = cuts .before .before .before .before in
+    let first = last .before in
+    let a = first .before .before .args in
+    range-words (a .w .now) (a .i) (first .get .result) (last .get2 .result) _ _ _ _ _ (first .get .ensures) (last .get2 .ensures)
+    (cuts .before .before .before .get3 .ensures) (cuts .before .before .get4 .ensures) (cuts .before .get5 .ensures) (cuts .get6 .ensures)
+    (c .target-of .ensures)
 
 pub range-row-spec : {M : Type 1} → statement M
 range-row-spec =
     tie.close
     (tie.spec
-    run-from-requires
-    run-to-requires
-    low-word-requires
-    high-word-requires
-    low-word-requires-2
-    high-word-requires-2
-    run-inclusive-requires
-    one-if-requires
+    add-get
+    get-requires
+    cast-from
+    add-get-2
+    get-requires-2
+    add-to
+    cast-to
+    add-get-3
+    get-requires-3
+    add-get-4
+    get-requires-4
+    add-get-5
+    get-requires-5
+    add-get-6
+    get-requires-6
+    sub-t15
+    add-target-of
+    target-of-requires
     returns)

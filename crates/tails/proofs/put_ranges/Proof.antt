@@ -1,9 +1,5 @@
 -- `tails::put_ranges` meets its contract: a part of the image becomes the section.
-use Rattle.tails.specs.TailLengths.{range-words}
-use Rattle.cases.specs.Held.{held}
-use Rattle.rows.specs.Rows.{rowsOf, runRow}
-use Rattle.bytecode.specs.Switch.{rangeWords}
-use Rattle.lowering.specs.Image.{section}
+use Rattle.rows.proofs.RowLaws.{ranges-length}
 use Rattle.image.specs.Puts.{puts-part, puts-none}
 use Prim.Native.Nat.{_*_}
 use native.Mathlib.Omega.{arith}
@@ -12,7 +8,7 @@ use Rattle.tails.proofs.put_ranges.Statement.{statement}
 use Rattle.tails.proofs.put_ranges.Tie as tie
 
 returns : tie.Need-returns
-returns c = λ rs h. absurd (omega (arith, c .if1 .taken, h))
+returns c = λ h. absurd (omega arith)
 
 mul-beyond : tie.Need-mul-beyond
 mul-beyond c = search needs
@@ -21,15 +17,9 @@ beyond-requires : tie.Need-beyond-requires
 beyond-requires c κs = search needs
 
 returns-2 : tie.Need-returns-2
-returns-2 c =
-    let a = c .before .before .before .before .args in
-    λ rs h.
-    puts-none (a .image .now) (a .at) (section rangeWords (rowsOf (runRow rs (held (a .p .at) (a .p .n)) (a .q .at) (a .targets)) (a .q .n)))
-    (omega (
-      arith,
-      c .before .beyond .ensures .beyond (c .if2 .taken),
-      range-words rs (held (a .p .at) (a .p .n)) (a .q .at) (a .targets) (a .q .n),
-    ))
+returns-2 c = λ h.
+    let a = c .before .before .before .before .before .args in
+    puts-none _ _ _ (omega (arith, c .before .beyond .ensures .beyond (c .if2 .taken), ranges-length (a .w .now) (a .n)))
 
 mul-e : tie.Need-mul-e
 mul-e c = search needs
@@ -56,14 +46,10 @@ same-length : tie.Need-same-length
 same-length c = search needs
 
 returns-3 : tie.Need-returns-3
-returns-3 c =
-    let c2 = c .before .before in
-    let a = c2 .before .before .before .before .before .before .args in
-    λ rs h.
-    puts-part (a .image .now) (a .at) (6 * a .q .n) _
-    (section rangeWords (rowsOf (runRow rs (held (a .p .at) (a .p .n)) (a .q .at) (a .targets)) (a .q .n)))
-    (c2 .range-rows .ensures rs)
-    (range-words rs (held (a .p .at) (a .p .n)) (a .q .at) (a .targets) (a .q .n))
+returns-3 c = λ h.
+    let put = c .before .before in
+    let a = put .before .before .before .before .before .before .before .args in
+    puts-part _ _ (6 * a .n) _ _ (put .range-rows .ensures) (ranges-length (a .w .now) (a .n))
 
 pub put-ranges-spec : {M : Type 1} → statement M
 put-ranges-spec =

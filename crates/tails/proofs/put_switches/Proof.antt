@@ -1,5 +1,5 @@
 -- `tails::put_switches` meets its contract: a part of the image becomes the section.
-use Rattle.tails.specs.TailLengths.{switch-words}
+use Rattle.tails.proofs.Tail.{switch-words}
 use Rattle.rows.specs.Rows.{tablesOf}
 use Rattle.bytecode.specs.Switch.{switchWords}
 use Rattle.lowering.specs.Image.{section}
@@ -25,13 +25,9 @@ beyond-requires c κs = search needs
 returns : tie.Need-returns
 returns c =
     let a = c .before .before .before .before .args in
-    puts-none (a .image .now) (a .at) (section switchWords (tablesOf (a .cases) (a .fallback) (a .ranges) (a .default)))
-    (omega (
-      arith,
-      c .before .beyond .ensures .beyond (c .if1 .taken),
-      c .before .before .table-count .ensures,
-      switch-words (a .cases) (a .fallback) (a .ranges) (a .default),
-    ))
+    let count = c .before .before .table-count .ensures in
+    let words = switch-words (a .cases) (a .fallback) (a .ranges) (a .default) in
+    puts-none _ _ _ (omega (arith, c .before .beyond .ensures .beyond (c .if1 .taken)))
 
 add-e : tie.Need-add-e
 add-e c = omega (arith, c .before .beyond .ensures .within (c .if1 .left))
@@ -56,12 +52,11 @@ same-length c = search needs
 
 returns-2 : tie.Need-returns-2
 returns-2 c =
-    let c6 = c .before .before .before .before .before .before in
-    let a = c6 .before .before .args in
-    puts-part (a .image .now) (a .at) (4 * c6 .table-count .result) _
-    (section switchWords (tablesOf (a .cases) (a .fallback) (a .ranges) (a .default)))
-    (c .before .before .switch-rows .ensures)
-    (omega (arith, c6 .table-count .ensures, switch-words (a .cases) (a .fallback) (a .ranges) (a .default)))
+    let counted = c .before .before .before .before .before .before in
+    let a = counted .before .before .args in
+    let words = switch-words (a .cases) (a .fallback) (a .ranges) (a .default) in
+    puts-part _ _ (4 * counted .table-count .result) _ (section switchWords (tablesOf (a .cases) (a .fallback) (a .ranges) (a .default)))
+    (c .before .before .switch-rows .ensures) (omega (arith, counted .table-count .ensures))
 
 pub put-switches-spec : {M : Type 1} → statement M
 put-switches-spec =

@@ -1,8 +1,6 @@
 -- Lowered from nothing, counted, and written where it fits.
-use mathlib.Core.List.{[]}
 use native.Mathlib.Omega.{arith}
-use mathlib.Core.Path.{refl}
-use Rattle.to_image.specs.PlainLaws.{plain-long, plain-built}
+use Rattle.to_image.proofs.PlainLaws.{plain-long, plain-built}
 use borrow.Author.Needs.{needs}
 use Rattle.to_image.proofs.build_plain.Statement.{statement}
 use Rattle.to_image.proofs.build_plain.Tie as tie
@@ -33,18 +31,14 @@ same-length c = search needs
 
 returns : tie.Need-returns
 returns c =
-    let p1 = c .before in
-    let p2 = p1 .before in
-    let p6 = p2 .before .before .before .before in
-    let p10 = p6 .before .before .before .before in
-    let p12 = p10 .before .before in
-    let p14 = p12 .before .before in
-    let p15 = p14 .before in
-    let p16 = p15 .before in
-    λ R h. plain-long _ h _ _ _ _ _ _ _ [] _ _ _ R refl refl (p16 .node-count .ensures)
-    (p14 .start .result) (p14 .start .ensures) (p12 .clear-index .ensures)
-    (p6 .expression .ensures _ (p15 .effects .ensures)) (p2 .state-of .ensures) (λ a g. p1 .image-len .ensures _ _ _ a g)
-    (omega arith)
+    let counted = c .before in
+    let emitted = counted .before .before .before .before .before in
+    let cleared = emitted .before .before .before .before .before .before in
+    let begun = cleared .before .before in
+    let table = begun .before in
+    λ R h. plain-long h _ _ _ _ _ _ _ _ R (table .before .node-count .ensures) (begun .start .result) (begun .start .ensures)
+    (cleared .clear-index .ensures) (emitted .expression .ensures _ (table .effects .ensures)) (counted .before .state-of .ensures)
+    (λ a g. counted .image-len .ensures _ _ _ a g) (omega arith)
 
 write-front-requires : tie.Need-write-front-requires
 write-front-requires c κs = search needs
@@ -57,20 +51,16 @@ same-length-3 c = search needs
 
 returns-2 : tie.Need-returns-2
 returns-2 c =
-    let p2 = c .before .before in
-    let p6 = p2 .before .before .before .before in
-    let p7 = p6 .before in
-    let p11 = p7 .before .before .before .before in
-    let p15 = p11 .before .before .before .before in
-    let p17 = p15 .before .before in
-    let p19 = p17 .before .before in
-    let p20 = p19 .before in
-    let p21 = p20 .before in
-    λ R h. plain-built _ h _ _ _ _ _ _ _ _ _ _ _ R refl refl (p21 .node-count .ensures)
-    (p19 .start .result) (p19 .start .ensures) (p17 .clear-index .ensures)
-    (p11 .expression .ensures _ (p20 .effects .ensures)) (p7 .state-of .ensures) (λ a g. p6 .image-len .ensures _ _ _ a g)
-    (omega (arith, p2 .before .before .before .if1 .left))
-    (λ a g k. p2 .write-front .ensures _ a g k)
+    let wrote = c .before .before in
+    let counted = wrote .before .before .before .before in
+    let emitted = counted .before .before .before .before .before in
+    let cleared = emitted .before .before .before .before .before .before in
+    let begun = cleared .before .before in
+    let table = begun .before in
+    λ R h. plain-built h _ _ _ _ _ _ _ _ R (table .before .node-count .ensures) (begun .start .result) (begun .start .ensures)
+    (cleared .clear-index .ensures) (emitted .expression .ensures _ (table .effects .ensures)) (counted .before .state-of .ensures)
+    (λ a g. counted .image-len .ensures _ _ _ a g) (omega (arith, wrote .before .before .before .if1 .left))
+    (λ a g k. wrote .write-front .ensures _ a g k)
 
 pub build-plain-spec : {M : Type 1} → statement M
 build-plain-spec =

@@ -1,6 +1,6 @@
--- `to_image::lower` meets its contract: each way out is one law of the answer.
-use Rattle.to_image.specs.AnswerLaws.{check-stays, refused-early, early-few, refused-long, lowered-whole}
-use native.Mathlib.Omega.{arith}
+-- `to_image::lower` meets its contract: refused by the check, or lowered by the kind of node 0.
+use Rattle.to_image.proofs.AnswerLaws.{number-is, check-stays}
+use mathlib.Core.Path.{sym, _∙_}
 use borrow.Author.Needs.{needs}
 use Rattle.to_image.proofs.lower.Statement.{statement}
 use Rattle.to_image.proofs.lower.Tie as tie
@@ -12,28 +12,13 @@ number-requires : tie.Need-number-requires
 number-requires c κs = search needs
 
 returns : tie.Need-returns
-returns c = check-stays _ _ _ _ _ (c .before .before .check .ensures) (c .before .number .ensures) (c .if1 .taken)
+returns c = check-stays _ _ _ (c .before .before .check .ensures) (c .before .number .ensures) _ _ (c .if1 .taken)
 
-total-requires : tie.Need-total-requires
-total-requires c κs = search needs
+kind-requires : tie.Need-kind-requires
+kind-requires c κs = search needs
 
-node-count-requires : tie.Need-node-count-requires
-node-count-requires c κs = search needs
-
-refusal-requires : tie.Need-refusal-requires
-refusal-requires c κs = search needs
-
-returns-2 : tie.Need-returns-2
-returns-2 c = refused-early _ _ _ _ _ _ _ _ (c .before .before .before .before .before .before .check .ensures) (c .before .before .before .before .before .number .ensures) (c .before .before .before .before .if1 .left) (c .before .before .before .total .ensures) (c .before .before .node-count .ensures) (c .before .refusal .ensures) (c .if2 .taken)
-
-cast-build : tie.Need-cast-build
-cast-build c = let few = early-few _ _ _ _ _ (c .before .before .before .before .refusal .ensures) (c .before .before .before .if2 .left) in search needs
-
-build-requires : tie.Need-build-requires
-build-requires c κs = search needs
-
-zero-requires : tie.Need-zero-requires
-zero-requires c κs = search needs
+lower-switch-requires : tie.Need-lower-switch-requires
+lower-switch-requires c κs = search needs
 
 same-length : tie.Need-same-length
 same-length c = search needs
@@ -41,9 +26,18 @@ same-length c = search needs
 same-length-2 : tie.Need-same-length-2
 same-length-2 c = search needs
 
-returns-3 : tie.Need-returns-3
-returns-3 c = refused-long _ _ _ _ _ _ _ _ (c .before .before .before .before .before .before .before .before .before .before .before .before .before .before .before .before .before .before .before .check .ensures) (c .before .before .before .before .before .before .before .before .before .before .before .before .before .before .before .before .before .before .number .ensures) (c .before .before .before .before .before .before .before .before .before .before .before .before .before .before .before .before .before .if1 .left) (c .before .before .before .before .before .before .before .before .before .before .before .before .before .before .before .before .total .ensures) (c .before .before .before .before .before .before .before .before .before .before .before .before .before .before .before .node-count .ensures) (c .before .before .before .before .before .before .before .before .before .before .before .before .before .before .refusal .ensures) (c .before .before .before .before .before .before .before .before .before .before .before .before .before .if2 .left)
-    _ (c .before .before .before .before .before .before .before .before .before .build .last .1 .1 .0) _ _ (c .before .before .before .before .before .before .before .before .before .build .ensures) (c .before .before .before .zero .ensures .is) (c .before .before .before .before .before .before .before .before .before .build .kept .1 .1 .0) (c .before .before .before .before .before .before .before .before .before .build .kept .1 .0) (omega arith)
+returns-2 : tie.Need-returns-2
+returns-2 c =
+    let lowered = c .before .before .before .before in
+    let test = lowered .before .before .before in
+    let checked = test .before .before in
+    let numbered = checked .before in
+    lowered .lower-switch .ensures
+    (number-is _ _ _ (numbered .before .check .ensures) (numbered .number .ensures) ∙ checked .if1 .left)
+    (sym (test .before .kind .ensures) ∙ test .if2 .taken)
+
+lower-plain-requires : tie.Need-lower-plain-requires
+lower-plain-requires c κs = search needs
 
 same-length-3 : tie.Need-same-length-3
 same-length-3 c = search needs
@@ -51,9 +45,15 @@ same-length-3 c = search needs
 same-length-4 : tie.Need-same-length-4
 same-length-4 c = search needs
 
-returns-4 : tie.Need-returns-4
-returns-4 c = lowered-whole _ _ _ _ _ _ _ _ (c .before .before .before .before .before .before .before .before .before .before .before .before .before .before .before .before .before .before .before .check .ensures) (c .before .before .before .before .before .before .before .before .before .before .before .before .before .before .before .before .before .before .number .ensures) (c .before .before .before .before .before .before .before .before .before .before .before .before .before .before .before .before .before .if1 .left) (c .before .before .before .before .before .before .before .before .before .before .before .before .before .before .before .before .total .ensures) (c .before .before .before .before .before .before .before .before .before .before .before .before .before .before .before .node-count .ensures) (c .before .before .before .before .before .before .before .before .before .before .before .before .before .before .refusal .ensures) (c .before .before .before .before .before .before .before .before .before .before .before .before .before .if2 .left)
-    _ (c .before .before .before .before .before .before .before .before .before .build .last .1 .1 .0) _ _ (c .before .before .before .before .before .before .before .before .before .build .ensures) (c .before .before .before .zero .ensures .is) (c .before .before .before .before .before .before .before .before .before .build .kept .1 .1 .0) (c .before .before .before .before .before .before .before .before .before .build .kept .1 .0) (omega arith)
+returns-3 : tie.Need-returns-3
+returns-3 c =
+    let lowered = c .before .before .before .before in
+    let test = lowered .before .before .before in
+    let checked = test .before .before in
+    let numbered = checked .before in
+    lowered .lower-plain .ensures
+    (number-is _ _ _ (numbered .before .check .ensures) (numbered .number .ensures) ∙ checked .if1 .left)
+    (λ h. test .if2 .left (test .before .kind .ensures ∙ h))
 
 pub lower-spec : {M : Type 1} → statement M
 lower-spec =
@@ -62,16 +62,12 @@ lower-spec =
     check-requires
     number-requires
     returns
-    total-requires
-    node-count-requires
-    refusal-requires
-    returns-2
-    cast-build
-    build-requires
-    zero-requires
+    kind-requires
+    lower-switch-requires
     same-length
     same-length-2
-    returns-3
+    returns-2
+    lower-plain-requires
     same-length-3
     same-length-4
-    returns-4)
+    returns-3)

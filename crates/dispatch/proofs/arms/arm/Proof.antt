@@ -2,11 +2,12 @@
 use Rattle.bytecode.specs.Table.{effectTable}
 use Rattle.scratch.specs.declared.Layout.{Layout}
 use Rattle.store.specs.States.{stateOf}
-use Rattle.dispatch.specs.ArmDoes.{ArmLeft, arm-begins, arm-on, arm-stop, arm-end, arm-whole}
-use Rattle.dispatch.specs.CapLaws.{cap-same, cap-lt, cap-le, cap-at}
+use Rattle.lowering.specs.SwitchSheet.{blockCount}
+use Rattle.tables.specs.Table.{Guards}
+use Rattle.dispatch.proofs.ArmDoes.{ArmLeft, arm-begins, arm-pass, arm-on, arm-stop, arm-end}
 use Rattle.dispatch.specs.Ready.{Ready, Named}
-use lib.ListN.{length, take}
-use mathlib.Core.Path.{_≡_, refl, sym, _∙_}
+use lib.ListN.{length}
+use mathlib.Core.Path.{_≡_, refl, _∙_}
 use Prim.Native.Nat.{_≤_, _-_}
 use native.Mathlib.Omega.{arith}
 use borrow.Author.Needs.{needs}
@@ -14,83 +15,28 @@ use Rattle.dispatch.proofs.arms.arm.Statement.{statement}
 use Rattle.dispatch.proofs.arms.arm.Tie as tie
 
 abbrev Inv-loop : tie.InvT-loop
-Inv-loop s t c₀ x₀ aims fallback drop n at any₀ i₀ c x any i =
+Inv-loop s t c₀ x₀ w a tail n any₀ i₀ c x any i =
     (i ≤ n) × (length x ≡ length x₀)
-    × ((l : Layout) → t ≡ effectTable → Ready s → Named s (take n at)
-    → ArmLeft s l x₀ (stateOf c₀) aims fallback drop (take n at) x (stateOf c) any i)
+    × ((l : Layout) → t ≡ effectTable → Ready s → Guards s w (blockCount s) → Named s a
+    → ArmLeft s l x₀ (stateOf c₀) w (tail .to) (tail .drop) a x (stateOf c) any i)
 
 abbrev μ-loop : tie.MeasureT-loop
-μ-loop s t c₀ x₀ aims fallback drop n at any₀ i₀ c x any i = n - i
-
--- the array's length
-long : (c : tie.Start Inv-loop μ-loop) → length (c .args .ks .at) ≡ 64
-long c = search (needs, c .good .1 .1 .1 .1 .1 .0)
-
-capped-requires : tie.Need-capped-requires Inv-loop μ-loop
-capped-requires c κs = search needs
+μ-loop s t c₀ x₀ w a tail n any₀ i₀ c x any i = n - i
 
 loop-holds : tie.Need-loop-holds Inv-loop μ-loop
-loop-holds c = (omega arith, refl, λ l table C N. arm-begins _ _ _ _)
+loop-holds c = (omega arith, refl, λ l table C G N. arm-begins _ _ _ _)
 
-mul-k : tie.Need-mul-k Inv-loop μ-loop
-mul-k c = omega arith
+get-requires : tie.Need-get-requires Inv-loop μ-loop
+get-requires c κs = search needs
 
-array-read-k : tie.Need-array-read-k Inv-loop μ-loop
-array-read-k c = omega arith
+cast-k : tie.Need-cast-k Inv-loop μ-loop
+cast-k c = omega arith
 
-guard-of-requires : tie.Need-guard-of-requires Inv-loop μ-loop
-guard-of-requires c κs = search needs
+add-get : tie.Need-add-get Inv-loop μ-loop
+add-get c = omega arith
 
-guard-kind-requires : tie.Need-guard-kind-requires Inv-loop μ-loop
-guard-kind-requires c κs = search needs
-
-place-requires : tie.Need-place-requires Inv-loop μ-loop
-place-requires c κs = search needs
-
-always-requires : tie.Need-always-requires Inv-loop μ-loop
-always-requires c κs = search needs
-
-end-arm-requires : tie.Need-end-arm-requires Inv-loop μ-loop
-end-arm-requires c κs = search needs
-
-same-length : tie.Need-same-length Inv-loop μ-loop
-same-length c =
-    let p2 = c .before .before in
-    let p6 = p2 .before .before .before .before in
-    let p10 = p6 .before .before .before .before in
-    let p11 = p10 .before in
-    p2 .end-arm .kept .1 .1 .0 ∙ p11 .loop .inv .1
-
-returns : tie.Need-returns Inv-loop μ-loop
-returns c = λ l table.
-    let p2 = c .before .before in
-    let p5 = p2 .before .before .before in
-    let p6 = p5 .before in
-    let p7 = p6 .before in
-    let p8 = p7 .before in
-    let p9 = p8 .before in
-    let p10 = p9 .before in
-    let p11 = p10 .before in
-    let p13 = p11 .before .before in
-    let p16 = p13 .before .before .before in
-    let n = p13 .capped in
-    let w = p11 .loop in
-    let lt = p10 .loop-test .taken in
-    let a = p16 .args in
-    let wide = long p16 in
-    λ C. arm-whole (a .aims) (a .fallback) (a .drop) (cap-same (a .ks .at) (n .result) (a .ks .n) 64 wide (n .ensures)) (λ N. arm-stop
-    (w .inv .2 l table C N)
-    _ _ _ _ C N (cap-lt (a .ks .at) (n .result) (a .ks .n) 64 wide (n .ensures) _ lt) (cap-at (a .ks .at) (n .result) (a .ks .n) 64 wide
-    (n .ensures) (w .i) 0 lt) (p9 .guard-of .ensures)
-    (p8 .guard-kind .ensures)
-    (p7 .place .ensures) (sym (p6 .always .ensures) ∙
-    p5 .if1 .taken) (p2 .end-arm .ensures l table _))
-
-try-one-requires : tie.Need-try-one-requires Inv-loop μ-loop
-try-one-requires c κs = search needs
-
-tried-requires : tie.Need-tried-requires Inv-loop μ-loop
-tried-requires c κs = search needs
+get-requires-2 : tie.Need-get-requires-2 Inv-loop μ-loop
+get-requires-2 c κs = search needs
 
 add-i : tie.Need-add-i Inv-loop μ-loop
 add-i c = omega arith
@@ -99,32 +45,63 @@ loop-less : tie.Need-loop-less Inv-loop μ-loop
 loop-less c = omega arith
 
 loop-again : tie.Need-loop-again Inv-loop μ-loop
-loop-again c =
-    let p3 = c .before .before .before in
-    let p6 = p3 .before .before .before in
-    let p7 = p6 .before in
-    let p8 = p7 .before in
-    let p9 = p8 .before in
-    let p10 = p9 .before in
-    let p11 = p10 .before in
-    let p12 = p11 .before in
-    let p14 = p12 .before .before in
-    let p17 = p14 .before .before .before in
-    let n = p14 .capped in
-    let w = p12 .loop in
-    let lt = p11 .loop-test .taken in
-    let a = p17 .args
-    in
-    let wide = long p17 in (
+loop-again c = (
+  omega arith,
+  c .before .before .before .before .loop .inv .1,
+  λ l table C G N.
+      arm-pass (c .before .before .before .before .loop .inv .2 l table C G N) _ _ C G N (c .before .before .before .loop-test .taken)
+      (c .before .before .get .ensures) (c .before .get2 .ensures) (c .if1 .taken),
+)
+
+add-get-2 : tie.Need-add-get-2 Inv-loop μ-loop
+add-get-2 c = omega arith
+
+get-requires-3 : tie.Need-get-requires-3 Inv-loop μ-loop
+get-requires-3 c κs = search needs
+
+end-arm-requires : tie.Need-end-arm-requires Inv-loop μ-loop
+end-arm-requires c κs = search needs
+
+same-length : tie.Need-same-length Inv-loop μ-loop
+same-length c =
+    let p11 = c .before .before .before .before .before .before .before .before .before .before .before in
+    c .before .before .end-arm .kept .1 .1 .0 ∙ p11 .loop .inv .1
+
+returns : tie.Need-returns Inv-loop μ-loop
+returns c =
+    let p5 = c .before .before .before .before .before in
+    let p10 = p5 .before .before .before .before .before in
+    λ l table C G N.
+    arm-stop (p10 .before .loop .inv .2 l table C G N) _ _ C G N (p10 .loop-test .taken) (p5 .before .before .before .before .get .ensures)
+    (p5 .before .before .before .get2 .ensures) _
+    (p5 .before .get3 .ensures) (p5 .if2 .taken) (c .before .before .end-arm .ensures l table _)
+
+add-get-3 : tie.Need-add-get-3 Inv-loop μ-loop
+add-get-3 c = omega arith
+
+get-requires-4 : tie.Need-get-requires-4 Inv-loop μ-loop
+get-requires-4 c κs = search needs
+
+try-one-requires : tie.Need-try-one-requires Inv-loop μ-loop
+try-one-requires c κs = search needs
+
+add-i-2 : tie.Need-add-i-2 Inv-loop μ-loop
+add-i-2 c = omega arith
+
+loop-less-2 : tie.Need-loop-less-2 Inv-loop μ-loop
+loop-less-2 c = omega arith
+
+loop-again-2 : tie.Need-loop-again-2 Inv-loop μ-loop
+loop-again-2 c =
+    let p6 = c .before .before .before .before .before .before in
+    let p11 = p6 .before .before .before .before .before in (
       omega arith,
-      p3 .try-one .kept .1 .1 .1 .0 ∙ w .inv .1,
-      λ l table C N. arm-on (w .inv .2 l table C N) _ _ _ _ C N (cap-lt (a .ks .at)
-          (n .result) (a .ks .n) 64 wide (n .ensures) _ lt) (cap-at (a .ks .at) (n .result) (a .ks .n) 64 wide (n .ensures) (w .i) 0 lt)
-          (p10 .guard-of .ensures)
-          (p9 .guard-kind .ensures)
-          (p8 .place .ensures) _ (c .tried .ensures) (sym
-          (p7 .always .ensures) ∙ p6 .if1 .left)
-          (p3 .try-one .ensures l table),
+      c .before .before .try-one .kept .1 .1 .1 .0 ∙ p11 .before .loop .inv .1,
+      λ l table C G N.
+          arm-on (p11 .before .loop .inv .2 l table C G N) _ _ C G N (p11 .loop-test .taken)
+          (p6 .before .before .before .before .get .ensures) (p6 .before .before .before .get2 .ensures) _
+          (p6 .before .get3 .ensures) _ (p6 .before .before .if1 .left) (p6 .if2 .left) (c .before .before .before .get4 .ensures)
+          (c .before .before .try-one .ensures l table),
     )
 
 end-arm-requires-2 : tie.Need-end-arm-requires-2 Inv-loop μ-loop
@@ -132,23 +109,13 @@ end-arm-requires-2 c κs = search needs
 
 same-length-2 : tie.Need-same-length-2 Inv-loop μ-loop
 same-length-2 c =
-    let p2 = c .before .before in
-    let p6 = p2 .before .before .before .before in
-    p2 .end-arm2 .kept .1 .1 .0 ∙ p6 .loop .inv .1
+    let p6 = c .before .before .before .before .before .before in
+    c .before .before .end-arm2 .kept .1 .1 .0 ∙ p6 .loop .inv .1
 
 returns-2 : tie.Need-returns-2 Inv-loop μ-loop
-returns-2 c = λ l table.
-    let p2 = c .before .before in
-    let p5 = p2 .before .before .before in
-    let p6 = p5 .before in
-    let p8 = p6 .before .before in
-    let p11 = p8 .before .before .before in
-    let n = p8 .capped in
-    let a = p11 .args in
-    let wide = long p11 in
-    λ C. arm-whole (a .aims) (a .fallback) (a .drop) (cap-same (a .ks .at) (n .result) (a .ks .n) 64 wide (n .ensures)) (λ N. arm-end
-    (p6 .loop .inv .2 l table C N) (cap-le (a .ks .at) (n .result) (a .ks .n) 64 wide (n .ensures) _ (p5 .loop-test .left))
-    (p2 .end-arm2 .ensures l table _))
+returns-2 c =
+    let p5 = c .before .before .before .before .before in
+    λ l table C G N. arm-end (p5 .before .loop .inv .2 l table C G N) (p5 .loop-test .left) (c .before .before .end-arm2 .ensures l table _)
 
 pub arm-spec : {M : Type 1} → statement M
 arm-spec =
@@ -156,22 +123,25 @@ arm-spec =
     (tie.spec
     Inv-loop
     μ-loop
-    capped-requires
     loop-holds
-    mul-k
-    array-read-k
-    guard-of-requires
-    guard-kind-requires
-    place-requires
-    always-requires
-    end-arm-requires
-    same-length
-    returns
-    try-one-requires
-    tried-requires
+    get-requires
+    cast-k
+    add-get
+    get-requires-2
     add-i
     loop-less
     loop-again
+    add-get-2
+    get-requires-3
+    end-arm-requires
+    same-length
+    returns
+    add-get-3
+    get-requires-4
+    try-one-requires
+    add-i-2
+    loop-less-2
+    loop-again-2
     end-arm-requires-2
     same-length-2
     returns-2)

@@ -1,12 +1,7 @@
 -- `dispatch::arms::last_case` meets its contract. The invariant: the last of those passed.
-use Rattle.dispatch.specs.ListDoes.{last-end}
-use Rattle.dispatch.specs.PartLaws.{last-on}
-use Rattle.dispatch.specs.CapLaws.{cap-same, map-at, map-count}
-use Rattle.tables.specs.Heads.{caseKey, keys}
-use Rattle.switching.specs.LastLaws.{lastOf, triedAt, last-none}
-use Rattle.switching.specs.Change.{anyTried}
-use lib.ListN.{length, take}
-use mathlib.Core.List.{[], map}
+use Rattle.dispatch.specs.Parts.{chainIn}
+use Rattle.dispatch.proofs.TableLaws.{chain-yes, chain-no}
+use Rattle.switching.specs.LastLaws.{lastOf, last-none}
 use mathlib.Core.Path.{_≡_, sym, ap, _∙_}
 use Prim.Native.Nat.{_≤_, _-_}
 use native.Mathlib.Omega.{arith}
@@ -15,33 +10,23 @@ use Rattle.dispatch.proofs.arms.last_case.Statement.{statement}
 use Rattle.dispatch.proofs.arms.last_case.Tie as tie
 
 abbrev Inv-loop : tie.InvT-loop
-Inv-loop s n a last₀ i₀ last i = (i ≤ n) × (last ≡ lastOf (triedAt s (keys (caseKey s) (take n a))) i)
+Inv-loop w n last₀ i₀ last i =
+    (i ≤ n) × (last ≡ lastOf (chainIn w) i)
 
 abbrev μ-loop : tie.MeasureT-loop
-μ-loop s n a last₀ i₀ last i = n - i
-
-capped-requires : tie.Need-capped-requires Inv-loop μ-loop
-capped-requires c κs = search needs
+μ-loop w n last₀ i₀ last i = n - i
 
 loop-holds : tie.Need-loop-holds Inv-loop μ-loop
-loop-holds c =
-    let a = c .before .before .before .args in
-    (omega arith, sym (last-none (triedAt (a .s .now) (keys (caseKey (a .s .now)) (take (c .before .capped .result) (a .h .at))))))
+loop-holds c = (omega arith, sym (last-none (chainIn (c .before .args .w .now))))
 
-mul-case-blocks : tie.Need-mul-case-blocks Inv-loop μ-loop
-mul-case-blocks c = omega arith
+add-get : tie.Need-add-get Inv-loop μ-loop
+add-get c = omega arith
 
-array-read-case-blocks : tie.Need-array-read-case-blocks Inv-loop μ-loop
-array-read-case-blocks c = omega arith
+get-requires : tie.Need-get-requires Inv-loop μ-loop
+get-requires c κs = search needs
 
-case-blocks-requires : tie.Need-case-blocks-requires Inv-loop μ-loop
-case-blocks-requires c κs = search needs
-
-tries-requires : tie.Need-tries-requires Inv-loop μ-loop
-tries-requires c κs = search needs
-
-later-requires : tie.Need-later-requires Inv-loop μ-loop
-later-requires c κs = omega arith
+add-last : tie.Need-add-last Inv-loop μ-loop
+add-last c = omega arith
 
 add-i : tie.Need-add-i Inv-loop μ-loop
 add-i c = omega arith
@@ -51,28 +36,24 @@ loop-less c = omega arith
 
 loop-again : tie.Need-loop-again Inv-loop μ-loop
 loop-again c =
-    let n = c .before .before .before .before .before .before .capped in
-    let w = c .before .before .before .before .loop in
-    let a = c .before .before .before .before .before .before .before .before .args in
-    let long : length (a .h .at) ≡ 64 = search (needs, c .before .before .before .before .before .before .before .before .good .1 .0) in (
-      omega arith,
-      last-on (triedAt (a .s .now) (keys (caseKey (a .s .now)) (take (n .result) (a .h .at)))) _ _ _ _ (c .before .tries .ensures ∙ ap
-          (anyTried (a .s .now)) (c .before .before .case-blocks .ensures .items ∙ map-at (a .h .at) (n .result) (a .h .n) 64 long (n .ensures) (caseKey
-          (a .s .now)) (w .i) 0 [] (c .before .before .before .loop-test .taken))) (w .inv .1) (c .later .ensures),
-    )
+    let p5 = c .before .before .before .before .before in
+    (omega arith, chain-yes (p5 .args .w .now) _ _ (c .before .get .ensures) (c .if1 .taken))
+
+add-i-2 : tie.Need-add-i-2 Inv-loop μ-loop
+add-i-2 c = omega arith
+
+loop-less-2 : tie.Need-loop-less-2 Inv-loop μ-loop
+loop-less-2 c = omega arith
+
+loop-again-2 : tie.Need-loop-again-2 Inv-loop μ-loop
+loop-again-2 c =
+    let p5 = c .before .before .before .before .before in
+    (omega arith, chain-no (p5 .args .w .now) _ _ _ (c .before .get .ensures) (c .if1 .left) (c .before .before .before .loop .inv .1))
 
 returns : tie.Need-returns Inv-loop μ-loop
 returns c =
-    let n = c .before .before .before .capped in
-    let w = c .before .loop in
-    let a = c .before .before .before .before .before .args in
-    let long : length (a .h .at) ≡ 64 = search (needs, c .before .before .before .before .before .good .1 .0) in
-    last-end (a .s .now) (keys (caseKey (a .s .now)) (take (n .result) (a .h .at))) (keys (caseKey (a .s .now)) (take (a .h .n) (a .h .at))) (ap
-    (map (caseKey (a .s .now))) (cap-same (a .h .at) (n .result) (a .h .n) 64 long (n .ensures))) (w .i) _ (omega (
-      arith,
-      map-count (a .h .at)
-          (n .result) (a .h .n) 64 long (n .ensures) (caseKey (a .s .now)),
-    )) (w .inv .1)
+    let q : c .before .loop .i ≡ c .before .before .before .args .n = omega arith in
+    c .before .loop .inv .1 ∙ ap (lastOf (chainIn (c .before .before .before .args .w .now))) q
 
 pub last-case-spec : {M : Type 1} → statement M
 last-case-spec =
@@ -80,14 +61,14 @@ last-case-spec =
     (tie.spec
     Inv-loop
     μ-loop
-    capped-requires
     loop-holds
-    mul-case-blocks
-    array-read-case-blocks
-    case-blocks-requires
-    tries-requires
-    later-requires
+    add-get
+    get-requires
+    add-last
     add-i
     loop-less
     loop-again
+    add-i-2
+    loop-less-2
+    loop-again-2
     returns)

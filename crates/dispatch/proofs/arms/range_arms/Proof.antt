@@ -2,17 +2,14 @@
 use Rattle.bytecode.specs.Table.{effectTable}
 use Rattle.scratch.specs.declared.Layout.{Layout}
 use Rattle.store.specs.States.{stateOf}
-use Rattle.tables.specs.ListedLaws.{length-mapped}
-use Rattle.dispatch.specs.ListDoes.{ArmsLeft, arms-begin, arms-on, arms-end, arms-whole}
-use Rattle.dispatch.specs.CapLaws.{cap-same, map-lt, map-le, map-at}
-use Rattle.dispatch.specs.Ready.{Ready, NamedAll}
-use Rattle.tables.specs.Heads.{runKey, noRun, keys}
-use Rattle.tables.specs.Ranges.{rangesIn}
-use Rattle.cases.specs.Held.{held}
-use lib.ListN.{length, take}
-use mathlib.Core.List.{[], map}
+use Rattle.switching.specs.Change.{rangeLists}
+use Rattle.tables.specs.Planned.{Tables, entries}
+use Rattle.dispatch.proofs.TableLaws.{capped-all, listed-front}
+use Rattle.dispatch.proofs.ArmDoes.{ArmsLeft, run-heads, arms-begin, arms-on, arms-end}
+use Rattle.dispatch.specs.Ready.{Ready}
+use lib.ListN.{length}
 use mathlib.Core.Bool.{false}
-use mathlib.Core.Path.{_≡_, refl, ap, _∙_}
+use mathlib.Core.Path.{_≡_, refl, _∙_}
 use Prim.Native.Nat.{_≤_, _-_}
 use native.Mathlib.Omega.{arith}
 use borrow.Author.Needs.{needs}
@@ -20,33 +17,53 @@ use Rattle.dispatch.proofs.arms.range_arms.Statement.{statement}
 use Rattle.dispatch.proofs.arms.range_arms.Tie as tie
 
 abbrev Inv-loop : tie.InvT-loop
-Inv-loop s t c₀ x₀ aims g p n a i₀ c x i =
-    let ks = keys (runKey (rangesIn (g .at) (g .n)) (held (p .at) (p .n))) (take n a) in
-    (i ≤ n) × (length x ≡ length x₀)
-    × ((l : Layout) → t ≡ effectTable → Ready s → NamedAll s ks
-    → ArmsLeft s l x₀ (stateOf c₀) aims (aims .default) false ks x (stateOf c) i)
+Inv-loop s t c₀ x₀ w n to a₀ i₀ c x a i =
+    (i ≤ n) × (length x ≡ length x₀) × (length a ≡ 64)
+    × ((l : Layout) → t ≡ effectTable → Ready s → Tables s w
+    → ArmsLeft s l x₀ (stateOf c₀) w to false (rangeLists (entries s)) x (stateOf c) i)
 
 abbrev μ-loop : tie.MeasureT-loop
-μ-loop s t c₀ x₀ aims g p n a i₀ c x i = n - i
+μ-loop s t c₀ x₀ w n to a₀ i₀ c x a i = n - i
 
--- the array's length
-long : (c : tie.Start Inv-loop μ-loop) → length (c .args .h .at) ≡ 255
-long c = search (needs, length-mapped, c .good .1 .1 .1 .1 .1 .1 .1 .0)
+get-requires : tie.Need-get-requires Inv-loop μ-loop
+get-requires c κs = search needs
+
+cast-capped-runs : tie.Need-cast-capped-runs Inv-loop μ-loop
+cast-capped-runs c = omega arith
 
 capped-runs-requires : tie.Need-capped-runs-requires Inv-loop μ-loop
 capped-runs-requires c κs = search needs
 
+get-requires-2 : tie.Need-get-requires-2 Inv-loop μ-loop
+get-requires-2 c κs = search needs
+
 loop-holds : tie.Need-loop-holds Inv-loop μ-loop
-loop-holds c = (omega arith, refl, λ l table C N. arms-begin _ _ _ _)
+loop-holds c = (omega arith, refl, refl, λ l table C T. arms-begin _ _ _ _)
 
-mul-y : tie.Need-mul-y Inv-loop μ-loop
-mul-y c = omega arith
+add-get : tie.Need-add-get Inv-loop μ-loop
+add-get c = omega arith
 
-array-copy-out-y : tie.Need-array-copy-out-y Inv-loop μ-loop
-array-copy-out-y c = omega arith
+get-requires-3 : tie.Need-get-requires-3 Inv-loop μ-loop
+get-requires-3 c κs = search needs
 
-piece-blocks-requires : tie.Need-piece-blocks-requires Inv-loop μ-loop
-piece-blocks-requires c κs = search needs
+slice-aggregate-list-of-piece : tie.Need-slice-aggregate-list-of-piece Inv-loop μ-loop
+slice-aggregate-list-of-piece c = search needs
+
+list-of-piece-requires : tie.Need-list-of-piece-requires Inv-loop μ-loop
+list-of-piece-requires c κs = search needs
+
+sub-arm : tie.Need-sub-arm Inv-loop μ-loop
+sub-arm c = omega arith
+
+part-arm-start : tie.Need-part-arm-start Inv-loop μ-loop
+part-arm-start c = search needs
+
+part-arm-end : tie.Need-part-arm-end Inv-loop μ-loop
+part-arm-end c =
+    let p8 = c .before .before .before .before .before .before .before .before in
+    let few = c .before .before .before .before .list-of-piece .ensures .0 in
+    let long = c .before .before .before .before .list-of-piece .kept .1 .1 .0 ∙ p8 .loop .inv .2 in
+    omega arith
 
 arm-requires : tie.Need-arm-requires Inv-loop μ-loop
 arm-requires c κs = search needs
@@ -59,43 +76,29 @@ loop-less c = omega arith
 
 loop-again : tie.Need-loop-again Inv-loop μ-loop
 loop-again c =
-    let p2 = c .before .before in
-    let p5 = p2 .before .before .before in
-    let p7 = p5 .before .before in
-    let p8 = p7 .before in
-    let p10 = p8 .before .before in
-    let p13 = p10 .before .before .before in
-    let n = p10 .capped-runs in
-    let w = p8 .loop in
-    let lt = p7 .loop-test .taken in
-    let a = p13 .args in
-    let wide = long p13 in (
+    let p8 = c .before .before .before .before .before .before .before .before in
+    let p14 = p8 .before .before .before .before .before .before in
+    let v = p8 .before .before .before .before .loop in
+    let lt = p8 .before .before .before .loop-test .taken in (
       omega arith,
-      p2 .arm .kept .1 .1 .1 .0 ∙ w .inv .1,
-      λ l table C N. arms-on (w .inv .2 l table C N) (map-lt (a .h .at) (n .result) (a .h .n) 255
-          wide (n .ensures) (runKey (rangesIn (a .g .at) (a .g .n)) (held (a .p .at) (a .p .n))) _ lt)
-          (p5 .piece-blocks .ensures .items ∙ map-at (a .h .at) (n .result) (a .h .n) 255 wide (n .ensures) (runKey
-          (rangesIn (a .g .at) (a .g .n)) (held (a .p .at) (a .p .n))) (w .i) noRun [] lt) refl C N (p2 .arm .ensures l table),
+      c .before .before .arm .kept .1 .1 .1 .0 ∙ v .inv .1,
+      p8 .list-of-piece .kept .1 .1 .0 ∙ v .inv .2,
+      λ l table C T.
+          arms-on (v .inv .3 l table C T) (run-heads C T) _
+          (capped-all _ _ _ _ (p14 .capped-runs .ensures) (p14 .before .get .ensures) (T .few-run-heads)) _ _ lt
+          (p8 .before .before .get3 .ensures) (listed-front (p8 .list-of-piece .ensures .1 (T .few-spans) (omega arith))) refl
+          (c .before .before .arm .ensures l table C (T .guards)),
     )
 
 same-length : tie.Need-same-length Inv-loop μ-loop
-same-length c =
-    let p1 = c .before in
-    p1 .loop .inv .1
+same-length c = c .before .loop .inv .1
 
 returns : tie.Need-returns Inv-loop μ-loop
-returns c = λ l table.
-    let p1 = c .before in
-    let p3 = p1 .before .before in
-    let p6 = p3 .before .before .before in
-    let n = p3 .capped-runs in
-    let a = p6 .args in
-    let wide = long p6 in
-    λ C. arms-whole (a .aims) (a .aims .default) false (ap (map (runKey (rangesIn (a .g .at) (a .g .n)) (held (a .p .at) (a .p .n))))
-    (cap-same (a .h .at)
-    (n .result) (a .h .n) 255 wide (n .ensures))) (λ N. arms-end (p1 .loop .inv .2 l table C N) (map-le (a .h .at) (n .result)
-    (a .h .n) 255 wide
-    (n .ensures) (runKey (rangesIn (a .g .at) (a .g .n)) (held (a .p .at) (a .p .n))) _ (c .loop-test .left)))
+returns c = λ l table C T.
+    let p3 = c .before .before .before in
+    arms-end (c .before .loop .inv .3 l table C T) (run-heads C T) _
+    (capped-all _ _ _ _ (p3 .capped-runs .ensures) (p3 .before .get .ensures) (T .few-run-heads)) (c .loop-test .left)
+    (c .before .before .get2 .ensures)
 
 pub range-arms-spec : {M : Type 1} → statement M
 range-arms-spec =
@@ -103,11 +106,18 @@ range-arms-spec =
     (tie.spec
     Inv-loop
     μ-loop
+    get-requires
+    cast-capped-runs
     capped-runs-requires
+    get-requires-2
     loop-holds
-    mul-y
-    array-copy-out-y
-    piece-blocks-requires
+    add-get
+    get-requires-3
+    slice-aggregate-list-of-piece
+    list-of-piece-requires
+    sub-arm
+    part-arm-start
+    part-arm-end
     arm-requires
     add-i
     loop-less

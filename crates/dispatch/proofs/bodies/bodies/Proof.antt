@@ -2,7 +2,9 @@
 use Rattle.bytecode.specs.Table.{effectTable}
 use Rattle.scratch.specs.declared.Layout.{Layout}
 use Rattle.store.specs.States.{stateOf}
-use Rattle.dispatch.specs.BodyDoes.{BodiesLeft, bodies-begin, bodies-on, bodies-end, bodies-whole}
+use Rattle.tables.specs.Planned.{Tables}
+use Rattle.dispatch.proofs.BodyDoes.{BodiesLeft, bodies-begin, bodies-on, bodies-end}
+use Rattle.dispatch.proofs.TableLaws.{capped-all, capped-below}
 use Rattle.dispatch.specs.Ready.{Ready}
 use lib.ListN.{length}
 use mathlib.Core.Path.{_≡_, refl, _∙_}
@@ -13,30 +15,33 @@ use Rattle.dispatch.proofs.bodies.bodies.Statement.{statement}
 use Rattle.dispatch.proofs.bodies.bodies.Tie as tie
 
 abbrev Inv-loop : tie.InvT-loop
-Inv-loop s t c₀ x₀ aims falls n last k₀ c x k =
+Inv-loop s t c₀ x₀ w falls n last k₀ c x k =
     (k ≤ n) × (length x ≡ length x₀)
-    × ((l : Layout) → t ≡ effectTable → Ready s → BodiesLeft s l x₀ (stateOf c₀) aims falls n x (stateOf c) k)
+    × ((l : Layout) → t ≡ effectTable → Ready s → Tables s w → BodiesLeft s l x₀ (stateOf c₀) w falls n x (stateOf c) k)
 
 abbrev μ-loop : tie.MeasureT-loop
-μ-loop s t c₀ x₀ aims falls n last k₀ c x k = n - k
+μ-loop s t c₀ x₀ w falls n last k₀ c x k = n - k
 
 field-a-requires : tie.Need-field-a-requires Inv-loop μ-loop
 field-a-requires c κs = search needs
 
+cast-capped : tie.Need-cast-capped Inv-loop μ-loop
+cast-capped c = omega arith
+
+capped-requires : tie.Need-capped-requires Inv-loop μ-loop
+capped-requires c κs = search needs
+
 last-wanted-requires : tie.Need-last-wanted-requires Inv-loop μ-loop
-last-wanted-requires c κs = search needs
+last-wanted-requires c κs = omega arith
 
 loop-holds : tie.Need-loop-holds Inv-loop μ-loop
-loop-holds c = (omega arith, refl, λ l table C. bodies-begin _ _ _)
-
-cast-body : tie.Need-cast-body Inv-loop μ-loop
-cast-body c = omega arith
+loop-holds c = (omega arith, refl, λ l table C T. bodies-begin _ _ _)
 
 add-body : tie.Need-add-body Inv-loop μ-loop
 add-body c = omega arith
 
 body-requires : tie.Need-body-requires Inv-loop μ-loop
-body-requires c κs = search needs
+body-requires c κs = omega arith
 
 add-k : tie.Need-add-k Inv-loop μ-loop
 add-k c = omega arith
@@ -46,28 +51,23 @@ loop-less c = omega arith
 
 loop-again : tie.Need-loop-again Inv-loop μ-loop
 loop-again c =
-    let p2 = c .before .before in
-    let p5 = p2 .before .before .before in
-    let p6 = p5 .before in
-    let p7 = p6 .before in
-    let w = p6 .loop in (
+    let p5 = c .before .before .before .before .before in (
       omega arith,
-      p2 .body .kept .1 .1 .1 .0 ∙ w .inv .1,
-      λ l table C. bodies-on (w .inv .2 l table C) _
-          (p7 .last-wanted .ensures) (p5 .loop-test .taken)
-          (p2 .body .ensures l table C (omega arith)),
+      c .before .before .body .kept .1 .1 .1 .0 ∙ p5 .before .loop .inv .1,
+      λ l table C T.
+          bodies-on (p5 .before .loop .inv .2 l table C T) _ (p5 .before .before .last-wanted .ensures) (p5 .loop-test .taken)
+          (c .before .before .body .ensures l table C (T .guards)
+          (capped-below _ _ _ _ (p5 .before .before .before .capped .ensures) (p5 .before .before .before .before .field-a .ensures)
+          (p5 .loop-test .taken))),
     )
 
 same-length : tie.Need-same-length Inv-loop μ-loop
-same-length c = search needs
+same-length c = c .before .loop .inv .1
 
 returns : tie.Need-returns Inv-loop μ-loop
-returns c = λ l table.
-    let p1 = c .before in
-    let p3 = p1 .before .before in
-    let p6 = p3 .before .before .before in
-    let a = p6 .args in
-    λ C. bodies-whole (a .aims) (a .falls) (p3 .field-a .ensures) (bodies-end (p1 .loop .inv .2 l table C) (omega arith))
+returns c = λ l table C T.
+    bodies-end (c .before .loop .inv .2 l table C T) _ (c .loop-test .left)
+    (capped-all _ _ _ _ (c .before .before .before .capped .ensures) (c .before .before .before .before .field-a .ensures) (T .few-blocks))
 
 pub bodies-spec : {M : Type 1} → statement M
 bodies-spec =
@@ -76,9 +76,10 @@ bodies-spec =
     Inv-loop
     μ-loop
     field-a-requires
+    cast-capped
+    capped-requires
     last-wanted-requires
     loop-holds
-    cast-body
     add-body
     body-requires
     add-k

@@ -1,5 +1,5 @@
 -- `dispatch::bodies::close` meets its contract.
-use Rattle.dispatch.specs.BodyDoes.{close-does}
+use Rattle.dispatch.proofs.BodyDoes.{close-does}
 use borrow.Author.Needs.{needs}
 use Rattle.dispatch.proofs.bodies.close.Statement.{statement}
 use Rattle.dispatch.proofs.bodies.close.Tie as tie

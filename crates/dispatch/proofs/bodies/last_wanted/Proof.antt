@@ -1,6 +1,6 @@
 -- `dispatch::bodies::last_wanted` meets its contract. The invariant: the last of those passed.
-use Rattle.dispatch.specs.PartLaws.{last-on}
-use Rattle.dispatch.specs.Parts.{wantIn}
+use Rattle.tables.specs.Planned.{wantIn}
+use Rattle.dispatch.proofs.TableLaws.{want-yes, want-no}
 use Rattle.switching.specs.LastLaws.{lastOf, last-none}
 use mathlib.Core.Path.{_≡_, sym, ap, _∙_}
 use Prim.Native.Nat.{_≤_, _-_}
@@ -10,19 +10,23 @@ use Rattle.dispatch.proofs.bodies.last_wanted.Statement.{statement}
 use Rattle.dispatch.proofs.bodies.last_wanted.Tie as tie
 
 abbrev Inv-loop : tie.InvT-loop
-Inv-loop t n last₀ k₀ last k = (k ≤ n) × (last ≡ lastOf (wantIn t) k)
+Inv-loop w n last₀ k₀ last k =
+    (k ≤ n) × (last ≡ lastOf (wantIn w) k)
 
 abbrev μ-loop : tie.MeasureT-loop
-μ-loop t n last₀ k₀ last k = n - k
+μ-loop w n last₀ k₀ last k = n - k
 
 loop-holds : tie.Need-loop-holds Inv-loop μ-loop
-loop-holds c = (omega arith, sym (last-none (wantIn (c .args .aims))))
+loop-holds c = (omega arith, sym (last-none (wantIn (c .before .args .w .now))))
 
-wants-requires : tie.Need-wants-requires Inv-loop μ-loop
-wants-requires c κs = search needs
+add-get : tie.Need-add-get Inv-loop μ-loop
+add-get c = omega arith
 
-later-requires : tie.Need-later-requires Inv-loop μ-loop
-later-requires c κs = search needs
+get-requires : tie.Need-get-requires Inv-loop μ-loop
+get-requires c κs = search needs
+
+add-last : tie.Need-add-last Inv-loop μ-loop
+add-last c = omega arith
 
 add-k : tie.Need-add-k Inv-loop μ-loop
 add-k c = omega arith
@@ -31,17 +35,25 @@ loop-less : tie.Need-loop-less Inv-loop μ-loop
 loop-less c = omega arith
 
 loop-again : tie.Need-loop-again Inv-loop μ-loop
-loop-again c = (
-  omega arith,
-  last-on (wantIn (c .before .before .before .before .args .aims)) _ _ _ _ (c .before .wants .ensures)
-      (c .before .before .before .loop .inv .1) (c .later .ensures),
-)
+loop-again c =
+    let p5 = c .before .before .before .before .before in
+    (omega arith, want-yes (p5 .args .w .now) _ _ (c .before .get .ensures) (c .if1 .taken))
+
+add-k-2 : tie.Need-add-k-2 Inv-loop μ-loop
+add-k-2 c = omega arith
+
+loop-less-2 : tie.Need-loop-less-2 Inv-loop μ-loop
+loop-less-2 c = omega arith
+
+loop-again-2 : tie.Need-loop-again-2 Inv-loop μ-loop
+loop-again-2 c =
+    let p5 = c .before .before .before .before .before in
+    (omega arith, want-no (p5 .args .w .now) _ _ _ (c .before .get .ensures) (c .if1 .left) (c .before .before .before .loop .inv .1))
 
 returns : tie.Need-returns Inv-loop μ-loop
 returns c =
-    let w = c .before .loop in
-    let q : w .k ≡ c .before .before .args .n = omega arith in
-    w .inv .1 ∙ ap (lastOf (wantIn (c .before .before .args .aims))) q
+    let q : c .before .loop .k ≡ c .before .before .before .args .n = omega arith in
+    c .before .loop .inv .1 ∙ ap (lastOf (wantIn (c .before .before .before .args .w .now))) q
 
 pub last-wanted-spec : {M : Type 1} → statement M
 last-wanted-spec =
@@ -50,9 +62,13 @@ last-wanted-spec =
     Inv-loop
     μ-loop
     loop-holds
-    wants-requires
-    later-requires
+    add-get
+    get-requires
+    add-last
     add-k
     loop-less
     loop-again
+    add-k-2
+    loop-less-2
+    loop-again-2
     returns)

@@ -1,5 +1,5 @@
 -- `dispatch::bodies::missing` meets its contract.
-use Rattle.dispatch.specs.BodyDoes.{missing-does, missing-not}
+use Rattle.dispatch.proofs.BodyDoes.{missing-does, missing-not}
 use borrow.Author.Needs.{needs}
 use Rattle.dispatch.proofs.bodies.missing.Statement.{statement}
 use Rattle.dispatch.proofs.bodies.missing.Tie as tie

@@ -1,5 +1,5 @@
 -- `dispatch::jumps::dropped` meets its contract: one count is written.
-use Rattle.dispatch.specs.PartLaws.{dropped-of}
+use Rattle.dispatch.proofs.PartLaws.{dropped-of}
 use borrow.Author.Needs.{needs}
 use Rattle.dispatch.proofs.jumps.dropped.Statement.{statement}
 use Rattle.dispatch.proofs.jumps.dropped.Tie as tie

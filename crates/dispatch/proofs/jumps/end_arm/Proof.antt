@@ -1,5 +1,5 @@
 -- `dispatch::jumps::end_arm` meets its contract.
-use Rattle.dispatch.specs.PartLaws.{end-jumps, end-none}
+use Rattle.dispatch.proofs.PartLaws.{end-jumps, end-none}
 use borrow.Author.Needs.{needs}
 use Rattle.dispatch.proofs.jumps.end_arm.Statement.{statement}
 use Rattle.dispatch.proofs.jumps.end_arm.Tie as tie

@@ -1,5 +1,5 @@
 -- `dispatch::jumps::jump` meets its contract: a jump or its count alone.
-use Rattle.dispatch.specs.PartLaws.{dropped-does, jump-does}
+use Rattle.dispatch.proofs.PartLaws.{dropped-does, jump-does}
 use borrow.Author.Needs.{needs}
 use Rattle.dispatch.proofs.jumps.jump.Statement.{statement}
 use Rattle.dispatch.proofs.jumps.jump.Tie as tie

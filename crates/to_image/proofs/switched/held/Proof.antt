@@ -1,5 +1,5 @@
--- The Switch, then the constants of its Cases.
-use Rattle.to_image.specs.HeldLaws.{planned-holds}
+-- `switched::held` meets its contract: the Switch, then the constants of its Cases.
+use Rattle.to_image.proofs.HeldLaws.{settled}
 use borrow.Author.Needs.{needs}
 use Rattle.to_image.proofs.switched.held.Statement.{statement}
 use Rattle.to_image.proofs.switched.held.Tie as tie
@@ -25,14 +25,18 @@ state-of-requires c κs = search needs
 same-length : tie.Need-same-length
 same-length c = search needs
 
+same-length-2 : tie.Need-same-length-2
+same-length-2 c = search needs
+
 returns : tie.Need-returns
 returns c =
-    let added = c .before .before .before .before in
-    let switched = added .before .before .before .before .before in
-    let cleared = switched .before .before .before .before .before .before in
+    let added = c .before .before .before .before .before .before in
+    let switched = added .before .before .before .before .before .before in
+    let cleared = switched .before .before .before .before .before .before .before in
     let begun = cleared .before .before in
-    λ P. planned-holds _ _ _ _ _ _ (begun .start .result) _ _ _ _ _ _ P (begun .start .ensures) (cleared .clear-index .ensures)
-    (switched .switch .ensures _ (begun .before .effects .ensures)) (added .case-consts .ensures _) (c .state-of .ensures)
+    λ P. settled _ _ _ _ _ _ (begun .start .result) _ _ _ _ _ P (begun .start .ensures) (cleared .clear-index .ensures)
+    (switched .switch .ensures _ (begun .before .effects .ensures)) (added .case-consts .ensures .0 _) (added .case-consts .ensures .1 .0 _)
+    (added .case-consts .ensures .1 .1) (c .state-of .ensures)
 
 pub held-spec : {M : Type 1} → statement M
 held-spec =
@@ -45,4 +49,5 @@ held-spec =
     case-consts-requires
     state-of-requires
     same-length
+    same-length-2
     returns)

@@ -1,0 +1,255 @@
+-- Laws of the loops over chains: those passed have their places and exits, and those left stand from the sum on. The lists of the heads in
+-- the table are those of the switch, and name its blocks.
+use Prim.Native.Nat.{ℕ, zero, suc, _+_, _-_, _≤_, _<_, min}
+use mathlib.Core.Path.{_≡_, refl, sym, ap, subst, _∙_}
+use mathlib.Core.Bool.{Bool, _||_}
+use mathlib.Core.List.{List, [], _∷_, map}
+use native.Mathlib.Decide.{decLt}
+use native.Mathlib.Omega.{arith}
+use native.Mathlib.Numerals.{add-one}
+use lib.Dec.{eqb}
+use lib.ListN.{length, getD, set, take, drop, length-set, drop-of-length-le}
+use lib.Seq.{getD-set-same, getD-set-other, drop-cons}
+use Rattle.sheet.specs.Limits.{maxDepth}
+use Rattle.sheet.specs.Node.{kind}
+use Rattle.checks.specs.Checked.{numberOf, checked}
+use Rattle.lowering.specs.Kinds.{switchKind}
+use Rattle.lowering.specs.Nodes.{right, accepted-sizes, accepted-shape}
+use Rattle.lowering.specs.SwitchSheet.{blockCount}
+use Rattle.switching.specs.SameLaws.{AllIn}
+use Rattle.switching.specs.NodeLaws.{case-lists, range-lists, all-place, lists-place}
+use Rattle.counting.specs.declared.tallies.Tally.{Tally}
+use Rattle.counting.specs.Limits.{cap}
+use Rattle.counting.specs.Tally.{instructions, nothing, plus, capped}
+use Rattle.counting.specs.TallyLaws.{or-assoc, or-false, plus-assoc, capped-left, capped-right}
+use Rattle.counting.specs.Count.{Rec, tally}
+use Rattle.totals.specs.Arms.{wants, anyWants, armTally, armsTally}
+use Rattle.totals.specs.Total.{caseLists, splitLists}
+use Rattle.tables.specs.Columns.{size, caseHeadsAt, spansAt, lowAt, runPlaceAt, runExitAt, wantedAt, casePlaceAt, caseExitAt, bodyAt, cell}
+use Rattle.tables.specs.Columns.{column, Within}
+use Rattle.tables.specs.Listed.{Listed}
+use Rattle.tables.specs.Table.{pieceIn}
+use Rattle.tables.specs.Planned.{exitOf, chainPlace, wantIn, Tables, entries}
+use Rattle.tables.proofs.Accepted.{accepted-numbers}
+use Rattle.tables.proofs.ColumnLaws.{within-none, within-then, keys-length, key-at}
+use Rattle.lists.proofs.SpanLaws.{piece-kept}
+use Rattle.plan.specs.Laid.{Laid}
+use Rattle.plan.specs.Chain.{Reads, ChainOf, Cells, LaidOne}
+use Rattle.plan.proofs.GuardLaws.{one-more, Small, cut-small}
+use Rattle.plan.proofs.BodyLaws.{capped-none}
+use Rattle.plan.proofs.KeptLaws.{guards-stay}
+
+-- ---- one chain
+
+-- a cell that is none of the wanted blocks
+aside : (w v : List ℕ) → Within wantedAt casePlaceAt w v → (i : ℕ) → ((k : ℕ) → k < 64 → wantedAt + k ≡ i → ⊥) → cell v i ≡ cell w i
+aside w v h i clear =
+    elim (decLt i wantedAt) [
+      | yes l ↦ h .low i l
+      | no n ↦
+          elim (decLt i casePlaceAt) [
+            | yes m ↦ absurd (clear (i - wantedAt) (omega arith) (omega arith))
+            | no m ↦ h .high i (omega arith)
+          ]
+    ]
+
+pub laid-one : {s l w a u w₁ w₂ : List ℕ} {n place exit x p : ℕ} {b y r : Tally} → Reads s w a n l → Cells place exit → b .len ≤ cap
+    → ChainOf s l w u y x → length u ≡ length w → w₁ ≡ set u place p → (b .len ≤ cap → p ≡ b .len) → w₂ ≡ set w₁ exit x
+    → r ≡ capped (plus b y) → LaidOne s l place exit b w w₂ r
+laid-one {s} {l} {w} {a} {u} {w₁} {w₂} {n} {place} {exit} {x} {p} {b} R C small c same e p-is f q =
+    rw (f, e, q) (record {
+      sum-is = ap (λ (z : Tally). capped (plus b z)) (c .sum-is) ∙ capped-right b (armTally s (tally maxDepth s) l);
+      place-is =
+          getD-set-other (set u place p) exit place x 0 (C .apart)
+          ∙ getD-set-same u place p 0 (omega (arith, C .place-in, same, R .whole))
+          ∙ p-is small;
+      exit-is =
+          getD-set-same (set u place p) exit x 0 (omega (arith, C .exit-in, length-set u place p, same, R .whole)) ∙ c .exit-is;
+      wanted = λ k h.
+          let few : k < 64 = omega (arith, h, R .few) in
+          ap (λ (z : ℕ). eqb z 1) (beside (wantedAt + k) (C .place-clear k few) (C .exit-clear k few)) ∙ c .wanted k h;
+      kept = λ i h g m. beside i g m ∙ aside w u (c .within) i h;
+    })
+  where
+    beside : (i : ℕ) → (i ≡ place → ⊥) → (i ≡ exit → ⊥) → cell (set (set u place p) exit x) i ≡ cell u i
+    beside i g m = getD-set-other (set u place p) exit i x 0 m ∙ getD-set-other u place i p 0 g
+
+-- ---- the columns
+
+-- of m cells each, for places and exits, within cells from lo to hi that have the wanted blocks or stand before them
+pub record Columns (at out lo hi m : ℕ) : Type 0 where
+  pub order : at + m ≤ out
+  pub inside : out + m ≤ size
+  pub from : lo ≤ at
+  pub to : out + m ≤ hi
+  pub wants-from : lo ≤ wantedAt
+  pub wants-to : casePlaceAt ≤ hi
+  pub clear : (k q : ℕ) → k < 64 → q < m → (wantedAt + k ≡ at + q → ⊥) × (wantedAt + k ≡ out + q → ⊥)
+
+columns-cells : {at out lo hi m : ℕ} → Columns at out lo hi m → (q : ℕ) → q < m → Cells (at + q) (out + q)
+columns-cells C q h = record {
+  place-in = omega (arith, C .order, C .inside, h);
+  exit-in = omega (arith, C .inside, h);
+  apart = λ e. omega (arith, C .order, h, e);
+  place-clear = λ k l e. C .clear k q l h .0 e;
+  exit-clear = λ k l e. C .clear k q l h .1 e;
+}
+
+-- ---- the loop
+
+-- one chain more before a place
+take-more : (s : List ℕ) (t : Rec) (ls : List (List ℕ)) (q : ℕ) → q < length ls
+    → armsTally s t (take (suc q) ls) .len ≡ armsTally s t (take q ls) .len + armTally s t (getD ls q []) .len
+unfolding armsTally plus nothing instructions
+take-more s t [] q h = absurd (omega arith)
+take-more s t (l ∷ ls) zero h = omega arith
+take-more s t (l ∷ ls) (suc q) h = omega (arith, take-more s t ls q (omega arith))
+
+-- lists below q are passed
+pub record Laying (s : List ℕ) (ls : List (List ℕ)) (at out lo hi : ℕ) (b : Tally) (w₀ w : List ℕ) (sum : Tally) (q : ℕ) : Type 0 where
+  pub within : Within lo hi w₀ w
+  pub small : Small sum
+  pub start : sum .len ≡ min (chainPlace s ls (b .len) q) cap
+  pub sums : capped (plus sum (armsTally s (tally maxDepth s) (drop q ls))) ≡ capped (plus b (armsTally s (tally maxDepth s) ls))
+  pub places : (p : ℕ) → p < q → cell w (at + p) ≡ min (chainPlace s ls (b .len) p) cap
+  pub exits : (p : ℕ) → p < q → cell w (out + p) ≡ exitOf s (getD ls p [])
+  pub wanted : (k : ℕ) → k < blockCount s → (wantIn w k || anyWants s k (drop q ls)) ≡ (wantIn w₀ k || anyWants s k ls)
+
+module _ {s : List ℕ} {ls : List (List ℕ)} {at out lo hi : ℕ} {b : Tally} where
+  pub laying-start : (w : List ℕ) → b .len ≤ cap → b .emitted ≤ cap → Laying s ls at out lo hi b w w b 0
+  unfolding armsTally nothing instructions
+  laying-start w l m = record {
+    within = within-none lo hi w;
+    small = (l, m);
+    start = omega (arith, l);
+    sums = refl;
+    places = λ p h. absurd (omega arith);
+    exits = λ p h. absurd (omega arith);
+    wanted = λ k h. refl;
+  }
+
+  pub laying-end : {w₀ w : List ℕ} {sum : Tally} {q : ℕ} → Laying s ls at out lo hi b w₀ w sum q → length ls ≤ q
+      → Laid s ls at out b w₀ w sum × Within lo hi w₀ w
+  unfolding armsTally anyWants
+  laying-end {w = w} {sum} {q} c h =
+      let none : drop q ls ≡ [] = drop-of-length-le ls {i = q} h in (
+        record {
+          sum = capped-none sum (c .small) ∙ (rw none at (c .sums));
+          places = λ p l. c .places p (omega arith);
+          exits = λ p l. c .exits p (omega arith);
+          wanted = λ k l. sym (or-false (wantIn w k)) ∙ (rw none at (c .wanted k l));
+        },
+        c .within,
+      )
+
+  laying-on : {m : ℕ} {w₀ w v : List ℕ} {sum r : Tally} {q : ℕ} → Columns at out lo hi m → Laying s ls at out lo hi b w₀ w sum q
+      → q < length ls → q < m → LaidOne s (getD ls q []) (at + q) (out + q) sum w v r → Laying s ls at out lo hi b w₀ v r (q + 1)
+  unfolding armsTally anyWants capped plus
+  laying-on {m} {w₀} {w} {v} {sum} {r} {q} C c h few o =
+      let t = tally maxDepth s in
+      let l = getD ls q [] in
+      let rest = drop (q + 1) ls in
+      let rest-is : drop q ls ≡ l ∷ rest = drop-cons ls q [] h ∙ ap (λ (n : ℕ). l ∷ drop n ls) (sym (add-one q)) in
+      rw (o .sum-is) (record {
+        within = within-then (c .within) (record {
+          low = λ i d.
+              o .kept i (λ k y z. omega (arith, C .wants-from, d, z)) (λ z. omega (arith, C .from, d, z))
+              (λ z. omega (arith, C .from, C .order, d, z));
+          high = λ i d.
+              o .kept i (λ k y z. omega (arith, C .wants-to, d, y, z)) (λ z. omega (arith, C .to, C .order, few, d, z))
+              (λ z. omega (arith, C .to, few, d, z));
+        });
+        small = cut-small (plus sum (armTally s t l)) refl;
+        start = omega (arith, c .start, rw (sym (add-one q)) at (take-more s t ls q h));
+        sums =
+            capped-left (plus sum (armTally s t l)) (armsTally s t rest)
+            ∙ ap capped (plus-assoc sum (armTally s t l) (armsTally s t rest))
+            ∙ (rw rest-is at (c .sums));
+        places = one-more (λ p. cell v (at + p) ≡ min (chainPlace s ls (b .len) p) cap) q
+            (λ p d. o .kept (at + p) (λ k y z. C .clear k p y (omega (arith, d, few)) .0 z) (λ z. omega (arith, d, z))
+            (λ z. omega (arith, C .order, few, d, z)) ∙ c .places p d)
+            (o .place-is ∙ c .start);
+        exits = one-more (λ p. cell v (out + p) ≡ exitOf s (getD ls p [])) q
+            (λ p d. o .kept (out + p) (λ k y z. C .clear k p y (omega (arith, d, few)) .1 z) (λ z. omega (arith, C .order, few, d, z))
+            (λ z. omega (arith, d, z)) ∙ c .exits p d)
+            (o .exit-is);
+        wanted = λ k d.
+            ap (λ (x : Bool). x || anyWants s k rest) (o .wanted k d)
+            ∙ or-assoc (wantIn w k) (wants s k l) (anyWants s k rest)
+            ∙ (rw rest-is at (c .wanted k d));
+      })
+
+-- ---- each list names blocks
+
+module _ (s : List ℕ) (ok : numberOf (checked s) ≡ 0) (k : kind s 0 ≡ switchKind) where
+  pub case-named : AllIn (λ (x : ℕ). x < blockCount s) (caseLists s)
+  unfolding caseLists
+  case-named = case-lists s (right s (accepted-sizes s ok) (accepted-shape s ok)) (accepted-numbers s ok) k
+
+  pub run-named : AllIn (λ (x : ℕ). x < blockCount s) (splitLists (entries s))
+  unfolding splitLists
+  run-named = range-lists s (right s (accepted-sizes s ok) (accepted-shape s ok)) (accepted-numbers s ok) k
+
+-- ---- the columns of cases and of runs
+
+pub case-columns : Columns casePlaceAt caseExitAt wantedAt bodyAt 64
+case-columns = record {
+  order = omega arith;
+  inside = omega arith;
+  from = omega arith;
+  to = omega arith;
+  wants-from = omega arith;
+  wants-to = omega arith;
+  clear = λ k q h l. (λ e. omega arith, λ e. omega arith);
+}
+
+pub run-columns : Columns runPlaceAt runExitAt runPlaceAt casePlaceAt 255
+run-columns = record {
+  order = omega arith;
+  inside = omega arith;
+  from = omega arith;
+  to = omega arith;
+  wants-from = omega arith;
+  wants-to = omega arith;
+  clear = λ k q h l. (λ e. omega arith, λ e. omega arith);
+}
+
+-- ---- the chain of one head more
+
+-- of an accepted switch the chains of the lists below q are laid
+abbrev pub LaidTo : List ℕ → List (List ℕ) → ℕ → ℕ → ℕ → ℕ → Tally → List ℕ → List ℕ → Tally → ℕ → Type 0
+LaidTo s ls at out lo hi b w₀ w sum q =
+    length w₀ ≡ size → numberOf (checked s) ≡ 0 → kind s 0 ≡ switchKind → Tables s w₀ → b .len ≤ cap → b .emitted ≤ cap
+    → Laying s ls at out lo hi b w₀ w sum q
+
+-- the heads are those by f of the numbers from `nodes` on, as many as cell `count` says
+pub head-on : {s w₀ w a : List ℕ} {ls : List (List ℕ)} {lo many q x m at out hi n y : ℕ} {v : List ℕ} {b sum r : Tally} (f : ℕ → List ℕ)
+    (nodes count : ℕ) → map f (column w₀ nodes (cell w₀ count)) ≡ ls → caseHeadsAt ≤ lo → nodes + many ≤ lo → Columns at out lo hi many
+    → AllIn (λ (i : ℕ). i < blockCount s) ls → Tables s w₀ → length w ≡ size → Laying s ls at out lo hi b w₀ w sum q → q < n
+    → n ≡ min y many → y ≡ cell w₀ count → x ≡ cell w (nodes + q) → Listed a m (f x)
+    → ((s′ l : List ℕ) → Reads s′ w a m l → Cells (at + q) (out + q) → sum .len ≤ cap → LaidOne s′ l (at + q) (out + q) sum w v r)
+    → Laying s ls at out lo hi b w₀ v r (q + 1)
+head-on {s} {w₀} {w} {a} {ls} {lo} {many} {q} {x} {m} f nodes count heads low behind C named T z c h n-is y-is x-is listed laid =
+    let below : q < cell w₀ count = omega (arith, h, n-is, y-is) in
+    let inside : q < length ls = omega (arith, below, ap length heads, keys-length f w₀ nodes (cell w₀ count)) in
+    let few : q < many = omega (arith, h, n-is) in
+    let l = getD ls q [] in
+    let list : f x ≡ l =
+    ap f (x-is ∙ c .within .low (nodes + q) (omega (arith, few, behind)))
+    ∙ sym (key-at f w₀ nodes [] (cell w₀ count) q below)
+    ∙ ap (λ (xs : List (List ℕ)). getD xs q []) heads in
+    let R : Reads s w a m l =
+    record {
+      whole = z;
+      few = T .few-blocks;
+      guards = guards-stay w₀ w lo (λ i d. c .within .low i d) s (blockCount s) low (T .few-blocks) (T .guards);
+      listed = subst (Listed a m) list listed;
+      named = all-place (λ (i : ℕ). i < blockCount s) l (lists-place (λ (i : ℕ). i < blockCount s) ls named q inside);
+    } in
+    laying-on C c inside few (laid s l R (columns-cells C q few) (c .small .0))
+
+-- a piece as it was read
+pub piece-listed : {s w₀ w a : List ℕ} {lo hi m : ℕ} (x : ℕ) → Tables s w₀ → Within lo hi w₀ w → lowAt ≤ lo
+    → (cell w spansAt ≤ 64 → Listed a m (pieceIn w x)) → Listed a m (pieceIn w₀ x)
+piece-listed x T c h listed =
+    rw (sym (piece-kept h (T .few-spans) c x)) (listed (omega (arith, c .low spansAt (omega arith), T .few-spans)))

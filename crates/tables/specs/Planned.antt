@@ -1,0 +1,89 @@
+-- What the table has of an accepted switch, in the words of the definition of the lowering: what is read, and where its parts stand.
+use Prim.Native.Nat.{ℕ, suc, _+_, _<_, _≤_}
+use mathlib.Core.Path.{_≡_}
+use mathlib.Core.Bool.{Bool, true, false, _||_}
+use mathlib.Core.List.{List, [], _++_, map}
+use lib.Dec.{eqb}
+use lib.ListN.{length, getD, take}
+use Rattle.sheet.specs.Limits.{maxDepth}
+use Rattle.sheet.specs.Walk.{skip}
+use Rattle.switches.specs.Switch.{caseCount, firstCase}
+use Rattle.cases.specs.Points.{cuts}
+use Rattle.cases.specs.Split.{split, atoms}
+use Rattle.cases.specs.Split as Split
+use Rattle.lowering.specs.SwitchSheet.{blockCount, defaultBlock, caseBlocks, rangesOf}
+use Rattle.lowering.specs.Arms.{End, taken, declined, idle}
+use Rattle.counting.specs.Count.{tally}
+use Rattle.totals.specs.Arms.{anyWants, armsTally, endOf, hasTry}
+use Rattle.totals.specs.Total.{caseLists, splitLists}
+use Rattle.totals.specs.Place.{casesPlace, dispatchPlace, bodyPlace, defaultPlace, endPlace, fallbackPlace}
+use Rattle.tables.specs.Columns.{caseHeadsAt, caseNumberAt, spansAt, runsAt, runFirstAt, runLastAt, runHeadsAt, runNumberAt}
+use Rattle.tables.specs.Columns.{runPlaceAt, runExitAt, wantedAt, casePlaceAt, caseExitAt, bodyAt, dispatchAt, defaultAt, endAt}
+use Rattle.tables.specs.Columns.{fallbackAt, cell, column}
+use Rattle.tables.specs.Numbers.{numberIn}
+use Rattle.tables.specs.Runs.{runsIn, entryOf}
+use Rattle.tables.specs.Table.{Guards, CutWords, rangesRead, headKeys, runHeadKeys}
+
+-- the entries of the split
+abbrev pub entries : List ℕ → List Split.Entry
+entries s = split (rangesOf s)
+
+-- what is read of an accepted switch
+pub record Tables (s w : List ℕ) : Type 0 where
+  pub few-blocks : blockCount s ≤ 64
+  pub few-cases : caseCount s ≤ 64
+  pub guards : Guards s w (blockCount s)
+  pub few-heads : cell w caseHeadsAt ≤ 64
+  pub case-heads : headKeys s w ≡ caseLists s
+  pub case-numbers : (i : ℕ) → i < caseCount s → cell w (caseNumberAt + i) ≡ numberIn (caseBlocks s (skip s i (firstCase s))) (caseLists s)
+  pub few-spans : cell w spansAt ≤ 64
+  pub cut-words : CutWords s w
+  pub few-runs : cell w runsAt ≤ 255
+  pub runs : map (entryOf (rangesOf s) (cuts (rangesOf s))) (runsIn w (cell w runsAt)) ≡ entries s
+  pub few-run-heads : cell w runHeadsAt ≤ 255
+  pub run-heads : runHeadKeys w ≡ splitLists (entries s)
+  pub run-numbers : (i : ℕ) → i < cell w runsAt
+      → cell w (runNumberAt + i) ≡ numberIn (getD (map (λ (e : Split.Entry). e .blocks) (entries s)) i []) (splitLists (entries s))
+  pub firsts : (i : ℕ) → i < cell w runsAt → cell w (runFirstAt + i) < length (atoms (cuts (rangesRead s)))
+  pub lasts : (i : ℕ) → i < cell w runsAt → cell w (runLastAt + i) < length (atoms (cuts (rangesRead s)))
+
+-- where a list goes: to its chain, which ends with a jump to the fallback (0) or to a body (1); without one to the fallback (2), or to
+-- the body of a block (plus 3)
+unfoldable pub exitBy : Bool → End → ℕ
+exitBy true (taken k) = 1
+exitBy true declined = 0
+exitBy true idle = 0
+exitBy false (taken k) = k + 3
+exitBy false declined = 2
+exitBy false idle = 2
+
+abbrev pub exitOf : List ℕ → List ℕ → ℕ
+exitOf s l = exitBy (hasTry s l) (endOf s l)
+
+-- where the chain of number q of the lists ls stands, from place b on
+abbrev pub chainPlace : List ℕ → List (List ℕ) → ℕ → ℕ → ℕ
+chainPlace s ls b q = b + armsTally s (tally maxDepth s) (take q ls) .len
+
+-- block k has a body
+abbrev pub wantIn : List ℕ → ℕ → Bool
+wantIn w k = eqb (cell w (wantedAt + k)) 1
+
+-- the blocks that are wanted, by lists ls and by the default (plus 1)
+abbrev pub wantedBy : List ℕ → ℕ → List (List ℕ) → ℕ → Bool
+wantedBy s def ls k = eqb def (suc k) || anyWants s k ls
+
+-- the chains of the lists ls: places from b on in the column `at`, exits in the column `out`
+pub record Chained (s w : List ℕ) (ls : List (List ℕ)) (b at out : ℕ) : Type 0 where
+  pub places : (q : ℕ) → q < length ls → cell w (at + q) ≡ chainPlace s ls b q
+  pub exits : (q : ℕ) → q < length ls → cell w (out + q) ≡ exitOf s (getD ls q [])
+
+-- where the parts of the switch stand
+pub record Placed (s w : List ℕ) : Type 0 where
+  pub wanted : (k : ℕ) → k < blockCount s → wantIn w k ≡ wantedBy s (defaultBlock s) (caseLists s ++ splitLists (entries s)) k
+  pub bodies : (k : ℕ) → k < blockCount s → cell w (bodyAt + k) ≡ bodyPlace s (tally maxDepth s) (entries s) k
+  pub case-chains : Chained s w (caseLists s) (casesPlace s (tally maxDepth s)) casePlaceAt caseExitAt
+  pub run-chains : Chained s w (splitLists (entries s)) (dispatchPlace s (tally maxDepth s) (entries s) + 1) runPlaceAt runExitAt
+  pub dispatch-is : cell w dispatchAt ≡ dispatchPlace s (tally maxDepth s) (entries s)
+  pub default-is : cell w defaultAt ≡ defaultPlace s (tally maxDepth s) (entries s) (defaultBlock s)
+  pub end-is : cell w endAt ≡ endPlace s (tally maxDepth s) (entries s) (defaultBlock s)
+  pub fallback-is : cell w fallbackAt ≡ fallbackPlace s (tally maxDepth s) (entries s) (defaultBlock s)

@@ -1,2 +1,0 @@
-pub mod TailLengths
-pub mod Tail

@@ -1,0 +1,64 @@
+-- `to_image::lower_plain` meets its contract: refused by its counts, or built and ended.
+use Rattle.to_image.proofs.AnswerLaws.{refused-early, early-told, few-emitted, answered, plain-counted}
+use borrow.Author.Needs.{needs}
+use Rattle.to_image.proofs.lower_plain.Statement.{statement}
+use Rattle.to_image.proofs.lower_plain.Tie as tie
+
+tally-requires : tie.Need-tally-requires
+tally-requires c κs = search needs
+
+node-count-requires : tie.Need-node-count-requires
+node-count-requires c κs = search needs
+
+refusal-requires : tie.Need-refusal-requires
+refusal-requires c κs = search needs
+
+returns : tie.Need-returns
+returns c =
+    let counted = c .before .before .before in
+    λ ok h. refused-early _ _ _ _ _ _ ok (plain-counted _ _ h (counted .tally .ensures)) (c .before .before .node-count .ensures)
+    (c .before .refusal .ensures) (c .if1 .taken)
+
+cast-build-plain : tie.Need-cast-build-plain
+cast-build-plain c =
+    let test = c .before .before .before in
+    let few = few-emitted (early-told _ _ _ _ _ (test .before .refusal .ensures)) (test .if1 .left) in
+    search needs
+
+build-plain-requires : tie.Need-build-plain-requires
+build-plain-requires c κs = search needs
+
+ended-requires : tie.Need-ended-requires
+ended-requires c κs = search needs
+
+same-length : tie.Need-same-length
+same-length c = search needs
+
+same-length-2 : tie.Need-same-length-2
+same-length-2 c = search needs
+
+returns-2 : tie.Need-returns-2
+returns-2 c =
+    let end = c .before .before in
+    let built = end .before .before .before .before .before .before in
+    let test = built .before .before .before .before in
+    let refused = test .before in
+    let counted = refused .before .before in
+    λ ok h. answered _ _ _ _ _ _ ok (plain-counted _ _ h (counted .tally .ensures)) (refused .before .node-count .ensures)
+    (refused .refusal .ensures) (test .if1 .left) _ _ _ _ _ (λ R. built .build-plain .ensures R h) (end .ended .ensures .1)
+    (built .build-plain .kept .1 .1 .0) (built .build-plain .kept .1 .0) (end .ended .ensures .0)
+
+pub lower-plain-spec : {M : Type 1} → statement M
+lower-plain-spec =
+    tie.close
+    (tie.spec
+    tally-requires
+    node-count-requires
+    refusal-requires
+    returns
+    cast-build-plain
+    build-plain-requires
+    ended-requires
+    same-length
+    same-length-2
+    returns-2)
