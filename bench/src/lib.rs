@@ -6,6 +6,7 @@ pub mod hashes;
 pub mod images;
 pub mod sheets;
 pub mod stack;
+pub mod switches;
 pub mod workloads;
 
 extern "C" {

@@ -1,14 +1,17 @@
 //! The stack that a lowering uses, and hostile sheets with the time of each pass.
 //!
-//! `worst [stack | index] [--small] [NAME...]`: with `stack` only the stack, with `index` only the sheets that are worst for an index of the pools;
-//! else all, of the sheets whose names contain one of NAME. The sheets of `index` come at two sizes, so that growth shows; with `--small` only
-//! the smaller one.
+//! `worst [stack | index | switch] [--small] [NAME...]`: with `stack` only the stack, with `index` only the sheets that are worst for an index of the
+//! pools, with `switch` only those that are worst for the table of a switch; else all, of the sheets whose names contain one of NAME. The sheets of
+//! `index` and `switch` come at two sizes, so that growth shows; with `--small` only the smaller one.
 
 use bench::clock::now;
 use bench::stack::stack_of;
-use bench::{hashes, sheets, workloads};
+use bench::{hashes, sheets, switches, workloads};
 use oracle::format::*;
 use std::hint::black_box;
+
+/// A sheet by its size.
+type Sized = fn(usize) -> Vec<u8>;
 
 fn stack(names: &[String]) {
     println!(
@@ -105,7 +108,6 @@ fn hostile() -> Vec<(String, Vec<u8>)> {
 
 /// The sheets that are worst for an index of the pools by hash, each at two sizes.
 fn index(small: bool) -> Vec<(String, Vec<u8>)> {
-    type Sized = fn(usize) -> Vec<u8>;
     let list: [(&str, Sized, [usize; 2]); 11] = [
         (
             "chains: no positions, other names",
@@ -147,6 +149,48 @@ fn index(small: bool) -> Vec<(String, Vec<u8>)> {
             [125, 500],
         ),
     ];
+    at_sizes(&list, small)
+}
+
+/// The sheets that are worst for the flat table of a switch, each at two sizes.
+fn switch(small: bool) -> Vec<(String, Vec<u8>)> {
+    let list: [(&str, Sized, [usize; 2]); 6] = [
+        (
+            "switch: runs of as many ranges",
+            |count| sheets::tables(false, count),
+            [16, 64],
+        ),
+        (
+            "switch: as many cases of as many Refs",
+            switches::long_lists,
+            [16, 64],
+        ),
+        (
+            "switch: both, with 64 cases",
+            |count| sheets::tables(true, count),
+            [16, 64],
+        ),
+        (
+            "switch: a guard of as many nodes, named 4,160 times",
+            switches::heavy_guard,
+            [30_000, 120_000],
+        ),
+        (
+            "switch: equal hashes of as many parts",
+            switches::equal_cases,
+            [3, 6],
+        ),
+        (
+            "switch: runs with equal hashes, apart by",
+            |gap| switches::equal_runs(gap as i64),
+            [0, 2],
+        ),
+    ];
+    at_sizes(&list, small)
+}
+
+/// Each sheet at its sizes.
+fn at_sizes(list: &[(&str, Sized, [usize; 2])], small: bool) -> Vec<(String, Vec<u8>)> {
     let mut all = Vec::new();
     for (name, sheet, sizes) in list {
         for size in &sizes[..if small { 1 } else { 2 }] {
@@ -256,12 +300,21 @@ fn main() {
     let small = option("--small");
     let only_stack = option("stack");
     let only_index = option("index");
-    if !only_index {
+    let only_switch = option("switch");
+    if !only_index && !only_switch {
         stack(&names);
     }
     if !only_stack {
-        let mut sheets = if only_index { Vec::new() } else { hostile() };
-        sheets.extend(index(small));
+        let mut sheets = Vec::new();
+        if !only_index && !only_switch {
+            sheets.extend(hostile());
+        }
+        if !only_switch {
+            sheets.extend(index(small));
+        }
+        if !only_index {
+            sheets.extend(switch(small));
+        }
         times(&names, sheets);
     }
 }
