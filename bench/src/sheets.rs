@@ -484,6 +484,52 @@ pub fn nested(levels: usize, calls: usize, locals: usize) -> Vec<u8> {
     draft.to_bytes()
 }
 
+/// The same where each `v` has a name of its own.
+pub fn receivers(levels: usize, calls: usize, locals: usize) -> Vec<u8> {
+    let mut draft = Draft::new();
+    let other = draft.text(b"other");
+    draft.locals = vec![other; locals];
+    for _ in 0..levels {
+        draft.open(AND, [0; 3], 1);
+    }
+    draft.open(ARRAY, [0; 3], 1);
+    for index in 0..calls {
+        let name = draft.text(format!("{index:05}").as_bytes());
+        draft.open(FN_CALL, [other, 0, 0], 2);
+        draft.leaf(VARIABLE, [name, 0, 0], 2);
+        draft.close();
+    }
+    draft.close();
+    for _ in 0..levels {
+        draft.close();
+    }
+    draft.to_bytes()
+}
+
+/// So many variables, each with a name of its own, beside so many locals that are none of them.
+pub fn other_locals(locals: usize, variables: usize) -> Vec<u8> {
+    let mut draft = Draft::new();
+    let other = draft.text(b"other");
+    draft.locals = vec![other; locals];
+    draft.open(ARRAY, [0; 3], 1);
+    for index in 0..variables {
+        let name = draft.text(format!("{index:05}").as_bytes());
+        draft.leaf(VARIABLE, [name, 0, 0], 2);
+    }
+    draft.close();
+    draft.to_bytes()
+}
+
+/// A leaf of a kind for each of so many texts of so many bytes, all with the same bytes at other places, so many times over.
+pub fn equal_places(kind: u32, count: usize, length: usize, times: usize) -> Vec<u8> {
+    let mut draft = Draft::new();
+    draft.bytes = vec![b'a'; length + count];
+    draft.texts = (0..count as u32)
+        .map(|start| (start, length as u32))
+        .collect();
+    each_text(draft, kind, times)
+}
+
 /// So many nested Ands around an Array of Units.
 pub fn nested_units(levels: usize, units: usize) -> Vec<u8> {
     let mut draft = Draft::new();

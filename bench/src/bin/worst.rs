@@ -1,8 +1,9 @@
 //! The stack that a lowering uses, and hostile sheets with the time of each pass.
 //!
-//! `worst [stack | index | switch] [--small] [NAME...]`: with `stack` only the stack, with `index` only the sheets that are worst for an index of the
-//! pools, with `switch` only those that are worst for the table of a switch; else all, of the sheets whose names contain one of NAME. The sheets of
-//! `index` and `switch` come at two sizes, so that growth shows; with `--small` only the smaller one.
+//! `worst [stack | index | switch | greatest | program] [--small] [NAME...]`: with `stack` only the stack, with `index` only the sheets that are worst
+//! for an index of the pools, with `switch` only those that are worst for the table of a switch, with `greatest` the hostile sheets as large as the
+//! format lets them be, with `program` those of 65,536 bytes with the buffers of the program `lower`; else all but the last two; of the sheets whose
+//! names contain one of NAME. The sheets of `index` and `switch` come at two sizes, so that growth shows; with `--small` only the smaller one.
 
 use bench::clock::now;
 use bench::stack::stack_of;
@@ -12,6 +13,10 @@ use std::hint::black_box;
 
 /// A sheet by its size.
 type Sized = fn(usize) -> Vec<u8>;
+
+/// The program `lower`: the longest sheet in bytes, and the words of each of its buffers.
+const PROGRAM_BYTES: usize = 65_536;
+const PROGRAM_WORDS: usize = 16_384;
 
 fn stack(names: &[String]) {
     println!(
@@ -101,6 +106,10 @@ fn hostile() -> Vec<(String, Vec<u8>)> {
             sheets::late_cases(65_000),
         ),
     ];
+    named(list)
+}
+
+fn named(list: Vec<(&str, Vec<u8>)>) -> Vec<(String, Vec<u8>)> {
     list.into_iter()
         .map(|(name, sheet)| (name.to_string(), sheet))
         .collect()
@@ -189,6 +198,150 @@ fn switch(small: bool) -> Vec<(String, Vec<u8>)> {
     at_sizes(&list, small)
 }
 
+/// Hostile sheets as large as the format lets them be, but for some that it lets be so large that their time is a matter of minutes.
+fn greatest() -> Vec<(String, Vec<u8>)> {
+    let bytes = MAX_TEXT_BYTES as usize;
+    let texts = MAX_TEXTS as usize;
+    let all = sheets::LOCALS;
+    let list: Vec<(&str, Vec<u8>)> = vec![
+        (
+            "count: 65534 g(v), 65535 locals",
+            sheets::nested(0, 65_534, all),
+        ),
+        (
+            "count: 65534 other g(v), 65535 locals",
+            sheets::receivers(0, 65_534, all),
+        ),
+        (
+            "count: 65500 g(v), 65535 locals of 1 MiB",
+            sheets::long_locals(65_500, all, bytes - 16),
+        ),
+        (
+            "recount: 61 ands, 65400 g(v), 65535 locals",
+            sheets::nested(61, 65_400, all),
+        ),
+        (
+            "recount: 61 ands, 65400 other g(v)",
+            sheets::receivers(61, 65_400, all),
+        ),
+        ("locals: 131071 variables", sheets::locals(all, 131_071)),
+        (
+            "locals: 65535 other variables",
+            sheets::other_locals(all, 65_535),
+        ),
+        (
+            "names: 65536 of nearly 1 MiB that overlap",
+            sheets::long_names(texts, bytes - texts),
+        ),
+        (
+            "names: 65535 of nearly 1 MiB, twice over",
+            sheets::long_names_again(texts - 1, bytes - texts, 2),
+        ),
+        (
+            "names: 131070 uses of equal bytes, 1 MiB",
+            sheets::equal_places(VARIABLE, texts - 1, bytes - texts, 2),
+        ),
+        (
+            "strings: 65536 of nearly 1 MiB that overlap",
+            sheets::long_strings(texts, bytes - texts),
+        ),
+        (
+            "strings: 131070 uses of equal bytes, 1 MiB",
+            sheets::equal_places(STRING, texts - 1, bytes - texts, 2),
+        ),
+        ("names: 65536", sheets::names(65_536)),
+        ("constants: 131070", sheets::constants(131_070)),
+        ("strings: 65536", sheets::strings(65_536)),
+        ("operators: 65535", sheets::operators(65_535)),
+        ("chains: 43690", sheets::chains(43_690)),
+        ("chains: 1040 of 62 links", sheets::long_chains(1_040, 62)),
+        (
+            "chains: 43690 roots, 65535 locals",
+            sheets::roots(43_690, all),
+        ),
+        (
+            "chains: 43690 roots, 65535 locals of 1 MiB",
+            sheets::long_roots(43_690, all, bytes - 16),
+        ),
+        ("equal hashes: 65536 names", hashes::names(texts)),
+        ("equal hashes: 65536 strings", hashes::strings(texts)),
+        ("equal hashes: 131071 integers", hashes::numbers(131_071)),
+        (
+            "equal hashes: 32000 names of 500000",
+            hashes::long_names(32_000, 500_000),
+        ),
+    ];
+    named(list)
+}
+
+/// Hostile sheets of at most 65,536 bytes. The program's scratch lets at most 768 instructions and nodes together be lowered; of sheets that
+/// are larger check and count are all that is done, and they get 11.
+fn program() -> Vec<(String, Vec<u8>)> {
+    let list: Vec<(&str, Vec<u8>)> = vec![
+        ("check: 64 cases of 47000", sheets::long_cases(47_000)),
+        (
+            "check: 1000 texts of 27000 that overlap",
+            sheets::long_strings(1_000, 27_000),
+        ),
+        (
+            "count: 700 g(v), 6000 locals",
+            sheets::nested(0, 700, 6_000),
+        ),
+        (
+            "count: 480 other g(v), 8000 locals",
+            sheets::receivers(0, 480, 8_000),
+        ),
+        (
+            "count: 180 g(v), 5500 locals of 33000",
+            sheets::long_locals(180, 5_500, 33_000),
+        ),
+        (
+            "recount: 61 ands, 90 g(v), 12000 locals",
+            sheets::nested(61, 90, 12_000),
+        ),
+        (
+            "recount: 61 ands, 90 other g(v), 12000 locals",
+            sheets::receivers(61, 90, 12_000),
+        ),
+        (
+            "locals: 250 other variables, 12000 locals",
+            sheets::other_locals(12_000, 250),
+        ),
+        (
+            "locals: 250 variables, 14000 locals",
+            sheets::locals(14_000, 250),
+        ),
+        (
+            "names: 250 of 45000 that overlap",
+            sheets::long_names(250, 45_000),
+        ),
+        (
+            "strings: 250 of 45000 that overlap",
+            sheets::long_strings(250, 45_000),
+        ),
+        (
+            "names: 250 of equal bytes, 45000",
+            sheets::equal_places(VARIABLE, 250, 45_000, 1),
+        ),
+        (
+            "strings: 250 of equal bytes, 45000",
+            sheets::equal_places(STRING, 250, 45_000, 1),
+        ),
+        (
+            "chains: 140 roots, 6000 locals of 20000",
+            sheets::long_roots(140, 6_000, 20_000),
+        ),
+        ("equal hashes: 250 names", hashes::names(250)),
+        ("equal hashes: 250 integers", hashes::numbers(250)),
+        (
+            "equal hashes: 250 names of 45000",
+            hashes::long_names(250, 45_000),
+        ),
+        ("tables: 255 runs", sheets::tables(false, 64)),
+    ];
+    named(list)
+}
+
 /// Each sheet at its sizes.
 fn at_sizes(list: &[(&str, Sized, [usize; 2])], small: bool) -> Vec<(String, Vec<u8>)> {
     let mut all = Vec::new();
@@ -227,7 +380,22 @@ fn least_after(first: f64, mut run: impl FnMut()) -> f64 {
     least
 }
 
-fn times(names: &[String], sheets: Vec<(String, Vec<u8>)>) {
+/// An image and a scratch: of so many words, or of just the size that the sheet needs.
+fn buffers(sheet: &[u8], room: Option<usize>) -> (Vec<u32>, Vec<u32>) {
+    if let Some(words) = room {
+        assert!(sheet.len() <= PROGRAM_BYTES);
+        return (vec![0; words], vec![0; words]);
+    }
+    match oracle::lower_sheet(sheet) {
+        Ok(lowered) => (
+            vec![0; lowered.words.len()],
+            vec![0; lowered.scratch_needed() as usize],
+        ),
+        Err(_) => (Vec::new(), Vec::new()),
+    }
+}
+
+fn times(names: &[String], sheets: Vec<(String, Vec<u8>)>, room: Option<usize>) {
     println!(
         "{:<44}{:>8}{:>4}{:>11}{:>11}{:>9} |{:>10}{:>10}{:>11}{:>10}",
         "hostile sheet, times in ms",
@@ -245,19 +413,14 @@ fn times(names: &[String], sheets: Vec<(String, Vec<u8>)>) {
         if !names.is_empty() && !names.iter().any(|part| name.contains(part.as_str())) {
             continue;
         }
-        let lowered = oracle::lower_sheet(&sheet);
-        let (words, needed, number) = match &lowered {
-            Ok(lowered) => (lowered.words.len(), lowered.scratch_needed() as usize, 0),
-            Err(number) => (0, 0, *number),
-        };
-        let mut image = vec![0; words];
-        let mut scratch = vec![0; needed];
+        let (mut image, mut scratch) = buffers(&sheet, room);
+        let (mut expected, mut noise) = (image.clone(), scratch.clone());
+        let right = oracle::lower(&sheet, &mut expected, &mut noise);
+        let number = right.0;
         let mut answer = (0, 0);
         let first = time(|| answer = bench::lower(&sheet, &mut image, &mut scratch));
-        assert_eq!(answer, (number, words as u64), "{name}");
-        if let Ok(lowered) = &lowered {
-            assert_eq!(image, lowered.words, "{name}: another image");
-        }
+        assert_eq!(answer, (right.0, u64::from(right.1)), "{name}");
+        assert!(image == expected, "{name}: another image");
         let ours = least_after(first, || {
             black_box(bench::lower(&sheet, &mut image, &mut scratch));
         });
@@ -298,23 +461,29 @@ fn main() {
         place.map(|place| names.remove(place)).is_some()
     };
     let small = option("--small");
-    let only_stack = option("stack");
-    let only_index = option("index");
-    let only_switch = option("switch");
-    if !only_index && !only_switch {
+    let parts = ["stack", "index", "switch", "greatest", "program"].map(|part| option(part));
+    let [stacks, indexes, switches, limits, small_sheets] = parts;
+    let all = parts == [false; 5];
+    if all || stacks {
         stack(&names);
     }
-    if !only_stack {
-        let mut sheets = Vec::new();
-        if !only_index && !only_switch {
-            sheets.extend(hostile());
-        }
-        if !only_switch {
-            sheets.extend(index(small));
-        }
-        if !only_index {
-            sheets.extend(switch(small));
-        }
-        times(&names, sheets);
+    let mut sheets = Vec::new();
+    if all {
+        sheets.extend(hostile());
+    }
+    if all || indexes {
+        sheets.extend(index(small));
+    }
+    if all || switches {
+        sheets.extend(switch(small));
+    }
+    if limits {
+        sheets.extend(greatest());
+    }
+    if !sheets.is_empty() {
+        times(&names, sheets, None);
+    }
+    if small_sheets {
+        times(&names, program(), Some(PROGRAM_WORDS));
     }
 }
