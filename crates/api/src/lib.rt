@@ -2,8 +2,11 @@
 ghost use mathlib.Core.Path.{_≡_};
 ghost use Rattle.checks.specs.Checked.{numberOf, checked};
 ghost use Rattle.api.specs.Given.{Given};
+ghost use Rattle.api.specs.Asked.{Asked};
 ghost use Rattle.image_check.specs.Answer.{Answers};
 use image_check::check_image;
+use needs::Need;
+use needs::needs;
 use to_image::Answer;
 use to_image::lower;
 
@@ -13,6 +16,24 @@ pub extern "C" fn sheet_check(sheet: &[u8]) -> u32
     ensures { λ r. ⌜ r ≡ numberOf (checked (now (sheet .entry))) ⌝ }
 {
     checks::number(checks::check(sheet))
+}
+
+// What `sheet` needs before buffers are lent: 0, and `words` gets the words of scratch that its lowering asks for; or the number of the
+// first refusal among 1 to 10 that fits, and `words` gets 0.
+#[no_mangle]
+pub extern "C" fn sheet_needs(sheet: &[u8], words: &mut u64) -> u32
+    ensures { λ r. ⌜ Asked (now (sheet .entry)) r (now (words .exit)) ⌝ }
+{
+    match needs(sheet) {
+        Need::Scratch { words: count } => {
+            *words = count;
+            0
+        }
+        Need::Refused { number } => {
+            *words = 0;
+            number
+        }
+    }
 }
 
 // Lowers `sheet` into `image`: 0, or the number of the first refusal among 1 to 12 that fits. `words` gets the image's word count, 0 under a refusal.

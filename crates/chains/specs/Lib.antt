@@ -4,6 +4,7 @@ pub mod FindLaws
 pub mod Steps
 pub mod Same
 pub mod Lowers
+pub mod Walked
 pub mod Pooled
 pub mod NameLaws
 pub mod StayLaws

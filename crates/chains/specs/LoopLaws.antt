@@ -9,72 +9,13 @@ use Rattle.sheet.specs.Limits.{maxDepth}
 use Rattle.sheet.specs.Node.{count, fieldA, fieldB, fieldC, child}
 use Rattle.lowering.specs.Limits.{maxArgs}
 use Rattle.lowering.specs.Flatten as flatten
-use Rattle.lowering.specs.Flatten.{StepRule, index, property, method, restOf, goesOn, operandOf, stepRule, links, hasStep, flattens}
+use Rattle.lowering.specs.Flatten.{StepRule, index, property, method, restOf, goesOn, operandOf, stepRule, links}
 use Rattle.lowering.specs.Pools.{Name}
 use Rattle.chains.specs.Steps.{nameIn, rootIn, stepWith, stepAs, widthBy, stepWidth, stepsIn, operandsOf, chainRoot, chainOperands, linkCount, chainWith, chainIn}
 use Rattle.chains.specs.Same.{sameStep, sameSteps, sameLinks}
-use Rattle.chains.specs.Lowers.{stepLowers, allLower, lowers}
 use Rattle.chains.specs.LinkLaws.{links-more, links-last, links-none}
 
 module _ (s : List ℕ) where
-  -- each link has a step
-  flat-on : (c : ℕ) (cs : List ℕ) → hasStep (stepRule s c) ≡ true → flattens s (c ∷ cs) ≡ flattens s cs
-  unfolding flattens
-  flat-on c cs h = rw (h, flattens)
-
-  flat-off : (c : ℕ) (cs : List ℕ) → hasStep (stepRule s c) ≡ false → flattens s (c ∷ cs) ≡ false
-  unfolding flattens
-  flat-off c cs h = rw (h, flattens)
-
-  pub flat-more : (left c : ℕ) → 0 < left → hasStep (stepRule s c) ≡ true → goesOn s c ≡ true → flattens s (links left s c) ≡ flattens s (links (left - 1) s (restOf s c))
-  flat-more left c h t g = ap (flattens s) (links-more s left c h g) ∙ flat-on c (links (left - 1) s (restOf s c)) t
-
-  pub flat-last : (left c : ℕ) → 0 < left → hasStep (stepRule s c) ≡ true → goesOn s c ≡ false → flattens s (links left s c) ≡ true
-  unfolding flattens
-  flat-last left c h t g = ap (flattens s) (links-last s left c h g) ∙ flat-on c [] t
-
-  pub flat-fails : (left c : ℕ) → 0 < left → hasStep (stepRule s c) ≡ false → flattens s (links left s c) ≡ false
-  flat-fails left c h t = by (goesOn s c) refl
-    where
-      by : (g : Bool) → goesOn s c ≡ g → flattens s (links left s c) ≡ false
-      by true g = ap (flattens s) (links-more s left c h g) ∙ flat-off c (links (left - 1) s (restOf s c)) t
-      by false g = ap (flattens s) (links-last s left c h g) ∙ flat-off c [] t
-
-  pub flat-done : (left c : ℕ) → left ≤ 0 → flattens s (links left s c) ≡ true
-  unfolding flattens
-  flat-done left c h = ap (flattens s) (links-none s left c h)
-
-  -- each step lowers
-  lower-on : (c : ℕ) (cs : List ℕ) → stepLowers s c ≡ true → allLower s (c ∷ cs) ≡ allLower s cs
-  unfolding allLower
-  lower-on c cs h = rw (h, allLower)
-
-  lower-off : (c : ℕ) (cs : List ℕ) → stepLowers s c ≡ false → allLower s (c ∷ cs) ≡ false
-  unfolding allLower
-  lower-off c cs h = rw (h, allLower)
-
-  pub lower-starts : (j : ℕ) → allLower s (links maxDepth s j) ≡ lowers s j
-  unfolding lowers
-  lower-starts j = refl
-
-  pub lower-more : (left c : ℕ) → 0 < left → stepLowers s c ≡ true → goesOn s c ≡ true → allLower s (links left s c) ≡ allLower s (links (left - 1) s (restOf s c))
-  lower-more left c h t g = ap (allLower s) (links-more s left c h g) ∙ lower-on c (links (left - 1) s (restOf s c)) t
-
-  pub lower-last : (left c : ℕ) → 0 < left → stepLowers s c ≡ true → goesOn s c ≡ false → allLower s (links left s c) ≡ true
-  unfolding allLower
-  lower-last left c h t g = ap (allLower s) (links-last s left c h g) ∙ lower-on c [] t
-
-  pub lower-fails : (left c : ℕ) → 0 < left → stepLowers s c ≡ false → allLower s (links left s c) ≡ false
-  lower-fails left c h t = by (goesOn s c) refl
-    where
-      by : (g : Bool) → goesOn s c ≡ g → allLower s (links left s c) ≡ false
-      by true g = ap (allLower s) (links-more s left c h g) ∙ lower-off c (links (left - 1) s (restOf s c)) t
-      by false g = ap (allLower s) (links-last s left c h g) ∙ lower-off c [] t
-
-  pub lower-done : (left c : ℕ) → left ≤ 0 → allLower s (links left s c) ≡ true
-  unfolding allLower
-  lower-done left c h = ap (allLower s) (links-none s left c h)
-
   -- how many links, with n before
   pub count-starts : (j : ℕ) → 0 + length (links maxDepth s j) ≡ linkCount s j
   unfolding linkCount

@@ -28,25 +28,7 @@ pub kind-zero : (k : ℕ) → (eqb k variableKind || eqb k thisKind) ≡ false �
 unfolding rootKind
 kind-zero k h = rw (h, rootKind)
 
--- a local, by the code's answer
-isAt : Found → Bool
-isAt (At slot) = true
-isAt Nothing = false
-
-is-at : (o : Option ℕ) → isSome o ≡ isAt (found o)
-unfolding isSome isAt found
-is-at none = refl
-is-at (some slot) = refl
-
 module _ (s : List ℕ) where
-  pub local-at : (v : ℕ) (r : Found) (slot : ℕ) → r ≡ found (resolve s (text s (fieldA s v))) → r ≡ At slot → isLocal s v ≡ true
-  unfolding isLocal isAt
-  local-at v r slot h e = is-at (resolve s (text s (fieldA s v))) ∙ ap isAt (sym h ∙ e)
-
-  pub local-nowhere : (v : ℕ) (r : Found) → r ≡ found (resolve s (text s (fieldA s v))) → r ≡ Nothing → isLocal s v ≡ false
-  unfolding isLocal isAt
-  local-nowhere v r h e = is-at (resolve s (text s (fieldA s v))) ∙ ap isAt (sym h ∙ e)
-
   -- two variables
   pub variables-apart : (v w : ℕ) → sameText s (fieldA s v) (fieldA s w) ≡ false → sameVariable s v w ≡ false
   unfolding sameVariable

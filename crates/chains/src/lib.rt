@@ -1,29 +1,34 @@
 // Chains by their nodes: the links of a chain, their steps, and whether two chains are the same. specs/ shows that the nodes of the chains
 // that were pooled are all that the pools of chains and steps hold.
 ghost use mathlib.Core.Path.{_≡_};
-ghost use Prim.Native.Nat.{min};
+ghost use Prim.Native.Nat.{ℕ, min};
 ghost use Rattle.sheet.specs.Limits.{maxDepth};
 ghost use Rattle.bytecode.specs.Chain.{stepWords, chainWords};
 ghost use Rattle.lowering.specs.Limits.{maxArgs};
 ghost use Rattle.lowering.specs.Flatten as flatten;
+ghost use Rattle.lowering.specs.Kinds.{variableKind};
+ghost use Rattle.lowering.specs.Slots as locals;
 ghost use Rattle.rules.specs.Inverse as answers;
+ghost use Rattle.rules.specs.Reads.{Reads};
+ghost use Rattle.slots.specs.Found as founds;
 ghost use Rattle.chains.specs.Variable as roots;
 ghost use Rattle.chains.specs.Steps as chains;
+ghost use Rattle.chains.specs.Walked.{Counted, Comes};
 ghost use Rattle.chains.specs.Same as sames;
 ghost use Rattle.chains.specs.Same.{RootLocal};
 ghost use Rattle.sheet.specs.Node as nodes;
+ghost use Rattle.sheet.specs.Text as texts;
 ghost use Rattle.chains.specs.Lowers as lowering;
 use bytecode::Chain;
 use bytecode::Root;
 use bytecode::Step;
 use lowering::MAX_ARGS;
+use rules::chains::Read;
 use rules::chains::StepRule;
 use rules::chains::goes_on;
 use rules::chains::is_lowerable_method;
-use rules::chains::negated;
-use rules::chains::operand_of;
+use rules::chains::read_link;
 use rules::chains::rest_of;
-use rules::chains::step_rule;
 use rules::kinds::THIS;
 use rules::kinds::VARIABLE;
 use sheet::child;
@@ -38,6 +43,19 @@ use sheet::start_of;
 use slots::Found;
 use text::same_bytes;
 
+// How many links a chain has, and how many operands their steps take.
+pub struct Counts {
+    pub links: u32,
+    pub operands: u32,
+}
+
+// Whether each link of a chain has a step, whether each step lowers, and how many operands the steps take.
+pub struct Far {
+    pub flattens: bool,
+    pub lowers: bool,
+    pub operands: u32,
+}
+
 // Texts `a` and `b` have the same bytes.
 fn same_text(s: &[u8], a: u32, b: u32) -> bool
     ensures { λ r. ⌜ r ≡ sames.sameText (now (s .entry)) a b ⌝ }
@@ -48,12 +66,13 @@ fn same_text(s: &[u8], a: u32, b: u32) -> bool
     same_bytes(sheet::text(s, a), sheet::text(s, b))
 }
 
-// The steps of links `c` and `d`, both indexes, are the same.
-fn same_index(s: &[u8], c: u32, d: u32) -> bool
-    ensures { λ r. ⌜ r ≡ sames.sameIndex (now (s .entry)) c d ⌝ }
+// The steps of links `c` and `d`, both indexes, are the same; `x` and `y` are what they are taken with.
+fn same_index(s: &[u8], c: u32, d: u32, x: u32, y: u32) -> bool
+    ensures { λ r. let sheet = now (s .entry) in ⌜
+        (x ≡ flatten.operandOf sheet c → y ≡ flatten.operandOf sheet d → r ≡ sames.sameIndex sheet c d) ⌝ }
 {
     if position(s, c) == position(s, d) {
-        return start_of(s, operand_of(s, c)) == start_of(s, operand_of(s, d));
+        return start_of(s, x) == start_of(s, y);
     }
     false
 }
@@ -93,26 +112,28 @@ fn rule_number(r: StepRule) -> u32
     }
 }
 
-// The steps of links `c` and `d`, both by rule `r`, are the same.
-fn same_as(r: StepRule, s: &[u8], c: u32, d: u32) -> bool
-    ensures { λ b. ⌜ b ≡ sames.sameAs (answers.stepRuleFrom r) (now (s .entry)) c d ⌝ }
+// The steps of links `c` and `d`, both by rule `r`, are the same; `x` and `y` are what they are taken with.
+fn same_as(r: StepRule, s: &[u8], c: u32, d: u32, x: u32, y: u32) -> bool
+    ensures { λ b. let sheet = now (s .entry) in ⌜
+        (x ≡ flatten.operandOf sheet c → y ≡ flatten.operandOf sheet d → b ≡ sames.sameAs (answers.stepRuleFrom r) sheet c d) ⌝ }
 {
     match r {
-        StepRule::Index => same_index(s, c, d),
-        StepRule::Property => same_property(s, operand_of(s, c), operand_of(s, d)),
-        StepRule::Method => same_method(s, operand_of(s, c), operand_of(s, d)),
+        StepRule::Index => same_index(s, c, d, x, y),
+        StepRule::Property => same_property(s, x, y),
+        StepRule::Method => same_method(s, x, y),
         StepRule::Nothing => false,
     }
 }
 
-// The steps of links `c` and `d` are the same, but for the operands' numbers.
-fn same_step(s: &[u8], c: u32, d: u32) -> bool
-    ensures { λ r. ⌜ r ≡ sames.sameStep (now (s .entry)) c d ⌝ }
+// The steps of links `c` and `d`, which say `p` and `q`, are the same, but for the operands' numbers.
+fn same_step(s: &[u8], c: u32, d: u32, p: Read, q: Read) -> bool
+    ensures { λ r. let sheet = now (s .entry) in ⌜ (Reads sheet c p → Reads sheet d q → r ≡ sames.sameStep sheet c d) ⌝ }
 {
-    let r = step_rule(s, c);
-    let one = rule_number(r) == rule_number(step_rule(s, d));
-    if one & (negated(s, c) == negated(s, d)) {
-        return same_as(r, s, c, d);
+    let r = p.rule;
+    let u = q.rule;
+    let one = rule_number(r) == rule_number(u);
+    if one & (p.flag == q.flag) {
+        return same_as(r, s, c, d, p.with, q.with);
     }
     false
 }
@@ -125,37 +146,28 @@ fn same_steps(s: &[u8], i: u32, j: u32) -> bool
     let mut c = i;
     let mut d = j;
     while 0 < left {
-        if same_step(s, c, d) {
+        let p = read_link(s, c);
+        let q = read_link(s, d);
+        if same_step(s, c, d, p, q) {
             left -= 1;
             if left == 0 {
                 return true;
             }
-            if goes_on(s, c) {
-                if goes_on(s, d) {
-                    c = rest_of(s, c);
-                    d = rest_of(s, d);
+            if p.on {
+                if q.on {
+                    c = p.rest;
+                    d = q.rest;
                 } else {
                     return false;
                 }
             } else {
-                return !goes_on(s, d);
+                return !q.on;
             }
         } else {
             return false;
         }
     }
     true
-}
-
-// Variable `v` is a local.
-fn is_local(s: &[u8], v: u32) -> bool
-    ensures { λ r. ⌜ r ≡ sames.isLocal (now (s .entry)) v ⌝ }
-{
-    let found = slots::resolve(s, sheet::text(s, field_a(s, v)));
-    match found {
-        Found::At(_) => true,
-        Found::Nothing => false,
-    }
 }
 
 // The variables `v` and `w` are the same root, where `local` tells whether `v` is a local.
@@ -179,17 +191,6 @@ fn root_kind(k: u32) -> u32
         return k;
     }
     0
-}
-
-// The root of the chain of node `j` is a variable that is a local. The locals are gone through, so it is asked once for a chain.
-pub fn root_local(s: &[u8], j: u32) -> bool
-    ensures { λ r. ⌜ RootLocal (now (s .entry)) (nodes.child j) r ⌝ }
-{
-    let v = child(j);
-    if root_kind(kind(s, v)) == VARIABLE {
-        return is_local(s, v);
-    }
-    false
 }
 
 // The nodes `v` and `w` are the same root, where `local` tells whether `v` is a local.
@@ -229,13 +230,14 @@ fn variable_root(found: Found, name: u32, pos: u32) -> Root
     }
 }
 
-// Node `v` as a root, with its name at place `name`.
-pub fn root_of(s: &[u8], v: u32, name: u32) -> Root
-    ensures { λ r. ⌜ r ≡ chains.rootWith (now (s .entry)) v name ⌝ }
+// Node `v` as a root, with its name at place `name`, where `found` is the local that a variable is.
+pub fn root_of(s: &[u8], v: u32, name: u32, found: Found) -> Root
+    ensures { λ r. let sheet = now (s .entry) in ⌜
+        ((nodes.kind sheet v ≡ variableKind → found ≡ founds.found (locals.resolve sheet (texts.text sheet (nodes.fieldA sheet v))))
+        → r ≡ chains.rootWith sheet v name) ⌝ }
 {
     let k = kind(s, v);
     if k == VARIABLE {
-        let found = slots::resolve(s, sheet::text(s, field_a(s, v)));
         return variable_root(found, name, position(s, v));
     }
     if k == THIS {
@@ -246,15 +248,15 @@ pub fn root_of(s: &[u8], v: u32, name: u32) -> Root
     Root::Temporary
 }
 
-// How many operands the step of link `c` takes.
-pub fn width(s: &[u8], c: u32) -> u32
-    ensures { λ r. ⌜ r ≡ chains.stepWidth (now (s .entry)) c ⌝ }
+// How many operands the step of a link takes, which says `p`.
+pub fn width(s: &[u8], p: Read) -> u32
+    ensures { λ r. let sheet = now (s .entry) in ⌜ ((c : ℕ) → Reads sheet c p → r ≡ chains.stepWidth sheet c) ⌝ }
 {
-    let r = step_rule(s, c);
+    let r = p.rule;
     match r {
         StepRule::Index => 1,
         StepRule::Property => 0,
-        StepRule::Method => few(count(s, operand_of(s, c))),
+        StepRule::Method => few(count(s, p.with)),
         StepRule::Nothing => 0,
     }
 }
@@ -269,23 +271,26 @@ fn few(n: u32) -> u32
     MAX_ARGS
 }
 
-// How many operands the steps of the chain of node `j` take.
-pub fn operands(s: &[u8], j: u32) -> u32
-    ensures { λ r. ⌜ r ≡ chains.chainOperands (now (s .entry)) j ⌝ }
+// How many links the chain of node `j` has, and how many operands their steps take.
+pub fn count_links(s: &[u8], j: u32) -> Counts
+    ensures { λ r. ⌜ Counted (now (s .entry)) j r ⌝ }
 {
     let mut left = MAX_DEPTH;
-    let mut n: u32 = 0;
+    let mut links: u32 = 0;
+    let mut operands: u32 = 0;
     let mut c = j;
     while 0 < left {
-        n += width(s, c);
-        if goes_on(s, c) {
-            c = rest_of(s, c);
+        let p = read_link(s, c);
+        links += 1;
+        operands += width(s, p);
+        if p.on {
+            c = p.rest;
             left -= 1;
         } else {
-            return n;
+            return Counts { links, operands };
         }
     }
-    n
+    Counts { links, operands }
 }
 
 // How many links the chain of node `j` has.
@@ -307,11 +312,10 @@ pub fn link_count(s: &[u8], j: u32) -> u32
     n
 }
 
-// Link `c` has a step.
-fn has_step(s: &[u8], c: u32) -> bool
-    ensures { λ r. ⌜ r ≡ flatten.hasStep (flatten.stepRule (now (s .entry)) c) ⌝ }
+// A link has a step by rule `r`.
+fn has_step(r: StepRule) -> bool
+    ensures { λ b. ⌜ b ≡ flatten.hasStep (answers.stepRuleFrom r) ⌝ }
 {
-    let r = step_rule(s, c);
     match r {
         StepRule::Index => true,
         StepRule::Property => true,
@@ -320,81 +324,73 @@ fn has_step(s: &[u8], c: u32) -> bool
     }
 }
 
-// Each link of the chain of node `j` has a step.
-pub fn flattens(s: &[u8], j: u32) -> bool
-    ensures { λ r. ⌜ r ≡ flatten.flattens (now (s .entry)) (flatten.links maxDepth (now (s .entry)) j) ⌝ }
+// The step of a link lowers, which says `p`.
+fn step_lowers(s: &[u8], p: Read) -> bool
+    ensures { λ r. let sheet = now (s .entry) in ⌜ ((c : ℕ) → Reads sheet c p → r ≡ lowering.stepLowers sheet c) ⌝ }
 {
-    let mut left = MAX_DEPTH;
-    let mut c = j;
-    while 0 < left {
-        if has_step(s, c) {
-            if goes_on(s, c) {
-                c = rest_of(s, c);
-                left -= 1;
-            } else {
-                return true;
-            }
-        } else {
-            return false;
-        }
-    }
-    true
-}
-
-// The step of link `c` lowers.
-fn step_lowers(s: &[u8], c: u32) -> bool
-    ensures { λ r. ⌜ r ≡ lowering.stepLowers (now (s .entry)) c ⌝ }
-{
-    let r = step_rule(s, c);
+    let r = p.rule;
     match r {
         StepRule::Index => true,
         StepRule::Property => true,
-        StepRule::Method => is_lowerable_method(s, operand_of(s, c)),
+        StepRule::Method => is_lowerable_method(s, p.with),
         StepRule::Nothing => false,
     }
 }
 
-// Each step of the chain of node `j` lowers.
-pub fn lowers(s: &[u8], j: u32) -> bool
-    ensures { λ r. ⌜ r ≡ lowering.lowers (now (s .entry)) j ⌝ }
+// How far the chain of node `j` comes, and how many operands its steps take.
+pub fn far_of(s: &[u8], j: u32) -> Far
+    ensures { λ r. ⌜ Comes (now (s .entry)) j r ⌝ }
 {
     let mut left = MAX_DEPTH;
+    let mut flattens = true;
+    let mut lowers = true;
+    let mut operands: u32 = 0;
     let mut c = j;
-    while 0 < left {
-        if step_lowers(s, c) {
-            if goes_on(s, c) {
-                c = rest_of(s, c);
-                left -= 1;
-            } else {
-                return true;
-            }
+    while left > 0 {
+        let p = read_link(s, c);
+        let r = p.rule;
+        flattens = flattens & has_step(r);
+        lowers = lowers & step_lowers(s, p);
+        operands += width(s, p);
+        if p.on {
+            c = p.rest;
+            left -= 1;
         } else {
-            return false;
+            return Far {
+                flattens,
+                lowers,
+                operands,
+            };
         }
     }
-    true
+    Far {
+        flattens,
+        lowers,
+        operands,
+    }
 }
 
-// The chain of node `j`, with its root's name at place `name` and `first` steps before it.
-pub fn chain_of(s: &[u8], j: u32, name: u32, first: u32) -> Chain
-    ensures { λ r. ⌜ r ≡ chains.chainWith (now (s .entry)) j name first ⌝ }
+// The chain of node `j` with this root, and `first` steps before it.
+pub fn chain_of(s: &[u8], j: u32, root: Root, first: u32) -> Chain
+    ensures { λ r. ⌜ r ≡ chains.chainBy (now (s .entry)) j first root ⌝ }
 {
-    let root = root_of(s, child(j), name);
+    let n = count_links(s, j);
     Chain {
         root,
         first,
-        steps: link_count(s, j),
-        operands: operands(s, j),
+        steps: n.links,
+        operands: n.operands,
     }
 }
 
-// The step of link `c`, with `n` operands before it and its names at these places.
-pub fn step_of(s: &[u8], c: u32, n: u32, name: u32, getter: u32, setter: u32) -> Step
-    ensures { λ r. ⌜ r ≡ chains.stepWith (flatten.stepRule (now (s .entry)) c) (now (s .entry)) c n name getter setter ⌝ }
+// The step of link `c`, which says `p`, with `n` operands before it and its names at these places.
+pub fn step_of(s: &[u8], c: u32, p: Read, n: u32, name: u32, getter: u32, setter: u32) -> Step
+    ensures { λ r. let sheet = now (s .entry) in ⌜
+        (Reads sheet c p → r ≡ chains.stepWith (flatten.stepRule sheet c) sheet c n name getter setter) ⌝ }
 {
-    let r = step_rule(s, c);
-    let x = operand_of(s, c);
-    let flags = negated(s, c);
+    let r = p.rule;
+    let x = p.with;
+    let flags = p.flag;
     match r {
         StepRule::Index => Step::Index {
             operand: n,

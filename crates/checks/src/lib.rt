@@ -1,8 +1,11 @@
 // The check of a sheet: refusals 1 to 8 in ascending number. Any bytes are answered, nothing is written, and no memory is used but locals.
 ghost use mathlib.Core.Path.{_≡_};
 ghost use Rattle.checks.specs.Checked as answers;
+ghost use Rattle.checks.specs.Rest.{restChecked};
 use depth::depth_ok;
+use numbers::locals_ok;
 use numbers::numbers_ok;
+use one_pass::passes;
 use shape::shape_ok;
 use sizes::sizes_ok;
 use support::supported_ok;
@@ -59,8 +62,8 @@ fn tree(s: &[u8]) -> Verdict
     Verdict::Depth
 }
 
-// The answer for any byte string.
-pub fn check(s: &[u8]) -> Verdict
+// The answer for any byte string, refusal by refusal.
+fn by_number(s: &[u8]) -> Verdict
     ensures { λ r. ⌜ r ≡ answers.checked (now (s .entry)) ⌝ }
 {
     if sizes_ok(s) {
@@ -74,6 +77,39 @@ pub fn check(s: &[u8]) -> Verdict
             return Verdict::Text;
         }
         return Verdict::Node;
+    }
+    Verdict::Size
+}
+
+// What is left where nothing of refusals 1, 2, 4 (of nodes), 5 and 8 holds.
+fn rest(s: &[u8]) -> Verdict
+    ensures { λ r. ⌜ r ≡ restChecked (now (s .entry)) ⌝ }
+{
+    let texts = texts_ok(s);
+    if texts {
+        if locals_ok(s) {
+            if entries_ok(s) {
+                if cases_ok(s) {
+                    return Verdict::Accepted;
+                }
+                return Verdict::Repeated;
+            }
+            return Verdict::Entries;
+        }
+        return Verdict::Number;
+    }
+    Verdict::Text
+}
+
+// The answer for any byte string: in one pass over the nodes where all of them are well, and refusal by refusal where not.
+pub fn check(s: &[u8]) -> Verdict
+    ensures { λ r. ⌜ r ≡ answers.checked (now (s .entry)) ⌝ }
+{
+    if sizes_ok(s) {
+        if passes(s) {
+            return rest(s);
+        }
+        return by_number(s);
     }
     Verdict::Size
 }

@@ -1,5 +1,5 @@
 -- Dot and Index: the names that a chain pools, its entry, and the step of a link as its operands with names behind them.
-use Prim.Native.Nat.{ℕ, zero, suc, _+_, _*_, _-_, _≤_, _<_}
+use Prim.Native.Nat.{ℕ, zero, suc, _+_, _*_, _-_, _%_, _≤_, _<_}
 use mathlib.Core.Path.{_≡_, refl, sym, ap, _∙_, subst}
 use mathlib.Core.Bool.{Bool, true, false}
 use mathlib.Core.List.{List}
@@ -219,7 +219,7 @@ module _ (s : List ℕ) where
           omega (arith, more, rest, width-few s c, operands-more s 0 (suc n) c (omega arith) g)
       by false g more = omega (arith, width-few s c, operands-last s 0 (suc n) c (omega arith) g)
 
-  pub operands-few : (j : ℕ) → chainOperands s j ≤ maxArgs * maxDepth
+  operands-few : (j : ℕ) → chainOperands s j ≤ maxArgs * maxDepth
   unfolding chainOperands
   operands-few j = links-few maxDepth j
 
@@ -232,9 +232,10 @@ module _ (s : List ℕ) where
       by false e true f = rw (e, f, temporary) (omega arith)
       by false e false f = rw (e, f, temporary) (omega arith)
 
-  -- what Chain takes off the stack
-  pub popped-is : (j m t v : ℕ) → m ≡ chainOperands s j → t ≡ temporary s v → v ≡ child j → m + t ≡ chainOperands s j + temporary s (child j)
-  popped-is j m t v e f g = let h = ap (temporary s) g in omega arith
+  -- what Chain takes off the stack: few values, so the sum does not wrap
+  pub popped-is : (j m t v : ℕ) → m ≡ chainOperands s j → t ≡ temporary s v → v ≡ child j
+      → (m + t) % 4294967296 ≡ chainOperands s j + temporary s (child j)
+  popped-is j m t v e f g = let h = ap (temporary s) g in omega (arith, operands-few j, temporary-few v)
 
 -- ---- the chain's entry, and Chain of its place
 

@@ -1,38 +1,52 @@
 -- The way of a call, its arguments and its first argument, answer by answer.
 use Prim.Native.Nat.{ℕ}
-use mathlib.Core.Path.{_≡_, sym, _∙_, ap}
+use mathlib.Core.Path.{_≡_, refl, sym, _∙_, ap}
+use mathlib.Core.Option.{Option, none, some}
 use mathlib.Core.List.{List}
-use Rattle.lowering.specs.Call.{callRule, receiver}
+use Rattle.sheet.specs.Node.{fieldA, child}
+use Rattle.sheet.specs.Text.{text}
+use Rattle.lowering.specs.Kinds.{variableKind, thisKind}
+use Rattle.lowering.specs.Slots.{resolve}
+use Rattle.lowering.specs.Call as Call
+use Rattle.lowering.specs.Call.{callRule, variableFirst, receiver}
+use Rattle.slots.specs.declared.Found.{Found}
+use Rattle.slots.specs.Found.{found}
 use Rattle.rules.specs.declared.calls.CallRule as Calls
-use Rattle.rules.specs.declared.calls.First as Firsts
-use Rattle.rules.specs.Answers.{callRuleOf, firstOf}
-use Rattle.rules.specs.Inverse.{callRuleFrom, call-is, firstFrom, first-is}
+use Rattle.rules.specs.Answers.{callRuleOf, receiverKind}
+use Rattle.rules.specs.Inverse.{callRuleFrom, call-is}
+use Rattle.rules.proofs.ReceiverLaws.{receiver-variable, receiver-this, receiver-value}
 use Rattle.compile.specs.declared.calls.Way.{Way}
 use Rattle.compile.specs.declared.calls.Way.the-variants.{FnPtr, FnPtrCall, Local, Named, This, Value, Eval, Kept}
-use Rattle.compile.specs.Ways.{wayFirst, wayBy, wayOf, argCount, firstArg}
+use Rattle.compile.specs.Ways.{wayFirst, wayFound, wayBy, wayOf, argCount, firstArg}
+
+found-first : (o : Option ℕ) → wayFound (found o) ≡ wayFirst (elim o [ some slot ↦ Call.local slot | none ↦ Call.named ])
+unfolding wayFound wayFirst found
+found-first none = refl
+found-first (some slot) = refl
 
 module _ (s : List ℕ) (j : ℕ) where
-  -- the way, from what the code was told of the receiver
-  first-told : (k : Firsts.First) → firstOf (receiver s j) ≡ k → wayFirst (firstFrom k) ≡ wayFirst (receiver s j)
-  first-told k h = ap wayFirst (first-is (receiver s j) k h)
+  -- the way, by the receiver's kind
+  pub first-variable :
+      {k v : ℕ} {f : Found} {w : Way} → k ≡ receiverKind s j → k ≡ variableKind → v ≡ child j → f ≡ found (resolve s (text s (fieldA s v)))
+      → w ≡ wayFound f → w ≡ wayFirst (receiver s j)
+  unfolding variableFirst
+  first-variable k-is is v-is f-is w-is =
+      w-is
+      ∙ ap wayFound f-is
+      ∙ ap (λ (u : ℕ). wayFound (found (resolve s (text s (fieldA s u))))) v-is
+      ∙ found-first (resolve s (text s (fieldA s (child j))))
+      ∙ ap wayFirst (sym (receiver-variable s j (sym k-is ∙ is)))
 
-  pub first-local : (k : Firsts.First) (slot : ℕ) → k ≡ firstOf (receiver s j) → k ≡ Firsts.the-variants.Local slot → Local slot ≡ wayFirst (receiver s j)
-  unfolding wayFirst firstFrom
-  first-local k slot e h = first-told (Firsts.the-variants.Local slot) (sym e ∙ h)
+  pub first-this : {k : ℕ} → k ≡ receiverKind s j → k ≡ thisKind → This ≡ wayFirst (receiver s j)
+  unfolding wayFirst
+  first-this k-is is = ap wayFirst (sym (receiver-this s j (sym k-is ∙ is)))
 
-  pub first-named : (k : Firsts.First) → k ≡ firstOf (receiver s j) → k ≡ Firsts.the-variants.Named → Named ≡ wayFirst (receiver s j)
-  unfolding wayFirst firstFrom
-  first-named k e h = first-told Firsts.the-variants.Named (sym e ∙ h)
+  pub first-value :
+      {k : ℕ} → k ≡ receiverKind s j → (k ≡ variableKind → ⊥) → (k ≡ thisKind → ⊥) → Value ≡ wayFirst (receiver s j)
+  unfolding wayFirst
+  first-value k-is v t = ap wayFirst (sym (receiver-value s j (λ q. v (k-is ∙ q)) (λ q. t (k-is ∙ q))))
 
-  pub first-this : (k : Firsts.First) → k ≡ firstOf (receiver s j) → k ≡ Firsts.the-variants.This → This ≡ wayFirst (receiver s j)
-  unfolding wayFirst firstFrom
-  first-this k e h = first-told Firsts.the-variants.This (sym e ∙ h)
-
-  pub first-value : (k : Firsts.First) → k ≡ firstOf (receiver s j) → k ≡ Firsts.the-variants.Value → Value ≡ wayFirst (receiver s j)
-  unfolding wayFirst firstFrom
-  first-value k e h = first-told Firsts.the-variants.Value (sym e ∙ h)
-
-  -- and of its rule
+  -- and by its rule, from what the code was told
   way-told : (k : Calls.CallRule) → callRuleOf (callRule s j) ≡ k → wayBy (callRuleFrom k) (receiver s j) ≡ wayOf s j
   unfolding wayOf
   way-told k h = ap (λ r. wayBy r (receiver s j)) (call-is (callRule s j) k h)

@@ -9,6 +9,8 @@ use Rattle.lowering.specs.Call.{CallRule, First, callRule, receiver}
 use Rattle.lowering.specs.Call as Call
 use Rattle.emission.specs.Made.{Made, emit, addName, defeated, residual}
 use Rattle.emission.specs.Construct.{callRef, rotate, callEnd}
+use Rattle.slots.specs.declared.Found.{Found}
+use Rattle.slots.specs.declared.Found.the-variants.{At, Nothing}
 use Rattle.compile.specs.declared.calls.Way.{Way}
 use Rattle.compile.specs.declared.calls.Way.the-variants.{FnPtr, FnPtrCall, Local, Named, This, Value, Eval, Kept}
 
@@ -17,6 +19,11 @@ wayFirst (Call.local slot) = Local slot
 wayFirst Call.named = Named
 wayFirst Call.this = This
 wayFirst Call.value = Value
+
+-- a variable as a receiver, by the code's answer
+unfoldable pub wayFound : Found → Way
+wayFound (At slot) = Local slot
+wayFound Nothing = Named
 
 unfoldable pub wayBy : CallRule → First → Way
 wayBy Call.fnPtr f = FnPtr

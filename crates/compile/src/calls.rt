@@ -8,6 +8,7 @@ ghost use Rattle.keys.specs.Keys.{nameOf};
 ghost use Rattle.keys.specs.Used.{TokenKey, NameKey};
 ghost use Rattle.bytecode.specs.Table.{effectTable};
 ghost use Rattle.scratch.specs.declared.Layout.{Layout};
+ghost use Rattle.index.specs.Locals.{Slots};
 ghost use Rattle.store.specs.States.{stateOf};
 ghost use Rattle.store.specs.Holds.{Holds};
 ghost use Rattle.store.specs.Does.{Does};
@@ -22,16 +23,20 @@ use crate::names::add_name;
 use bytecode::Op;
 use bytecode::Receiver;
 use counting::plans::one_less;
+use local_slots::local_of;
 use rules::calls::CallRule;
-use rules::calls::First;
 use rules::calls::call_rule;
-use rules::calls::receiver;
+use rules::calls::receiver_kind;
 use rules::calls::stores_token;
+use rules::kinds::THIS;
+use rules::kinds::VARIABLE;
+use scratch::Layout;
 use sheet::child;
 use sheet::count;
 use sheet::field_b;
 use sheet::next;
 use sheet::position;
+use slots::Found;
 use store::add_token;
 use store::emit;
 use store::residual;
@@ -49,28 +54,39 @@ pub enum Way {
     Kept,
 }
 
-// The way of a call that generic dispatch takes.
-fn way_first(s: &[u8], j: u32) -> Way
-    ensures { λ r. ⌜ r ≡ ways.wayFirst (calling.receiver (now (s .entry)) j) ⌝ }
+// A variable as a receiver, by the local that it is.
+fn way_variable(found: Found) -> Way
+    ensures { λ r. ⌜ r ≡ ways.wayFound found ⌝ }
 {
-    let first = receiver(s, j);
-    match first {
-        First::Local(slot) => Way::Local(slot),
-        First::Named => Way::Named,
-        First::This => Way::This,
-        First::Value => Way::Value,
+    match found {
+        Found::At(slot) => Way::Local(slot),
+        Found::Nothing => Way::Named,
     }
 }
 
+// The way of a call that generic dispatch takes.
+fn way_first(s: &[u8], x: &[u32], l: Layout, j: u32) -> Way
+    ensures { λ r. let sheet = now (s .entry) in ⌜ (Slots sheet l (now (x .entry)) → r ≡ ways.wayFirst (calling.receiver sheet j)) ⌝ }
+{
+    let k = receiver_kind(s, j);
+    if k == VARIABLE {
+        return way_variable(local_of(s, x, l, child(j)));
+    }
+    if k == THIS {
+        return Way::This;
+    }
+    Way::Value
+}
+
 // The way of call `j`.
-pub fn way_of(s: &[u8], j: u32) -> Way
-    ensures { λ r. ⌜ r ≡ ways.wayOf (now (s .entry)) j ⌝ }
+pub fn way_of(s: &[u8], x: &[u32], l: Layout, j: u32) -> Way
+    ensures { λ r. let sheet = now (s .entry) in ⌜ (Slots sheet l (now (x .entry)) → r ≡ ways.wayOf sheet j) ⌝ }
 {
     let by = call_rule(s, j);
     match by {
         CallRule::FnPtr => Way::FnPtr,
         CallRule::FnPtrCall => Way::FnPtrCall,
-        CallRule::Lowerable => way_first(s, j),
+        CallRule::Lowerable => way_first(s, x, l, j),
         CallRule::Eval => Way::Eval,
         CallRule::Residual => Way::Kept,
     }

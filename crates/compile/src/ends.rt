@@ -20,7 +20,7 @@ use store::states::at_depth;
 pub fn end_of(levels: u32, s: &[u8], code: u32, j: u32) -> u32
     ensures { λ r. ⌜ r ≡ (code + min (tally levels (now (s .entry)) j .len) cap) % 2 ^ 32 ⌝ }
 {
-    let t = counting::tally(levels, s, j);
+    let t = counting::exact(levels, s, j);
     let e = (code as u64) + t.len;
     (e % 4294967296) as u32
 }

@@ -12,12 +12,13 @@ ghost use Rattle.emission.specs.Construct as constructs;
 ghost use Rattle.compile.specs.Plain.{Plain};
 use crate::names::add_name;
 use bytecode::Op;
-use sheet::field_a;
+use local_slots::local_of;
 use sheet::position;
 use slots::Found;
 use store::add_const;
 use store::emit;
 use store::states::COUNTS;
+use store::states::layout_of;
 
 // A constant.
 pub fn constant(s: &[u8], t: &[u8; 125], c: &mut [u32; COUNTS], x: &mut [u32], j: u32)
@@ -48,7 +49,7 @@ pub fn variable(s: &[u8], t: &[u8; 125], c: &mut [u32; COUNTS], x: &mut [u32], j
         → Does sheet l (now (x .entry)) (stateOf (now (c .entry))) (now (x .exit)) (stateOf (now (c .exit)))
         (constructs.variable sheet j)) ⌝ }
 {
-    let found = slots::resolve(s, sheet::text(s, field_a(s, j)));
+    let found = local_of(s, &x[..], layout_of(c), j);
     match found {
         Found::At(slot) => emit(t, c, x, Op::LoadLocal(slot), 0, 0),
         Found::Nothing => load_named(s, t, c, x, j),

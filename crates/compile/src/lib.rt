@@ -28,10 +28,9 @@ use bytecode::Op;
 use calls::arg_count;
 use calls::first_arg;
 use calls::way_of;
-use chains::flattens;
-use chains::lowers;
+use chains::far_of;
 use counting::links::Link;
-use counting::links::link_of;
+use counting::links::link_with;
 use counting::links::temporary;
 use counting::plans::one_less;
 use ends::end_of;
@@ -39,8 +38,7 @@ use ends::verdict;
 use leaves::constant;
 use leaves::variable;
 use lowering::MAX_ELEMENTS;
-use rules::chains::goes_on;
-use rules::chains::rest_of;
+use rules::chains::read_link;
 use rules::kinds::Rule;
 use rules::rule;
 use sheet::child;
@@ -56,6 +54,7 @@ use store::states::CODE;
 use store::states::COUNTS;
 use store::states::DEEPEST;
 use store::states::DEPTH;
+use store::states::layout_of;
 use store::states::take_back;
 
 // `n` siblings from node `from` on, each with `by` behind it.
@@ -166,7 +165,7 @@ fn call(levels: u32, s: &[u8], t: &[u8; 125], c: &mut [u32; COUNTS], x: &mut [u3
         → Does sheet l (now (x .entry)) (stateOf (now (c .entry))) (now (x .exit)) (stateOf (now (c .exit))) (constructs.fnCall sheet
         (lowered levels sheet) j)) ⌝ }
 {
-    let w = way_of(s, j);
+    let w = way_of(s, &x[..], layout_of(c), j);
     let at = calls::open(s, t, c, x, w, j);
     siblings(
         levels,
@@ -191,13 +190,14 @@ fn walk(levels: u32, s: &[u8], t: &[u8; 125], c: &mut [u32; COUNTS], x: &mut [u3
     let mut left = MAX_DEPTH;
     let mut at = j;
     while 0 < left {
-        let k = link_of(s, at);
+        let p = read_link(s, at);
+        let k = link_with(s, p);
         match k {
             Link::Lowers { n, from } => {
                 siblings(levels, s, t, c, x, After::Nothing, n, from);
-                steps::step_names(s, c, x, at);
-                if goes_on(s, at) {
-                    at = rest_of(s, at);
+                steps::step_names(s, c, x, at, p);
+                if p.on {
+                    at = p.rest;
                     left -= 1;
                 } else {
                     return;
@@ -216,16 +216,17 @@ fn chain(levels: u32, s: &[u8], t: &[u8; 125], c: &mut [u32; COUNTS], x: &mut [u
         → Does sheet l (now (x .entry)) (stateOf (now (c .entry))) (now (x .exit)) (stateOf (now (c .exit))) (constructs.chain sheet
         (lowered levels sheet) j)) ⌝ }
 {
-    if flattens(s, j) {
+    let far = far_of(s, j);
+    if far.flattens {
         let root = child(j);
         let code = c[CODE];
         let depth = c[DEPTH];
         let deepest = c[DEEPEST];
         steps::root_name(s, c, x, root);
         walk(levels, s, t, c, x, j);
-        if lowers(s, j) {
+        if far.lowers {
             siblings(levels, s, t, c, x, After::Nothing, temporary(s, root), root);
-            steps::close_chain(s, t, c, x, j);
+            steps::close_chain(s, t, c, x, j, far.operands);
             return;
         }
         take_back(c, code, depth, deepest);

@@ -4,6 +4,7 @@ ghost use Prim.Native.Nat.{ℕ, _+_};
 ghost use Rattle.sheet.specs.Node as nodes;
 ghost use Rattle.lowering.specs.Nodes.{Valid};
 ghost use Rattle.lowering.specs.Flatten as flatten;
+ghost use Rattle.rules.specs.Reads.{Reads};
 ghost use Rattle.chains.specs.Pooled.{Pooled};
 ghost use Rattle.keys.specs.Used.{ChainKey};
 ghost use Rattle.chains.specs.Steps as entries;
@@ -18,15 +19,14 @@ ghost use Rattle.emission.specs.Construct as constructs;
 ghost use Rattle.compile.specs.ChainParts.{stepNames};
 use crate::names::add_name;
 use bytecode::Op;
-use chains::operands;
 use counting::links::temporary;
+use rules::chains::Read;
 use rules::chains::StepRule;
-use rules::chains::operand_of;
-use rules::chains::step_rule;
 use rules::kinds::VARIABLE;
 use sheet::child;
 use sheet::kind;
 use sheet::position;
+use std::num::wrapping_add_u32;
 use store::add_chain;
 use store::emit;
 use store::states::COUNTS;
@@ -66,36 +66,38 @@ fn method(s: &[u8], c: &mut [u32; COUNTS], x: &mut [u32], v: u32)
     let _name = add_name(s, c, x, v, 0);
 }
 
-// The names of the step of a link.
-pub fn step_names(s: &[u8], c: &mut [u32; COUNTS], x: &mut [u32], link: u32)
+// The names of the step of a link, which says `p`.
+pub fn step_names(s: &[u8], c: &mut [u32; COUNTS], x: &mut [u32], link: u32, p: Read)
     ensures { λ _. let sheet = now (s .entry) in ⌜
-        ((l : Layout) → Valid sheet (flatten.operandOf sheet link) → ChainKey sheet link
+        ((l : Layout) → Reads sheet link p → Valid sheet (flatten.operandOf sheet link) → ChainKey sheet link
         → Does sheet l (now (x .entry)) (stateOf (now (c .entry))) (now (x .exit)) (stateOf (now (c .exit))) (stepNames
         (flatten.stepRule sheet link) sheet (flatten.operandOf sheet link))) ⌝ }
 {
-    let by = step_rule(s, link);
+    let by = p.rule;
     match by {
         StepRule::Index => {}
-        StepRule::Property => property(s, c, x, operand_of(s, link), link),
-        StepRule::Method => method(s, c, x, operand_of(s, link)),
+        StepRule::Property => property(s, c, x, p.with, link),
+        StepRule::Method => method(s, c, x, p.with),
         StepRule::Nothing => {}
     }
 }
 
-// How many values the chain of node `j` takes off the stack.
-fn popped(s: &[u8], j: u32) -> u32
-    ensures { λ r. let sheet = now (s .entry) in ⌜ r ≡ entries.chainOperands sheet j + links.temporary sheet (nodes.child j) ⌝ }
+// How many values the chain of node `j` takes off the stack: the `n` operands of its steps, and a root that is lowered.
+fn popped(s: &[u8], j: u32, n: u32) -> u32
+    ensures { λ r. let sheet = now (s .entry) in ⌜
+        (n ≡ entries.chainOperands sheet j → r ≡ entries.chainOperands sheet j + links.temporary sheet (nodes.child j)) ⌝ }
 {
-    operands(s, j) + temporary(s, child(j))
+    wrapping_add_u32(n, temporary(s, child(j)))
 }
 
-// The chain's entry and Chain.
-pub fn close_chain(s: &[u8], t: &[u8; 125], c: &mut [u32; COUNTS], x: &mut [u32], j: u32)
+// The chain's entry and Chain, where its steps take `n` operands.
+pub fn close_chain(s: &[u8], t: &[u8; 125], c: &mut [u32; COUNTS], x: &mut [u32], j: u32, n: u32)
     ensures { λ _. let sheet = now (s .entry) in ⌜
-        ((l : Layout) → now (t .entry) ≡ effectTable → ChainKey sheet j → (a : Made) → Pooled sheet (a .pools .names) j
+        ((l : Layout) → n ≡ entries.chainOperands sheet j → now (t .entry) ≡ effectTable → ChainKey sheet j → (a : Made)
+        → Pooled sheet (a .pools .names) j
         → Holds sheet l (now (x .entry)) (stateOf (now (c .entry))) a → Fits l (constructs.closeChain sheet j a)
         → Holds sheet l (now (x .exit)) (stateOf (now (c .exit))) (constructs.closeChain sheet j a)) ⌝ }
 {
     let at = add_chain(s, c, x, j);
-    emit(t, c, x, Op::Chain(at), position(s, j), popped(s, j));
+    emit(t, c, x, Op::Chain(at), position(s, j), popped(s, j, n));
 }

@@ -19,8 +19,8 @@ use Rattle.counting.specs.TallyLaws.{nothing-plus, capped-capped}
 use Rattle.counting.specs.Plan.{array, plan}
 use Rattle.counting.specs.PlanLaws.{array-few, array-many}
 use Rattle.counting.specs.Link.{isPlain, link, grade, least, temporary}
-use Rattle.counting.specs.LinkLaws.{plain-chain, reach-starts, reach-more, reach-last, reach-done}
-use Rattle.counting.specs.Count.{Rec, siblings, coalesce, walk, chain, tally}
+use Rattle.counting.specs.LinkLaws.{plain-chain, links-some, reach-starts, reach-more, reach-last, reach-done}
+use Rattle.counting.specs.Count.{Rec, siblings, coalesce, walk, chain, tallyBy}
 use Rattle.counting.specs.CodeLaws.{one-capped, nothing-capped, sum-starts, sum-leaf, sum-node, sum-done, walk-more, walk-last, walk-fails, walk-nowhere, walk-done, chain-stays, chain-fails, chain-lowers, coalesce-counts, tally-parts}
 
 -- ---- plans
@@ -153,6 +153,11 @@ pub record ReachLeft (s : List ℕ) (j a left c : ℕ) : Type 0 where
 lesser-low : (a g : ℕ) {b : ℕ} → a ≤ 2 → b ≡ min a g → b ≤ 2
 lesser-low a g h e = omega arith
 
+-- a link that lowers comes to the end
+pub lowers-two : {l : Link} {n from : ℕ} → l ≡ Lowers n from → 2 ≡ grade l
+unfolding grade
+lowers-two e = sym (ap grade e)
+
 module _ (s : List ℕ) (j : ℕ) where
   pub reach-begins : ReachLeft s j 2 maxDepth j
   reach-begins = record { low = omega arith; rest = reach-starts s (links maxDepth s j) }
@@ -173,6 +178,14 @@ module _ (s : List ℕ) (j : ℕ) where
         → b ≡ least s (links maxDepth s j)
     reach-stops h l-is g-is b-is o-is off =
         b-is ∙ ap (min a) (g-is ∙ ap grade l-is) ∙ reach-last s left c a h (sym o-is ∙ off) ∙ R .rest
+
+    -- a link without a step
+    pub reach-lost : {l : Link} → 0 < left → l ≡ link s c → l ≡ Nowhere → 0 ≡ least s (links maxDepth s j)
+    unfolding least grade
+    reach-lost h l-is told =
+        let some = links-some s left c h .1 in
+        let none : least s (links left s c) ≡ 0 = rw (some, sym l-is ∙ told) (omega arith) in
+        omega (arith, R .rest, none)
 
     pub reach-ends : left ≤ 0 → a ≡ least s (links maxDepth s j)
     reach-ends h = sym (reach-done s left c a h (R .low)) ∙ R .rest
@@ -210,7 +223,8 @@ module _ (s : List ℕ) (t : Rec) (j : ℕ) where
       sum-by others last-all r-is ∙ coalesce-counts s t j
 
 pub tally-parted :
-    (levels : ℕ) (s : List ℕ) (j : ℕ) {p : Plan} {gap n from : ℕ} {rest u r : Tally} → (levels ≡ 0 → ⊥) → p ≡ plan s j → p ≡ Parts gap n from rest
-    → u ≡ capped (siblings s (tally (levels - 1) s) gap n from) → r ≡ capped (plus u rest) → r ≡ capped (tally levels s j)
-tally-parted levels s j {gap = gap} {n = n} {from = from} {rest = rest} h p-is told u-is r-is =
-    r-is ∙ ap (λ (x : Tally). capped (plus x rest)) u-is ∙ tally-parts levels s j gap n from rest h (sym p-is ∙ told)
+    (here : ℕ → Bool) (levels : ℕ) (s : List ℕ) (j : ℕ) {p : Plan} {gap n from : ℕ} {rest u r : Tally} → (levels ≡ 0 → ⊥)
+    → p ≡ plan here s j → p ≡ Parts gap n from rest
+    → u ≡ capped (siblings s (tallyBy here (levels - 1) s) gap n from) → r ≡ capped (plus u rest) → r ≡ capped (tallyBy here levels s j)
+tally-parted here levels s j {gap = gap} {n = n} {from = from} {rest = rest} h p-is told u-is r-is =
+    r-is ∙ ap (λ (x : Tally). capped (plus x rest)) u-is ∙ tally-parts here levels s j gap n from rest h (sym p-is ∙ told)

@@ -19,6 +19,8 @@ use Rattle.lowering.specs.Call as Call
 use Rattle.counting.specs.declared.tallies.Tally.{Tally}
 use Rattle.counting.specs.Tally.{instructions, evaluation, plus}
 use Rattle.counting.specs.TallyLaws.{tally-path, or-false}
+use Rattle.counting.specs.Locals.{isLocal}
+use Rattle.counting.specs.LocalLaws.{call-same}
 use Rattle.counting.specs.Plan as Plan
 use Rattle.counting.specs.Count.{siblings, follow}
 use Rattle.counting.specs.Count as Count
@@ -144,14 +146,14 @@ module _ (s : List ℕ) (rec : Rec) (t : Count.Rec) (C : Counts rec t) (j : ℕ)
     by-first Call.this = this-call-adds
     by-first Call.value = values-add
 
-    pub by-call-rule : (r : CallRule) → OutAdds p (follow (Plan.fnCallBy r s j) s t j) (fnCallBy r s rec j b d p)
+    pub by-call-rule : (r : CallRule) → OutAdds p (follow (Plan.fnCallBy (isLocal s) r s j) s t j) (fnCallBy r s rec j b d p)
     unfolding Plan.fnCallBy fnCallBy
     by-call-rule Call.fnPtr = make-adds
     by-call-rule Call.fnPtrCall = pointer-adds
-    by-call-rule Call.lowerable = by-first (receiver s j)
+    by-call-rule Call.lowerable = adds-tally (ap (λ q. follow q s t j) (sym (call-same s j))) (by-first (receiver s j))
     by-call-rule Call.eval = alone-plan s t j eval-adds
     by-call-rule Call.residual = alone-plan s t j (residual-adds j d p)
 
-    pub call-adds : OutAdds p (follow (Plan.fnCall s j) s t j) (fnCall s rec j b d p)
+    pub call-adds : OutAdds p (follow (Plan.fnCall (isLocal s) s j) s t j) (fnCall s rec j b d p)
     unfolding Plan.fnCall fnCall
     call-adds = by-call-rule (callRule s j)

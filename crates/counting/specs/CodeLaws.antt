@@ -1,7 +1,7 @@
 -- Laws of the count, in the shapes of the code: sums that are cut off on the way, and what is left of a loop.
 use Prim.Native.Nat.{ℕ, zero, suc, _+_, _*_, _-_, _≤_, _<_}
 use mathlib.Core.Path.{_≡_, refl, sym, ap, _∙_}
-use mathlib.Core.Bool.{true, false, _||_}
+use mathlib.Core.Bool.{Bool, true, false, _||_}
 use mathlib.Core.List.{List, [], _∷_}
 use native.Mathlib.Omega.{arith}
 use native.Mathlib.Nat.{sub-zero}
@@ -19,7 +19,7 @@ use Rattle.counting.specs.Plan.{isLeaf, plan}
 use Rattle.counting.specs.PlanLaws.{leaf-plan}
 use Rattle.counting.specs.Link.{link, least, temporary}
 use Rattle.counting.specs.LinkLaws.{links-more, links-last, links-some, links-none}
-use Rattle.counting.specs.Count.{Rec, siblings, coalesce, walkOn, walk, chainBy, chain, follow, tally}
+use Rattle.counting.specs.Count.{Rec, siblings, coalesce, walkOn, walk, chainBy, chain, follow, tallyBy}
 
 -- ---- sums
 
@@ -129,10 +129,11 @@ module _ (s : List ℕ) (t : Rec) (gap n : ℕ) where
         ∙ ap (λ m. capped (plus a (plus passed (siblings s t gap m j)))) (sym e)
 
 -- a leaf is one instruction, with any number of levels
-pub leaf-tally : (levels : ℕ) (s : List ℕ) (j : ℕ) → isLeaf (kind s j) ≡ true → tally levels s j ≡ instructions 1
-unfolding tally follow siblings
-leaf-tally zero s j h = refl
-leaf-tally (suc levels) s j h = ap (λ p. follow p s (tally levels s) j) (leaf-plan s j h) ∙ nothing-plus (instructions 1)
+pub leaf-tally : (here : ℕ → Bool) (levels : ℕ) (s : List ℕ) (j : ℕ) → isLeaf (kind s j) ≡ true → tallyBy here levels s j ≡ instructions 1
+unfolding tallyBy follow siblings
+leaf-tally here zero s j h = refl
+leaf-tally here (suc levels) s j h =
+    ap (λ p. follow p s (tallyBy here levels s) j) (leaf-plan s j here h) ∙ nothing-plus (instructions 1)
 
 -- ---- links: at most `left` more, with c next, and a is the sum of those passed
 
@@ -212,24 +213,26 @@ module _ (s : List ℕ) (t : Rec) (j : ℕ) where
 
 -- ---- nodes
 
-module _ (levels : ℕ) (s : List ℕ) (j : ℕ) where
-  pub tally-none : levels ≡ 0 → instructions 1 ≡ capped (tally levels s j)
-  unfolding tally
+module _ (here : ℕ → Bool) (levels : ℕ) (s : List ℕ) (j : ℕ) where
+  pub tally-none : levels ≡ 0 → instructions 1 ≡ capped (tallyBy here levels s j)
+  unfolding tallyBy
   tally-none h = rw h (sym one-capped)
 
-  tally-some : (levels ≡ 0 → ⊥) → tally levels s j ≡ follow (plan s j) s (tally (levels - 1) s) j
-  unfolding tally
-  tally-some h = let e : levels ≡ suc (levels - 1) = omega arith in ap (λ n. tally n s j) e
+  tally-some : (levels ≡ 0 → ⊥) → tallyBy here levels s j ≡ follow (plan here s j) s (tallyBy here (levels - 1) s) j
+  unfolding tallyBy
+  tally-some h = let e : levels ≡ suc (levels - 1) = omega arith in ap (λ n. tallyBy here n s j) e
 
-  pub tally-parts : (gap n from : ℕ) (rest : Tally) → (levels ≡ 0 → ⊥) → plan s j ≡ Parts gap n from rest
-      → capped (plus (capped (siblings s (tally (levels - 1) s) gap n from)) rest) ≡ capped (tally levels s j)
+  pub tally-parts : (gap n from : ℕ) (rest : Tally) → (levels ≡ 0 → ⊥) → plan here s j ≡ Parts gap n from rest
+      → capped (plus (capped (siblings s (tallyBy here (levels - 1) s) gap n from)) rest) ≡ capped (tallyBy here levels s j)
   unfolding follow
-  tally-parts gap n from rest h p = rw (tally-some h, p) (capped-left (siblings s (tally (levels - 1) s) gap n from) rest)
+  tally-parts gap n from rest h p = rw (tally-some h, p) (capped-left (siblings s (tallyBy here (levels - 1) s) gap n from) rest)
 
-  pub tally-coalesce : (levels ≡ 0 → ⊥) → plan s j ≡ Coalesce → capped (coalesce s (tally (levels - 1) s) j) ≡ capped (tally levels s j)
+  pub tally-coalesce : (levels ≡ 0 → ⊥) → plan here s j ≡ Coalesce
+      → capped (coalesce s (tallyBy here (levels - 1) s) j) ≡ capped (tallyBy here levels s j)
   unfolding follow
   tally-coalesce h p = rw (tally-some h, p)
 
-  pub tally-chain : (levels ≡ 0 → ⊥) → plan s j ≡ Chain → capped (chain s (tally (levels - 1) s) j) ≡ capped (tally levels s j)
+  pub tally-chain : (levels ≡ 0 → ⊥) → plan here s j ≡ Chain
+      → capped (chain s (tallyBy here (levels - 1) s) j) ≡ capped (tallyBy here levels s j)
   unfolding follow
   tally-chain h p = rw (tally-some h, p)

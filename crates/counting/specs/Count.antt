@@ -1,5 +1,6 @@
 -- The tally of a node: by its plan, with the tallies of its operands.
 use Prim.Native.Nat.{ℕ, zero, suc, _-_}
+use mathlib.Core.Bool.{Bool}
 use mathlib.Core.List.{List, [], _∷_}
 use Rattle.sheet.specs.Limits.{maxDepth}
 use Rattle.sheet.specs.Node.{count, child, next}
@@ -11,6 +12,7 @@ use Rattle.counting.specs.declared.plans.Plan.the-variants.{Parts, Coale
 use Rattle.counting.specs.declared.links.Link.{Link}
 use Rattle.counting.specs.declared.links.Link.the-variants.{Lowers, Fails, Nowhere}
 use Rattle.counting.specs.Tally.{instructions, nothing, plus, takenBack}
+use Rattle.counting.specs.Locals.{isLocal}
 use Rattle.counting.specs.Plan.{plan}
 use Rattle.counting.specs.Link.{link, least, temporary}
 
@@ -54,7 +56,11 @@ follow (Parts gap n from rest) s rec j = plus (siblings s rec gap n from) rest
 follow Coalesce s rec j = coalesce s rec j
 follow Chain s rec j = chain s rec j
 
--- with that many levels left, as the lowering has them
-unfoldable pub tally : ℕ → List ℕ → ℕ → Tally
-tally zero s j = instructions 1
-tally (suc levels) s j = follow (plan s j) s (tally levels s) j
+-- with that many levels left, as the lowering has them; `here` says of a Variable whether it is a local
+unfoldable pub tallyBy : (ℕ → Bool) → ℕ → List ℕ → ℕ → Tally
+tallyBy here zero s j = instructions 1
+tallyBy here (suc levels) s j = follow (plan here s j) s (tallyBy here levels s) j
+
+-- by the definition's own locals
+abbrev pub tally : ℕ → List ℕ → ℕ → Tally
+tally levels s j = tallyBy (isLocal s) levels s j

@@ -8,15 +8,17 @@ use Rattle.lowering.specs.Pools.{Pools}
 use Rattle.lowering.specs.Out.{Rec}
 use Rattle.lowering.specs.Expression.{Rule, rule, byRule, expression}
 use Rattle.lowering.specs.Expression as Expression
+use Rattle.counting.specs.Locals.{isLocal}
 use Rattle.counting.specs.Plan.{planBy, plan}
-use Rattle.counting.specs.Count.{follow, tally}
+use Rattle.counting.specs.Count.{follow, tallyBy, tally}
 use Rattle.counting.specs.Count as Count
 use Rattle.counting.specs.Adds.{OutAdds, Counts}
 use Rattle.counting.specs.PlanAdds.{alone-plan, residual-adds, boolean-adds, unit-adds, constant-adds, variable-adds, this-adds, array-adds, interpolated-adds, short-adds, coalesce-adds}
 use Rattle.counting.specs.CallAdds.{call-adds}
 use Rattle.counting.specs.ChainAdds.{chain-adds}
 
-rule-adds : (s : List ℕ) (rec : Rec) (t : Count.Rec) → Counts rec t → (r : Rule) (j b d : ℕ) (p : Pools) → OutAdds p (follow (planBy r s j) s t j) (byRule r s rec j b d p)
+rule-adds : (s : List ℕ) (rec : Rec) (t : Count.Rec) → Counts rec t → (r : Rule) (j b d : ℕ) (p : Pools)
+    → OutAdds p (follow (planBy (isLocal s) r s j) s t j) (byRule r s rec j b d p)
 unfolding planBy follow byRule
 rule-adds s rec t C Expression.boolean j b d p = boolean-adds s t j d p
 rule-adds s rec t C Expression.unit j b d p = unit-adds s t j d p
@@ -34,7 +36,7 @@ rule-adds s rec t C Expression.residual j b d p = alone-plan s t j (residual-add
 
 -- the tally of every node, with any number of levels
 pub tally-counts : (levels : ℕ) (s : List ℕ) → Counts (expression levels s) (tally levels s)
-unfolding tally expression plan
+unfolding tallyBy expression plan
 tally-counts zero s = record { each = λ j b d p. residual-adds j d p }
 tally-counts (suc levels) s =
     record { each = λ j b d p. rule-adds s (expression levels s) (tally levels s) (tally-counts levels s) (rule s j) j b d p }

@@ -1,9 +1,11 @@
 pub mod Limits
 pub mod Tally
 pub mod TallyLaws
+pub mod Locals
 pub mod Plan
 pub mod Link
 pub mod PlanLaws
+pub mod LocalLaws
 pub mod LinkLaws
 pub mod Count
 pub mod CodeLaws

@@ -1,12 +1,13 @@
 -- What of a node is counted, construct by construct: siblings with a gap behind each of them, and instructions besides. Each plan stands
--- beside the lowering's definition of the same construct. A plan goes by the node alone, and not down into its operands.
+-- beside the lowering's definition of the same construct. A plan goes by the node alone, and not down into its operands. `here` says of a
+-- Variable whether it is a local.
 use Prim.Native.Nat.{ℕ, _+_, _-_}
 use mathlib.Core.Bool.{Bool, true, false, _&&_, _||_}
 use mathlib.Core.List.{List}
 use lib.Dec.{leb, eqb}
 use Rattle.sheet.specs.Node.{count, child, next}
 use Rattle.lowering.specs.Limits.{maxElements}
-use Rattle.lowering.specs.Call.{CallRule, fnPtr, fnPtrCall, lowerable, eval, callRule, First, local, named, receiver}
+use Rattle.lowering.specs.Call.{CallRule, fnPtr, fnPtrCall, lowerable, eval, callRule, First, local, named}
 use Rattle.lowering.specs.Call as Call
 use Rattle.lowering.specs.Expression as Expression
 use Rattle.lowering.specs.Expression.{Rule, rule}
@@ -14,6 +15,7 @@ use Rattle.counting.specs.declared.tallies.Tally.{Tally}
 use Rattle.counting.specs.declared.plans.Plan.{Plan}
 use Rattle.counting.specs.declared.plans.Plan.the-variants.{Parts, Coalesce, Chain}
 use Rattle.counting.specs.Tally.{instructions, evaluation}
+use Rattle.counting.specs.Locals.{receiverBy}
 
 -- a node without operands: its value is one instruction, and so is a residual
 abbrev pub alone : Tally → Plan
@@ -62,30 +64,30 @@ callBy named s j = otherArgs s j (2 + rotates (count s j - 1))
 callBy Call.this s j = otherArgs s j 2
 callBy Call.value s j = allArgs s j
 
-unfoldable pub fnCallBy : CallRule → List ℕ → ℕ → Plan
-fnCallBy fnPtr s j = makeFnPtr j
-fnCallBy fnPtrCall s j = allArgs s j
-fnCallBy lowerable s j = callBy (receiver s j) s j
-fnCallBy eval s j = alone evaluation
-fnCallBy Call.residual s j = one
+unfoldable pub fnCallBy : (ℕ → Bool) → CallRule → List ℕ → ℕ → Plan
+fnCallBy here fnPtr s j = makeFnPtr j
+fnCallBy here fnPtrCall s j = allArgs s j
+fnCallBy here lowerable s j = callBy (receiverBy here s j) s j
+fnCallBy here eval s j = alone evaluation
+fnCallBy here Call.residual s j = one
 
-unfoldable pub fnCall : List ℕ → ℕ → Plan
-fnCall s j = fnCallBy (callRule s j) s j
+unfoldable pub fnCall : (ℕ → Bool) → List ℕ → ℕ → Plan
+fnCall here s j = fnCallBy here (callRule s j) s j
 
-unfoldable pub planBy : Rule → List ℕ → ℕ → Plan
-planBy Expression.boolean s j = one
-planBy Expression.unit s j = one
-planBy Expression.constant s j = one
-planBy Expression.interpolated s j = interpolated s j
-planBy Expression.array s j = array s j
-planBy Expression.variable s j = one
-planBy Expression.this s j = one
-planBy Expression.fnCall s j = fnCall s j
-planBy Expression.chain s j = Chain
-planBy Expression.and s j = shortCircuit s j
-planBy Expression.or s j = shortCircuit s j
-planBy Expression.coalesce s j = Coalesce
-planBy Expression.residual s j = one
+unfoldable pub planBy : (ℕ → Bool) → Rule → List ℕ → ℕ → Plan
+planBy here Expression.boolean s j = one
+planBy here Expression.unit s j = one
+planBy here Expression.constant s j = one
+planBy here Expression.interpolated s j = interpolated s j
+planBy here Expression.array s j = array s j
+planBy here Expression.variable s j = one
+planBy here Expression.this s j = one
+planBy here Expression.fnCall s j = fnCall here s j
+planBy here Expression.chain s j = Chain
+planBy here Expression.and s j = shortCircuit s j
+planBy here Expression.or s j = shortCircuit s j
+planBy here Expression.coalesce s j = Coalesce
+planBy here Expression.residual s j = one
 
-unfoldable pub plan : List ℕ → ℕ → Plan
-plan s j = planBy (rule s j) s j
+unfoldable pub plan : (ℕ → Bool) → List ℕ → ℕ → Plan
+plan here s j = planBy here (rule s j) s j

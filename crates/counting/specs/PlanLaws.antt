@@ -9,7 +9,7 @@ use lib.ListN.{getD}
 use borrow.Author.Tests.{eq-eqb, ne-eqb, le-leb, lt-leb}
 use Rattle.sheet.specs.Node.{kind, count, child}
 use Rattle.lowering.specs.Limits.{maxElements}
-use Rattle.lowering.specs.Call.{callRule, receiver}
+use Rattle.lowering.specs.Call.{callRule}
 use Rattle.lowering.specs.Expression.{rules, rule, residual}
 use Rattle.lowering.specs.Flatten as Flatten
 use Rattle.lowering.specs.Flatten.{operandOf, stepRule}
@@ -23,6 +23,7 @@ use Rattle.rules.specs.Inverse.{ruleFrom, callRuleFrom, firstFrom, stepRuleFrom
 use Rattle.counting.specs.declared.plans.Plan.the-variants.{Parts}
 use Rattle.counting.specs.declared.links.Link.the-variants.{Lowers, Fails}
 use Rattle.counting.specs.Tally.{instructions}
+use Rattle.counting.specs.Locals.{receiverBy}
 use Rattle.counting.specs.Plan.{one, isLeaf, array, rotates, callBy, fnCallBy, fnCall, planBy, plan}
 use Rattle.counting.specs.Link.{linkBy, link, temporary}
 
@@ -32,37 +33,39 @@ leaf-large k h =
     rw (le-leb 1 k (omega arith), lt-leb k 6 (omega arith), ne-eqb k 9 (λ e. omega arith), ne-eqb k 10 (λ e. omega arith)) refl
 
 -- a leaf's plan, kind by kind
-leaf-at : (s : List ℕ) (j k : ℕ) → isLeaf k ≡ true → planBy (getD rules k residual) s j ≡ one
+leaf-at : (here : ℕ → Bool) (s : List ℕ) (j k : ℕ) → isLeaf k ≡ true → planBy here (getD rules k residual) s j ≡ one
 unfolding isLeaf rules planBy
-leaf-at s j zero h = absurd (false≢true h)
-leaf-at s j (suc zero) h = refl
-leaf-at s j (suc (suc zero)) h = refl
-leaf-at s j (suc (suc (suc zero))) h = refl
-leaf-at s j (suc (suc (suc (suc zero)))) h = refl
-leaf-at s j (suc (suc (suc (suc (suc zero))))) h = refl
-leaf-at s j (suc (suc (suc (suc (suc (suc zero)))))) h = refl
-leaf-at s j (suc (suc (suc (suc (suc (suc (suc zero))))))) h = absurd (false≢true h)
-leaf-at s j (suc (suc (suc (suc (suc (suc (suc (suc zero)))))))) h = absurd (false≢true h)
-leaf-at s j (suc (suc (suc (suc (suc (suc (suc (suc (suc zero))))))))) h = refl
-leaf-at s j (suc (suc (suc (suc (suc (suc (suc (suc (suc (suc zero)))))))))) h = refl
-leaf-at s j (suc (suc (suc (suc (suc (suc (suc (suc (suc (suc (suc k))))))))))) h =
+leaf-at here s j zero h = absurd (false≢true h)
+leaf-at here s j (suc zero) h = refl
+leaf-at here s j (suc (suc zero)) h = refl
+leaf-at here s j (suc (suc (suc zero))) h = refl
+leaf-at here s j (suc (suc (suc (suc zero)))) h = refl
+leaf-at here s j (suc (suc (suc (suc (suc zero))))) h = refl
+leaf-at here s j (suc (suc (suc (suc (suc (suc zero)))))) h = refl
+leaf-at here s j (suc (suc (suc (suc (suc (suc (suc zero))))))) h = absurd (false≢true h)
+leaf-at here s j (suc (suc (suc (suc (suc (suc (suc (suc zero)))))))) h = absurd (false≢true h)
+leaf-at here s j (suc (suc (suc (suc (suc (suc (suc (suc (suc zero))))))))) h = refl
+leaf-at here s j (suc (suc (suc (suc (suc (suc (suc (suc (suc (suc zero)))))))))) h = refl
+leaf-at here s j (suc (suc (suc (suc (suc (suc (suc (suc (suc (suc (suc k))))))))))) h =
     absurd (false≢true (sym (leaf-large (suc (suc (suc (suc (suc (suc (suc (suc (suc (suc (suc k))))))))))) (omega arith)) ∙ h))
 
 module _ (s : List ℕ) (j : ℕ) where
-  pub leaf-plan : isLeaf (kind s j) ≡ true → plan s j ≡ one
-  unfolding plan rule
-  leaf-plan h = leaf-at s j (kind s j) h
+  module _ (here : ℕ → Bool) where
+    pub leaf-plan : isLeaf (kind s j) ≡ true → plan here s j ≡ one
+    unfolding plan rule
+    leaf-plan h = leaf-at here s j (kind s j) h
 
-  pub plan-at : (k : Kinds.Rule) → ruleOf (rule s j) ≡ k → planBy (ruleFrom k) s j ≡ plan s j
-  unfolding plan
-  plan-at k h = ap (λ r. planBy r s j) (rule-is (rule s j) k h)
+    pub plan-at : (k : Kinds.Rule) → ruleOf (rule s j) ≡ k → planBy here (ruleFrom k) s j ≡ plan here s j
+    unfolding plan
+    plan-at k h = ap (λ r. planBy here r s j) (rule-is (rule s j) k h)
 
-  pub fn-call-at : (k : Calls.CallRule) → callRuleOf (callRule s j) ≡ k → fnCallBy (callRuleFrom k) s j ≡ fnCall s j
-  unfolding fnCall
-  fn-call-at k h = ap (λ r. fnCallBy r s j) (call-is (callRule s j) k h)
+    pub fn-call-at : (k : Calls.CallRule) → callRuleOf (callRule s j) ≡ k → fnCallBy here (callRuleFrom k) s j ≡ fnCall here s j
+    unfolding fnCall
+    fn-call-at k h = ap (λ r. fnCallBy here r s j) (call-is (callRule s j) k h)
 
-  pub call-at : (k : Firsts.First) → firstOf (receiver s j) ≡ k → callBy (firstFrom k) s j ≡ callBy (receiver s j) s j
-  call-at k h = ap (λ f. callBy f s j) (first-is (receiver s j) k h)
+    pub call-at : (k : Firsts.First) → firstOf (receiverBy here s j) ≡ k
+        → callBy (firstFrom k) s j ≡ callBy (receiverBy here s j) s j
+    call-at k h = ap (λ f. callBy f s j) (first-is (receiverBy here s j) k h)
 
   pub array-few : count s j ≤ maxElements → Parts 1 (count s j) (child j) (instructions 1) ≡ array s j
   unfolding array

@@ -1,13 +1,17 @@
 // How many instructions the lowering of a node gives, how many it emits, and whether it reaches an `eval`, found without lowering it.
-// Each node of a checked sheet is visited once.
+// Each node of a checked sheet is visited once. `told` says which Variables are locals (locals.rt).
 ghost use mathlib.Core.Path.{_≡_};
 ghost use Prim.Native.Nat.{_-_};
 ghost use Rattle.sheet.specs.Limits.{maxDepth};
 ghost use Rattle.lowering.specs.Flatten.{links};
+ghost use mathlib.Core.Bool.{true, false};
 ghost use Rattle.counting.specs.Tally.{capped};
+ghost use Rattle.counting.specs.Locals.{answer};
+ghost use Rattle.counting.specs.Link as linked;
 ghost use Rattle.counting.specs.Count as counts;
 
 pub mod links;
+pub mod locals;
 pub mod plans;
 pub mod tallies;
 
@@ -36,8 +40,9 @@ use tallies::spaced;
 use tallies::taken_back;
 
 // `n` siblings from node `from` on, each with `gap` instructions behind it, with `levels` levels each. Leaves are counted without a call.
-fn siblings(levels: u32, s: &[u8], gap: u32, n: u32, from: u32) -> Tally
-    ensures { λ r. ⌜ r ≡ capped (counts.siblings (now (s .entry)) (counts.tally levels (now (s .entry))) gap n from) ⌝ }
+fn siblings(levels: u32, s: &[u8], told: &[u32], gap: u32, n: u32, from: u32) -> Tally
+    ensures { λ r. let sheet = now (s .entry) in let t = counts.tallyBy (answer (now (told .entry)) sheet) levels sheet in ⌜
+        r ≡ capped (counts.siblings sheet t gap n from) ⌝ }
 {
     if n == 0 {
         return nothing();
@@ -52,7 +57,7 @@ fn siblings(levels: u32, s: &[u8], gap: u32, n: u32, from: u32) -> Tally
             j = next(s, j);
             i += 1;
         } else {
-            sum = plus(sum, tally(levels, s, j));
+            sum = plus(sum, tally(levels, s, told, j));
             j = next(s, j);
             i += 1;
         }
@@ -61,19 +66,27 @@ fn siblings(levels: u32, s: &[u8], gap: u32, n: u32, from: u32) -> Tally
 }
 
 // Coalesce: two instructions behind each operand but the last.
-fn coalesce(levels: u32, s: &[u8], j: u32) -> Tally
-    ensures { λ r. ⌜ r ≡ capped (counts.coalesce (now (s .entry)) (counts.tally levels (now (s .entry))) j) ⌝ }
+fn coalesce(levels: u32, s: &[u8], told: &[u32], j: u32) -> Tally
+    ensures { λ r. let sheet = now (s .entry) in let t = counts.tallyBy (answer (now (told .entry)) sheet) levels sheet in ⌜
+        r ≡ capped (counts.coalesce sheet t j) ⌝ }
 {
     let n = one_less(count(s, j));
     let first = child(j);
-    let others = siblings(levels, s, 2, n, first);
-    plus(others, tally(levels, s, skip(s, n, first)))
+    let others = siblings(levels, s, told, 2, n, first);
+    plus(others, tally(levels, s, told, skip(s, n, first)))
 }
 
-// The operands of a chain's links, up to one that does not lower.
-fn walk(levels: u32, s: &[u8], j: u32) -> Tally
-    ensures { λ r. ⌜
-        r ≡ capped (counts.walk (now (s .entry)) (counts.tally levels (now (s .entry))) (links maxDepth (now (s .entry)) j)) ⌝ }
+// The operands of a chain's links, up to one that does not lower, and how far the chain comes with all its links (links::reach).
+struct Walked {
+    sum: Tally,
+    far: u32,
+}
+
+// The links of chain `j`. Where all of them lower, they are read once.
+fn walk(levels: u32, s: &[u8], told: &[u32], j: u32) -> Walked
+    ensures { λ r. let sheet = now (s .entry) in let t = counts.tallyBy (answer (now (told .entry)) sheet) levels sheet in ⌜
+        r .sum ≡ capped (counts.walk sheet t (links maxDepth sheet j)) ⌝ }
+    ensures { λ r. let sheet = now (s .entry) in ⌜ r .far ≡ linked.least sheet (links maxDepth sheet j) ⌝ }
 {
     let mut sum = nothing();
     let mut left = MAX_DEPTH;
@@ -82,52 +95,83 @@ fn walk(levels: u32, s: &[u8], j: u32) -> Tally
         let l = link_of(s, c);
         match l {
             Link::Lowers { n, from } => {
-                sum = plus(sum, siblings(levels, s, 0, n, from));
+                sum = plus(sum, siblings(levels, s, told, 0, n, from));
                 if goes_on(s, c) {
                     c = rest_of(s, c);
                     left -= 1;
                 } else {
-                    return sum;
+                    return Walked { sum, far: 2 };
                 }
             }
-            Link::Fails => return sum,
-            Link::Nowhere => return sum,
+            Link::Fails => {
+                let far = reach(s, j);
+                return Walked { sum, far };
+            }
+            Link::Nowhere => return Walked { sum, far: 0 },
         }
     }
-    sum
+    Walked { sum, far: 2 }
 }
 
 // Dot, Index: a residual; a residual, with its code taken back; or operands, root and Chain.
-fn chain(levels: u32, s: &[u8], j: u32) -> Tally
-    ensures { λ r. ⌜ r ≡ capped (counts.chain (now (s .entry)) (counts.tally levels (now (s .entry))) j) ⌝ }
+fn chain(levels: u32, s: &[u8], told: &[u32], j: u32) -> Tally
+    ensures { λ r. let sheet = now (s .entry) in let t = counts.tallyBy (answer (now (told .entry)) sheet) levels sheet in ⌜
+        r ≡ capped (counts.chain sheet t j) ⌝ }
 {
     if is_plain(s, j) {
         return instructions(1);
     }
-    let far = reach(s, j);
-    if far == 0 {
+    let w = walk(levels, s, told, j);
+    let operands = w.sum;
+    if w.far == 0 {
         return instructions(1);
     }
-    let operands = walk(levels, s, j);
-    if far == 1 {
+    if w.far == 1 {
         return plus(taken_back(operands), instructions(1));
     }
     let root = child(j);
-    let lowered = siblings(levels, s, 0, temporary(s, root), root);
+    let lowered = siblings(levels, s, told, 0, temporary(s, root), root);
     plus(plus(operands, lowered), instructions(1))
 }
 
 // The tally of node `j`, with that many levels left.
-pub fn tally(levels: u32, s: &[u8], j: u32) -> Tally
-    ensures { λ r. ⌜ r ≡ capped (counts.tally levels (now (s .entry)) j) ⌝ }
+pub fn tally(levels: u32, s: &[u8], told: &[u32], j: u32) -> Tally
+    ensures { λ r. let sheet = now (s .entry) in ⌜ r ≡ capped (counts.tallyBy (answer (now (told .entry)) sheet) levels sheet j) ⌝ }
 {
     if levels == 0 {
         return instructions(1);
     }
-    let by = plan_of(s, j);
+    let by = plan_of(s, told, j);
     match by {
-        Plan::Parts { gap, n, from, rest } => plus(siblings(levels - 1, s, gap, n, from), rest),
-        Plan::Coalesce => coalesce(levels - 1, s, j),
-        Plan::Chain => chain(levels - 1, s, j),
+        Plan::Parts { gap, n, from, rest } => plus(
+            siblings(levels - 1, s, told, gap, n, from),
+            rest,
+        ),
+        Plan::Coalesce => coalesce(levels - 1, s, told, j),
+        Plan::Chain => chain(levels - 1, s, told, j),
     }
+}
+
+// The tally of node `j`, with that many levels left: each receiver is looked up among the locals.
+pub fn exact(levels: u32, s: &[u8], j: u32) -> Tally
+    ensures { λ r. ⌜ r ≡ capped (counts.tally levels (now (s .entry)) j) ⌝ }
+{
+    let none = [0u32; 0];
+    tally(levels, s, &none[..], j)
+}
+
+// The tally of node `j` where every Variable is a local: no count by any locals is less.
+pub fn least(levels: u32, s: &[u8], j: u32) -> Tally
+    ensures { λ r. ⌜ r ≡ capped (counts.tallyBy (λ v. true) levels (now (s .entry)) j) ⌝ }
+{
+    let all = [1u32; 1];
+    tally(levels, s, &all[..], j)
+}
+
+// The tally of node `j` where no Variable is a local: no count by any locals is greater.
+pub fn greatest(levels: u32, s: &[u8], j: u32) -> Tally
+    ensures { λ r. ⌜ r ≡ capped (counts.tallyBy (λ v. false) levels (now (s .entry)) j) ⌝ }
+{
+    let none = [0u32; 1];
+    tally(levels, s, &none[..], j)
 }

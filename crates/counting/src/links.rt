@@ -1,15 +1,16 @@
 // What of a chain's links is counted.
 ghost use mathlib.Core.Path.{_≡_};
-ghost use Prim.Native.Nat.{min};
+ghost use Prim.Native.Nat.{ℕ, min};
 ghost use Rattle.sheet.specs.Limits.{maxDepth};
 ghost use Rattle.lowering.specs.Flatten as chains;
+ghost use Rattle.rules.specs.Reads.{Reads};
 ghost use Rattle.counting.specs.Link as linked;
+use rules::chains::Read;
 use rules::chains::StepRule;
 use rules::chains::goes_on;
 use rules::chains::is_lowerable_method;
-use rules::chains::operand_of;
+use rules::chains::read_link;
 use rules::chains::rest_of;
-use rules::chains::step_rule;
 use rules::kinds::DOT;
 use rules::kinds::PROPERTY;
 use rules::kinds::THIS;
@@ -39,18 +40,25 @@ fn method(s: &[u8], x: u32) -> Link
     Link::Fails
 }
 
-// What of link `c` is counted.
-pub fn link_of(s: &[u8], c: u32) -> Link
-    ensures { λ r. ⌜ r ≡ linked.link (now (s .entry)) c ⌝ }
+// What of a link is counted, which says `p`.
+pub fn link_with(s: &[u8], p: Read) -> Link
+    ensures { λ r. let sheet = now (s .entry) in ⌜ ((c : ℕ) → Reads sheet c p → r ≡ linked.link sheet c) ⌝ }
 {
-    let x = operand_of(s, c);
-    let by = step_rule(s, c);
+    let by = p.rule;
+    let x = p.with;
     match by {
         StepRule::Index => Link::Lowers { n: 1, from: x },
         StepRule::Property => Link::Lowers { n: 0, from: x },
         StepRule::Method => method(s, x),
         StepRule::Nothing => Link::Nowhere,
     }
+}
+
+// What of link `c` is counted.
+pub fn link_of(s: &[u8], c: u32) -> Link
+    ensures { λ r. ⌜ r ≡ linked.link (now (s .entry)) c ⌝ }
+{
+    link_with(s, read_link(s, c))
 }
 
 // How far a chain comes with a link.
@@ -79,9 +87,10 @@ pub fn reach(s: &[u8], j: u32) -> u32
     let mut left = MAX_DEPTH;
     let mut c = j;
     while 0 < left {
-        least = lesser(least, grade(link_of(s, c)));
-        if goes_on(s, c) {
-            c = rest_of(s, c);
+        let p = read_link(s, c);
+        least = lesser(least, grade(link_with(s, p)));
+        if p.on {
+            c = p.rest;
             left -= 1;
         } else {
             return least;

@@ -1,8 +1,9 @@
 // What of a node is counted, construct by construct.
 ghost use mathlib.Core.Path.{_≡_};
 ghost use Prim.Native.Nat.{_-_};
-ghost use Rattle.lowering.specs.Call as calls;
+ghost use Rattle.counting.specs.Locals.{answer, receiverBy};
 ghost use Rattle.counting.specs.Plan as plans;
+use crate::locals::receiver_by;
 use crate::tallies::Tally;
 use crate::tallies::evaluation;
 use crate::tallies::instructions;
@@ -10,7 +11,6 @@ use lowering::MAX_ELEMENTS;
 use rules::calls::CallRule;
 use rules::calls::First;
 use rules::calls::call_rule;
-use rules::calls::receiver;
 use rules::kinds::Rule;
 use rules::rule;
 use sheet::child;
@@ -146,10 +146,10 @@ fn rotates(others: u32) -> u32
 }
 
 // A call through its receiver: CallRef; LoadNamed, Rotate, CallRef; LoadThis, CallRef; or Call.
-fn call(s: &[u8], j: u32) -> Plan
-    ensures { λ r. ⌜ r ≡ plans.callBy (calls.receiver (now (s .entry)) j) (now (s .entry)) j ⌝ }
+fn call(s: &[u8], told: &[u32], j: u32) -> Plan
+    ensures { λ r. let sheet = now (s .entry) in ⌜ r ≡ plans.callBy (receiverBy (answer (now (told .entry)) sheet) sheet j) sheet j ⌝ }
 {
-    let first = receiver(s, j);
+    let first = receiver_by(s, told, j);
     match first {
         First::Local(_) => other_args(s, j, 1),
         First::Named => other_args(s, j, 2 + rotates(one_less(count(s, j)))),
@@ -159,22 +159,22 @@ fn call(s: &[u8], j: u32) -> Plan
 }
 
 // FnCall.
-fn fn_call(s: &[u8], j: u32) -> Plan
-    ensures { λ r. ⌜ r ≡ plans.fnCall (now (s .entry)) j ⌝ }
+fn fn_call(s: &[u8], told: &[u32], j: u32) -> Plan
+    ensures { λ r. let sheet = now (s .entry) in ⌜ r ≡ plans.fnCall (answer (now (told .entry)) sheet) sheet j ⌝ }
 {
     let by = call_rule(s, j);
     match by {
         CallRule::FnPtr => make_fn_ptr(j),
         CallRule::FnPtrCall => all_args(s, j),
-        CallRule::Lowerable => call(s, j),
+        CallRule::Lowerable => call(s, told, j),
         CallRule::Eval => alone(evaluation()),
         CallRule::Residual => one(),
     }
 }
 
 // What of node `j` is counted.
-pub fn plan_of(s: &[u8], j: u32) -> Plan
-    ensures { λ r. ⌜ r ≡ plans.plan (now (s .entry)) j ⌝ }
+pub fn plan_of(s: &[u8], told: &[u32], j: u32) -> Plan
+    ensures { λ r. let sheet = now (s .entry) in ⌜ r ≡ plans.plan (answer (now (told .entry)) sheet) sheet j ⌝ }
 {
     let by = rule(s, j);
     match by {
@@ -185,7 +185,7 @@ pub fn plan_of(s: &[u8], j: u32) -> Plan
         Rule::Array => array(s, j),
         Rule::Variable => one(),
         Rule::This => one(),
-        Rule::FnCall => fn_call(s, j),
+        Rule::FnCall => fn_call(s, told, j),
         Rule::Chain => Plan::Chain,
         Rule::And => short_circuit(s, j),
         Rule::Or => short_circuit(s, j),

@@ -24,6 +24,7 @@ use Rattle.switching.specs.NodeLaws.{all-place, lists-place, case-lists, range-
 use Rattle.switching.specs.SameLaws.{AllIn}
 use Rattle.totals.specs.Total as total
 use Rattle.compile.specs.Doing.{does-at}
+use Rattle.counting.specs.Count.{tally}
 use Rattle.tables.specs.Columns.{cell, column, guardNodeAt, caseHeadsAt, headNodeAt, runHeadsAt, runHeadAt, guardAt as kindsAt}
 use Rattle.tables.specs.Heads.{caseKey}
 use Rattle.tables.specs.Table.{Known, Guards, pieceIn}
@@ -72,7 +73,7 @@ module _ {s : List ℕ} {l : Layout} {ws xs : List ℕ} {st q : State} {t : List
     below = rw k-is (all-place (λ k. k < blockCount s) ks (N .each) i lt)
 
     guard : guardAt s ks i ≡ guardBy v
-    guard = guard-is s (guardOf s (getD ks i 0)) v (v-is ∙ ap (λ (x : Known). x .kind) (T .known k below) ∙ rw k-is)
+    guard = guard-is s (tally maxDepth s) (guardOf s (getD ks i 0)) v (v-is ∙ ap (λ (x : Known). x .kind) (T .known k below) ∙ rw k-is)
 
     pub arm-pass : v ≡ 0 → ArmLeft s l ws st t fallback drops ks xs q any (i + 1)
     arm-pass h = record {

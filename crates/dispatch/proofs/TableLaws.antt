@@ -21,6 +21,7 @@ use Rattle.totals.specs.Arms.{hasTry, endOf}
 use Rattle.totals.specs.Total.{caseLists}
 use Rattle.tables.specs.Columns.{cell, wantedAt, caseExitAt}
 use Rattle.tables.specs.Listed.{Listed}
+use Rattle.counting.specs.Count.{Rec}
 use Rattle.tables.specs.Table.{triedKind, knownBy, knownOf}
 use Rattle.tables.specs.Planned.{exitBy, wantIn, Placed}
 use Rattle.dispatch.specs.Parts.{chainIn}
@@ -38,9 +39,9 @@ kind-says never a = refl
 kind-says always a = refl
 kind-says tried a = cases (a .defeated) (λ e. rw e) (λ e. rw e)
 
-pub guard-is : (s : List ℕ) (g v : ℕ) → v ≡ knownOf s g .kind → guardKind s g ≡ guardBy v
+pub guard-is : (s : List ℕ) (t : Rec) (g v : ℕ) → v ≡ knownOf s t g .kind → guardKind s g ≡ guardBy v
 unfolding knownOf
-guard-is s g v e = rw e (kind-says (guardKind s g) _)
+guard-is s t g v e = rw e (kind-says (guardKind s g) _)
 
 pub guard-tried : (v : ℕ) → (v ≡ 0 → ⊥) → (v ≡ 1 → ⊥) → guardBy v ≡ tried
 guard-tried zero h g = absurd (h refl)

@@ -9,7 +9,7 @@ use Rattle.sheet.specs.Limits.{maxDepth}
 use Rattle.sheet.specs.Node.{count, child, next}
 use Rattle.sheet.specs.Walk.{skip}
 use Rattle.lowering.specs.Limits.{maxElements}
-use Rattle.lowering.specs.Call.{CallRule, First, callRule, receiver}
+use Rattle.lowering.specs.Call.{CallRule, First, callRule}
 use Rattle.lowering.specs.Call as Call
 use Rattle.lowering.specs.Flatten.{links}
 use Rattle.lowering.specs.Expression.{Rule, rule}
@@ -19,10 +19,11 @@ use Rattle.counting.specs.declared.plans.Plan.{Plan}
 use Rattle.counting.specs.declared.plans.Plan.the-variants.{Parts, Coalesce, Chain}
 use Rattle.counting.specs.declared.links.Link as Links
 use Rattle.counting.specs.Tally.{instructions, nothing, evaluation, plus, takenBack}
+use Rattle.counting.specs.Locals.{isLocal, receiverBy}
 use Rattle.counting.specs.Plan as Plan
 use Rattle.counting.specs.Plan.{planBy, plan}
 use Rattle.counting.specs.Link.{link, least, temporary}
-use Rattle.counting.specs.Count.{Rec, siblings, coalesce, walkOn, walk, chainBy, chain, follow, tally}
+use Rattle.counting.specs.Count.{Rec, siblings, coalesce, walkOn, walk, chainBy, chain, follow, tallyBy, tally}
 
 -- the tally of code that is not taken back, and the instructions besides the operands
 abbrev Within : Tally → Type 0
@@ -48,29 +49,29 @@ first-some s j Call.named = omega arith
 first-some s j Call.this = omega arith
 first-some s j Call.value = omega arith
 
-call-some : (s : List ℕ) (j : ℕ) (r : CallRule) → Some (Plan.fnCallBy r s j)
+call-some : (here : ℕ → Bool) (s : List ℕ) (j : ℕ) (r : CallRule) → Some (Plan.fnCallBy here r s j)
 unfolding Plan.fnCallBy Plan.makeFnPtr Plan.allArgs instructions evaluation
-call-some s j Call.fnPtr = omega arith
-call-some s j Call.fnPtrCall = omega arith
-call-some s j Call.lowerable = first-some s j (receiver s j)
-call-some s j Call.eval = omega arith
-call-some s j Call.residual = omega arith
+call-some here s j Call.fnPtr = omega arith
+call-some here s j Call.fnPtrCall = omega arith
+call-some here s j Call.lowerable = first-some s j (receiverBy here s j)
+call-some here s j Call.eval = omega arith
+call-some here s j Call.residual = omega arith
 
-plan-some : (s : List ℕ) (j : ℕ) (r : Rule) → Some (planBy r s j)
+plan-some : (here : ℕ → Bool) (s : List ℕ) (j : ℕ) (r : Rule) → Some (planBy here r s j)
 unfolding planBy Plan.interpolated Plan.shortCircuit Plan.fnCall instructions
-plan-some s j Expression.boolean = omega arith
-plan-some s j Expression.unit = omega arith
-plan-some s j Expression.constant = omega arith
-plan-some s j Expression.interpolated = omega arith
-plan-some s j Expression.array = array-some s j
-plan-some s j Expression.variable = omega arith
-plan-some s j Expression.this = omega arith
-plan-some s j Expression.fnCall = call-some s j (callRule s j)
-plan-some s j Expression.chain = tt
-plan-some s j Expression.and = omega arith
-plan-some s j Expression.or = omega arith
-plan-some s j Expression.coalesce = tt
-plan-some s j Expression.residual = omega arith
+plan-some here s j Expression.boolean = omega arith
+plan-some here s j Expression.unit = omega arith
+plan-some here s j Expression.constant = omega arith
+plan-some here s j Expression.interpolated = omega arith
+plan-some here s j Expression.array = array-some s j
+plan-some here s j Expression.variable = omega arith
+plan-some here s j Expression.this = omega arith
+plan-some here s j Expression.fnCall = call-some here s j (callRule s j)
+plan-some here s j Expression.chain = tt
+plan-some here s j Expression.and = omega arith
+plan-some here s j Expression.or = omega arith
+plan-some here s j Expression.coalesce = tt
+plan-some here s j Expression.residual = omega arith
 
 -- sums
 plus-within : (t u : Tally) → Within t → Within u → Within (plus t u)
@@ -124,15 +125,15 @@ follow-some Chain s t j h more fits =
     chain-some (least s ls) (walk s t ls) (siblings s t 0 (temporary s (child j)) (child j))
     (walk-within s t fits ls) (siblings-within s t fits 0 (temporary s (child j)) (child j))
 
-tally-both : (levels : ℕ) (s : List ℕ) (j : ℕ) → (1 ≤ tally levels s j .emitted) × Within (tally levels s j)
-unfolding tally instructions plan
-tally-both zero s j = omega arith
-tally-both (suc levels) s j =
-    follow-some (planBy (rule s j) s j) s (tally levels s) j (plan-some s j (rule s j))
-    (λ i. tally-both levels s i .0) (λ i. tally-both levels s i .1)
+tally-both : (here : ℕ → Bool) (levels : ℕ) (s : List ℕ) (j : ℕ) → (1 ≤ tallyBy here levels s j .emitted) × Within (tallyBy here levels s j)
+unfolding tallyBy instructions plan
+tally-both here zero s j = omega arith
+tally-both here (suc levels) s j =
+    follow-some (planBy here (rule s j) s j) s (tallyBy here levels s) j (plan-some here s j (rule s j))
+    (λ i. tally-both here levels s i .0) (λ i. tally-both here levels s i .1)
 
 pub tally-some : (levels : ℕ) (s : List ℕ) (j : ℕ) → 1 ≤ tally levels s j .emitted
-tally-some levels s j = tally-both levels s j .0
+tally-some levels s j = tally-both (isLocal s) levels s j .0
 
 pub tally-within : (levels : ℕ) (s : List ℕ) (j : ℕ) → tally levels s j .len ≤ tally levels s j .emitted
-tally-within levels s j = tally-both levels s j .1
+tally-within levels s j = tally-both (isLocal s) levels s j .1

@@ -29,23 +29,24 @@ use Rattle.heads.proofs.NumbersLaws.{number-here, number-later, number-
 
 module _ (s : List ℕ) (f : ℕ → ℕ) (fallback : ℕ) (l : List ℕ) where
   target-by : (ms : List (List ℕ)) (b : ℕ) → numberIn l ms < length ms
-      → targetFrom s (tally maxDepth s) f fallback l b ms ≡ listTarget s f fallback (chainPlace s ms b (numberIn l ms)) l
+      → targetFrom s (tally maxDepth s) f fallback l b ms ≡ listTarget s f fallback (chainPlace s (tally maxDepth s) ms b (numberIn l ms)) l
   unfolding targetFrom armsTally nothing instructions plus
   target-by [] b h = absurd (omega arith)
   target-by (m ∷ ms) b h =
       cases (same l m)
       (λ e.
-      let place : chainPlace s (m ∷ ms) b 0 ≡ b = omega arith in
+      let place : chainPlace s (tally maxDepth s) (m ∷ ms) b 0 ≡ b = omega arith in
       rw (number-here l m ms e, place, e, targetFrom) (ap (listTarget s f fallback b) (sym (same-true l m e))))
       (λ e.
       let b′ = b + armTally s (tally maxDepth s) m .len in
-      let place : chainPlace s (m ∷ ms) b (suc (numberIn l ms)) ≡ chainPlace s ms b′ (numberIn l ms) = omega arith in
+      let place : chainPlace s (tally maxDepth s) (m ∷ ms) b (suc (numberIn l ms)) ≡ chainPlace s (tally maxDepth s) ms b′
+      (numberIn l ms) = omega arith in
       rw (number-later l m ms e, place, e, targetFrom) (target-by ms b′ (omega (arith, number-later l m ms e))))
 
   -- the same with the head in place of the list
   target-of-head : (ms : List (List ℕ)) (b : ℕ) → numberIn l ms < length ms
       → targetFrom s (tally maxDepth s) f fallback l b ms
-      ≡ listTarget s f fallback (chainPlace s ms b (numberIn l ms)) (getD ms (numberIn l ms) [])
+      ≡ listTarget s f fallback (chainPlace s (tally maxDepth s) ms b (numberIn l ms)) (getD ms (numberIn l ms) [])
   target-of-head ms b h = rw (number-at l ms h) (target-by ms b h)
 
 -- ---- the rows of both tables
@@ -54,7 +55,7 @@ module _ (s : List ℕ) (es : List Split.Entry) (l : List ℕ) where
   pub case-target-by : numberIn l (caseLists s) < length (caseLists s)
       → caseTarget s (tally maxDepth s) es l
       ≡ listTarget s (bodyPlace s (tally maxDepth s) es) (fallbackPlace s (tally maxDepth s) es (defaultBlock s))
-      (chainPlace s (caseLists s) (casesPlace s (tally maxDepth s)) (numberIn l (caseLists s)))
+      (chainPlace s (tally maxDepth s) (caseLists s) (casesPlace s (tally maxDepth s)) (numberIn l (caseLists s)))
       (getD (caseLists s) (numberIn l (caseLists s)) [])
   unfolding caseTarget
   case-target-by h = target-of-head s _ _ l (caseLists s) _ h
@@ -62,7 +63,7 @@ module _ (s : List ℕ) (es : List Split.Entry) (l : List ℕ) where
   pub range-target-by : numberIn l (splitLists es) < length (splitLists es)
       → rangeTarget s (tally maxDepth s) es l
       ≡ listTarget s (bodyPlace s (tally maxDepth s) es) (defaultPlace s (tally maxDepth s) es (defaultBlock s))
-      (chainPlace s (splitLists es) (dispatchPlace s (tally maxDepth s) es + 1) (numberIn l (splitLists es)))
+      (chainPlace s (tally maxDepth s) (splitLists es) (dispatchPlace s (tally maxDepth s) es + 1) (numberIn l (splitLists es)))
       (getD (splitLists es) (numberIn l (splitLists es)) [])
   unfolding rangeTarget
   range-target-by h = target-of-head s _ _ l (splitLists es) _ h

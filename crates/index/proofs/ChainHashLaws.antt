@@ -23,7 +23,7 @@ use Rattle.chains.specs.SameLaws.{lazy-true}
 use Rattle.chains.specs.NameLaws.{names-one, texts-equal, name-stays}
 use Rattle.chains.specs.Pooled.{All, StepStands, LinkStands, RootStands, Pooled}
 use Rattle.index.specs.Pool.{Alike}
-use Rattle.index.specs.Hash.{step, spread}
+use Rattle.folds.specs.Hash.{step, spread}
 use Rattle.index.specs.Chains.{indexHash, propertyHash, methodHash, stepHash, linkHash}
 use Rattle.index.specs.Chains.{linksHash, variableHash, rootHashBy, rootHash, chainHash}
 use Rattle.index.proofs.ChainLaws.{property-told, method-told, by-told, variable-told, local-same}

@@ -15,7 +15,7 @@ use Rattle.chains.specs.Same.{rootKind, RootLocal}
 use Rattle.chains.specs.LinkLaws.{links-more, links-last, links-none}
 use Rattle.scratch.specs.declared.Layout.{Layout}
 use Rattle.scratch.specs.declared.Index.{Index}
-use Rattle.index.specs.Hash.{step, spread}
+use Rattle.folds.specs.Hash.{step, spread}
 use Rattle.index.specs.Held.{NamesHold, FindsName, namesHeld}
 use Rattle.index.specs.Chains.{propertyHash, methodHash, stepHash, linkHash, linksHash, variableHash, rootHashBy, rootHash, chainHash}
 use Rattle.index.specs.Chains.{ByNames, FindsChain}

@@ -14,9 +14,9 @@ use Rattle.sheet.specs.Text.{text}
 use Rattle.lowering.specs.Kinds.{stringKind}
 use Rattle.lowering.specs.Pools.{sameConst}
 use Rattle.index.specs.Pool.{Alike}
-use Rattle.index.specs.Hash.{byteStep, spread, bytesHash, mix}
+use Rattle.folds.specs.Hash.{byteStep, spread, bytesHash, mix}
 use Rattle.index.specs.Consts.{sameConstOf, constHash, sameTokenOf, tokenHash}
-use Rattle.index.proofs.HashLaws.{bytes-word, mix-word}
+use Rattle.folds.proofs.HashLaws.{bytes-word, mix-word}
 
 -- a test by equal values, with a hash of the value
 pub alike-by :

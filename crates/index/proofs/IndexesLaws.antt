@@ -29,6 +29,7 @@ use Rattle.index.specs.Names.{sameNameOf, nameHash, nameSlot}
 use Rattle.index.specs.Memo.{Told, NameAt, memoAt, remembered}
 use Rattle.index.specs.Held.{namesHeld, NamePool, NamesHold, FindsName}
 use Rattle.index.specs.Chains.{chainHash, FindsChain}
+use Rattle.index.specs.Locals.{Slots}
 use Rattle.index.specs.Indexes.{ConstPool, TokenPool, ChainPool, Indexes, addedTo, constAdded, tokenAdded, chainAdded, nameAdded}
 use Rattle.index.proofs.PoolLaws.{entered, pool-length, pool-sought, pool-new, pool-pushed}
 use Rattle.index.proofs.BesideLaws.{pool-beside, pool-rehashed}
@@ -42,6 +43,8 @@ use Rattle.index.proofs.LodgeLaws.{head-place, lodged-lists, lodged-oth
 use Rattle.index.proofs.LodgeLaws.{const-lodged, token-lodged, chain-lodged, name-lodged}
 use Rattle.index.proofs.LodgeLaws.{const-token-beside, const-chain-beside, const-name-beside}
 use Rattle.index.proofs.LodgeLaws.{token-chain-beside, token-name-beside, chain-name-beside}
+use Rattle.index.proofs.SlotLaws.{variable-const, variable-token, variable-chain, variable-name}
+use Rattle.index.proofs.LocalLaws.{slots-set, slots-entered}
 
 -- the words by the index's own place of the keys
 added-is :
@@ -93,7 +96,7 @@ map-snoc f (x ∷ ks) k = ap (λ (l : List _). f x ∷ l) (map-snoc f ks k)
 module _ {s : List ℕ} {l : Layout} {cs ts hs ns : ℕ} {xs : List ℕ} (x : Indexes s l cs ts hs ns xs) where
   -- the names and their memos
   pub indexes-names : NamesHold s l ns xs
-  indexes-names = record { small = x .small; pool = x .names; memos = x .memos }
+  indexes-names = record { small = x .small; pool = x .names; memos = x .memos; slots = x .slots }
 
   pub indexes-room : indexEnd l ≤ length xs
   indexes-room =
@@ -134,8 +137,8 @@ module _ {s : List ℕ} {l : Layout} {cs ts hs ns : ℕ} {xs : List ℕ} (x : In
   same-names :
       {ys : List ℕ} → namesHeld s l ns ys ≡ namesHeld s l ns xs → ConstPool s l cs ys → TokenPool s l ts ys
       → ChainPool s l (namesHeld s l ns xs) hs ys → NamePool s l ns ys → Told (NameAt s (namesHeld s l ns xs)) (memosAt l) ys
-      → Indexes s l cs ts hs ns ys
-  same-names {ys} e c t h n m = record {
+      → Slots s l ys → Indexes s l cs ts hs ns ys
+  same-names {ys} e c t h n m v = record {
     small = x .small;
     nodes = x .nodes;
     consts = c;
@@ -143,6 +146,7 @@ module _ {s : List ℕ} {l : Layout} {cs ts hs ns : ℕ} {xs : List ℕ} (x : In
     chains = subst (λ (ks : List Name). ChainPool s l ks hs ys) (sym e) h;
     names = n;
     memos = subst (λ (ks : List Name). Told (NameAt s ks) (memosAt l) ys) (sym e) m;
+    slots = v;
   }
 
   -- a word before all keys is written
@@ -155,6 +159,7 @@ module _ {s : List ℕ} {l : Layout} {cs ts hs ns : ℕ} {xs : List ℕ} (x : In
       (pool-beside (x .chains) i v (outside-before (chain-lodged (x .small) (x .nodes)) i h))
       (pool-beside (x .names) i v (outside-before (name-lodged (x .small) (x .nodes)) i h))
       (told-set i v (x .memos) (λ k m q. omega arith))
+      (slots-set i v (λ j b k q. omega arith) (x .slots))
 
   -- a memo of a name that stands is written
   module _ (t p : ℕ) (few : t + 1 < 4294967296) (right : NameAt s (namesHeld s l ns xs) t p) where
@@ -177,6 +182,11 @@ module _ {s : List ℕ} {l : Layout} {cs ts hs ns : ℕ} {xs : List ℕ} (x : In
         ap (map (nameOf s))
         (region-behind (namesAt l) ns (first + 1) p _ (omega arith) ∙ region-behind (namesAt l) ns first _ xs (omega arith))
 
+    memo-slots : Slots s l (remembered (memosAt l) t p xs)
+    unfolding remembered
+    memo-slots =
+        slots-set (first + 1) p (λ j b k q. omega arith) (slots-set first _ (λ j b k q. omega arith) (x .slots))
+
     pub indexes-remember : Indexes s l cs ts hs ns (remembered (memosFrom l) t p xs)
     indexes-remember =
         let room = indexes-room in
@@ -186,7 +196,8 @@ module _ {s : List ℕ} {l : Layout} {cs ts hs ns : ℕ} {xs : List ℕ} (x : In
         (memo-beside (token-lodged (x .small) (x .nodes)) (x .tokens))
         (memo-beside (chain-lodged (x .small) (x .nodes)) (x .chains))
         (memo-beside (name-lodged (x .small) (x .nodes)) (x .names))
-        (told-keeps (x .memos) t p few (omega arith) right))
+        (told-keeps (x .memos) t p few (omega arith) right)
+        memo-slots)
 
   -- the memos are outside of what an entry of any pool takes
   memos-kept :
@@ -254,6 +265,7 @@ module _ {s : List ℕ} {l : Layout} {cs ts hs ns : ℕ} {xs : List ℕ} (x : In
             memos =
                 subst (λ (ks : List Name). Told (NameAt s ks) (memosAt l) ys) (sym e)
                 (memos-kept x d (constHash s) cs j used space w (x .memos));
+            slots = slots-entered d (variable-const s) (constHash s) cs j used space w (x .slots);
           }
 
       pub indexes-const : Indexes s l (cs + 1) ts hs ns (constAdded s l cs j xs)
@@ -292,6 +304,7 @@ module _ {s : List ℕ} {l : Layout} {cs ts hs ns : ℕ} {xs : List ℕ} (x : In
             memos =
                 subst (λ (ks : List Name). Told (NameAt s ks) (memosAt l) ys) (sym e)
                 (memos-kept x d (tokenHash s) ts j used space w (x .memos));
+            slots = slots-entered d (variable-token s) (tokenHash s) ts j used space w (x .slots);
           }
 
       pub indexes-token : Indexes s l cs (ts + 1) hs ns (tokenAdded s l ts j xs)
@@ -331,6 +344,7 @@ module _ {s : List ℕ} {l : Layout} {cs ts hs ns : ℕ} {xs : List ℕ} (x : In
             memos =
                 subst (λ (ks : List Name). Told (NameAt s ks) (memosAt l) ys) (sym e)
                 (memos-kept x d hash hs j used space w (x .memos));
+            slots = slots-entered d (variable-chain s) hash hs j used space w (x .slots);
           }
 
       pub indexes-chain : Indexes s l cs ts (hs + 1) ns (chainAdded s l (namesHeld s l ns xs) hs j xs)
@@ -406,6 +420,7 @@ module _ {s : List ℕ} {l : Layout} {cs ts hs ns : ℕ} {xs : List ℕ} (x : In
             chains = chains-kept;
             names = pool-new (names-alike s) (x .names) k (name-self s (nameOf s k)) used new-at space;
             memos = told-names names-grow (memos-kept x d (nameHash s) ns k used space w (x .memos));
+            slots = slots-entered d (variable-name s) (nameHash s) ns k used space w (x .slots);
           }
 
       pub indexes-name : Indexes s l cs ts hs (ns + 1) (nameAdded s l ns k xs)

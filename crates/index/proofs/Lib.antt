@@ -7,7 +7,6 @@ pub mod TableLaws
 pub mod LookupLaws
 pub mod PoolLaws
 pub mod BesideLaws
-pub mod HashLaws
 pub mod ConstLaws
 pub mod NameLaws
 pub mod SlotLaws
@@ -17,5 +16,6 @@ pub mod ChainLaws
 pub mod ChainHashLaws
 pub mod ChainWalkLaws
 pub mod LodgeLaws
+pub mod LocalLaws
 pub mod IndexesLaws
 pub mod StartLaws

@@ -10,9 +10,9 @@ use Rattle.lowering.specs.Pools.{Name, name, sameName, nameBytes, bang}
 use Rattle.keys.specs.Keys.{nameOf, isMarked, markOf, marked, markBy}
 use Rattle.keys.specs.BangLaws.{texts-same-on, texts-same-off}
 use Rattle.index.specs.Pool.{Alike}
-use Rattle.index.specs.Hash.{byteStep, spread, foldHash, bytesHash}
+use Rattle.folds.specs.Hash.{byteStep, spread, foldHash, bytesHash}
 use Rattle.index.specs.Names.{isName, sameNameOf, nameWith, nameHashOf, nameHash}
-use Rattle.index.proofs.HashLaws.{bytes-word, fold-append}
+use Rattle.folds.proofs.HashLaws.{bytes-word, fold-append}
 use Rattle.index.proofs.ConstLaws.{alike-by}
 
 module _ (s : List ℕ) where

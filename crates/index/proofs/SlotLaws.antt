@@ -5,7 +5,7 @@ use mathlib.Core.List.{List}
 use native.Mathlib.Omega.{arith}
 use native.Mathlib.Decide.{decLt}
 use Rattle.sheet.specs.Node.{kind}
-use Rattle.lowering.specs.Kinds.{propertyKind}
+use Rattle.lowering.specs.Kinds.{variableKind, propertyKind}
 use Rattle.keys.specs.Used.{ConstKey, TokenKey, ChainKey, NameKey}
 use Rattle.index.specs.Consts.{constSlot}
 use Rattle.index.specs.Names.{nameSlot}
@@ -76,6 +76,20 @@ module _ (s : List ℕ) where
 
   pub chain-name : (i j : ℕ) → ChainKey s i → NameKey s j → constSlot i ≡ nameSlot j → ⊥
   chain-name i j a b e = let k = name-beside s i j b e in omega arith
+
+-- nor with a Variable
+module _ (s : List ℕ) where
+  pub variable-const : (i j : ℕ) → kind s i ≡ variableKind → ConstKey s j → constSlot i ≡ constSlot j → ⊥
+  variable-const i j v a e = let k = ap (kind s) (node-slots i j e) in omega arith
+
+  pub variable-token : (i j : ℕ) → kind s i ≡ variableKind → TokenKey s j → constSlot i ≡ constSlot j → ⊥
+  variable-token i j v a e = let k = ap (kind s) (node-slots i j e) in omega arith
+
+  pub variable-chain : (i j : ℕ) → kind s i ≡ variableKind → ChainKey s j → constSlot i ≡ constSlot j → ⊥
+  variable-chain i j v a e = let k = ap (kind s) (node-slots i j e) in omega arith
+
+  pub variable-name : (i j : ℕ) → kind s i ≡ variableKind → NameKey s j → constSlot i ≡ nameSlot j → ⊥
+  variable-name i j v a e = let k = name-beside s i j a e in omega arith
 
 pub name-slot-below : (nodes k : ℕ) → k < 3 * nodes → nameSlot k < 2 * nodes
 unfolding nameSlot

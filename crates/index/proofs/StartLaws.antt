@@ -18,6 +18,7 @@ use Rattle.index.specs.Consts.{sameConstOf, constHash, sameTokenOf, toke
 use Rattle.index.specs.Names.{sameNameOf, nameHash}
 use Rattle.index.specs.Held.{namesHeld}
 use Rattle.index.specs.Chains.{chainHash}
+use Rattle.index.specs.Locals.{Slots}
 use Rattle.index.specs.Indexes.{Indexes}
 use Rattle.index.proofs.PoolLaws.{pool-none}
 use Rattle.index.proofs.MemoLaws.{told-none}
@@ -70,8 +71,24 @@ module _
         let n = long in
         pool-none same hash Used slot ix cap ys (lodged-room d (length ys) (omega arith)) (head-zero d)
 
-    pub indexes-start : Indexes s l 0 0 0 0 (clearedIndex l xs)
-    indexes-start =
+    -- the words before the memos stay
+    pub start-before : (i : ℕ) → i < memosAt l → getD (clearedIndex l xs) i 0 ≡ getD xs i 0
+    start-before i h =
+        ap (λ (ws : List ℕ). getD ws i 0) words
+        ∙ cleared-other (headsAt l) heads memoed i (λ k m q. omega arith)
+        ∙ cleared-other (memosAt l) 1024 xs i (λ k m q. omega arith)
+
+    pub start-length : length (clearedIndex l xs) ≡ length xs
+    start-length = ap length words ∙ long
+
+    -- an index of any kind has no entry
+    pub start-empty :
+        (same : ℕ → ℕ → Bool) (hash : ℕ → ℕ) {Used : ℕ → Type 0} {slot : ℕ → ℕ} {ix : Index} {cap : ℕ} → Lodged l Used slot ix cap
+        → Pool same hash Used slot ix cap 0 (clearedIndex l xs)
+    start-empty same hash {Used} {slot} {ix} {cap} d = subst (Pool same hash Used slot ix cap 0) (sym words) (empty same hash d)
+
+    pub indexes-start : Slots s l (clearedIndex l xs) → Indexes s l 0 0 0 0 (clearedIndex l xs)
+    indexes-start told =
         subst (Indexes s l 0 0 0 0) (sym words)
         (record {
           small = small;
@@ -81,4 +98,5 @@ module _
           chains = empty (sameNodes s) (chainHash s (namesHeld s l 0 ys)) (chain-lodged small nodes);
           names = empty (sameNameOf s) (nameHash s) (name-lodged small nodes);
           memos = told-none memo-zero;
+          slots = subst (Slots s l) words told;
         })

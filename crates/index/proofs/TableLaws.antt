@@ -3,7 +3,7 @@ use Prim.Native.Nat.{ℕ, suc, _+_, _*_, _%_, _<_}
 use mathlib.Core.Path.{_≡_, ap, _∙_}
 use mathlib.Core.List.{List}
 use native.Mathlib.Omega.{arith}
-use native.Mathlib.Nat.{div-lt-iff-lt-mul, mul-lt-mul-of-pos-left, mul-le-mul, mul-comm}
+use native.Mathlib.Nat.{div-lt-iff-lt-mul, mul-lt-mul-of-pos-left, mul-comm}
 use lib.ListN.{getD, set}
 use Rattle.index.specs.Table.{bucketOf, linkOf, notedBy}
 use Rattle.index.proofs.IndexedLaws.{noted}
@@ -14,11 +14,6 @@ bucket-below count h l p =
     let m = mul-lt-mul-of-pos-left {m = h} {n = 4294967296} {k = count} l p in
     let c = mul-comm count h in
     div-lt-iff-lt-mul {k = 4294967296} {x = h * count} {y = count} (omega arith) .1 (omega arith)
-
-pub product-fits : (h count : ℕ) → h < 4294967296 → count < 4294967296 → h * count < 18446744073709551616
-product-fits h count l p =
-    let m = mul-le-mul {n₁ = h} {m₁ = count} {n₂ = 4294967295} {m₂ = 4294967295} (omega arith) (omega arith) in
-    omega arith
 
 pub noted-is :
     (head slot tag e : ℕ) (xs : List ℕ) → getD xs head 0 < 524288 → e < 524288

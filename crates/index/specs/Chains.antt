@@ -16,7 +16,7 @@ use Rattle.chains.specs.Steps.{nameIn}
 use Rattle.chains.specs.Same.{isLocal, rootKind, RootLocal, sameNodes}
 use Rattle.scratch.specs.declared.Index.{Index}
 use Rattle.scratch.specs.declared.Layout.{Layout}
-use Rattle.index.specs.Hash.{step, spread}
+use Rattle.folds.specs.Hash.{step, spread}
 use Rattle.index.specs.Consts.{constSlot}
 use Rattle.index.specs.Lookup.{Finds}
 use Rattle.index.specs.Held.{NamesHold}

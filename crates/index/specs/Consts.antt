@@ -7,7 +7,7 @@ use Rattle.sheet.specs.Node.{kind, fieldA, fieldB, fieldC}
 use Rattle.sheet.specs.Text.{text}
 use Rattle.lowering.specs.Kinds.{stringKind}
 use Rattle.lowering.specs.Pools.{constOf, sameConst}
-use Rattle.index.specs.Hash.{byteStep, spread, bytesHash, mix}
+use Rattle.folds.specs.Hash.{byteStep, spread, bytesHash, mix}
 
 -- the slot of a node's constant, token or chain
 abbrev pub constSlot : ℕ → ℕ

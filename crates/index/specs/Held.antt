@@ -10,6 +10,7 @@ use Rattle.scratch.specs.Places.{Small, namesAt, memosAt, nameIndex, region}
 use Rattle.index.specs.Pool.{Pool}
 use Rattle.index.specs.Names.{sameNameOf, nameHash, nameSlot}
 use Rattle.index.specs.Memo.{Told, NameAt}
+use Rattle.index.specs.Locals.{Slots}
 
 -- the first n names
 unfoldable pub namesHeld : List ℕ → Layout → ℕ → List ℕ → List Name
@@ -21,11 +22,12 @@ NamePool s l n xs = Pool (sameNameOf s) (nameHash s) (NameKey s) nameSlot (nameI
 abbrev pub NameMemos : List ℕ → Layout → ℕ → List ℕ → Type 0
 NameMemos s l n xs = Told (NameAt s (namesHeld s l n xs)) (memosAt l) xs
 
--- n names stand, and what the memos tell of them is true
+-- n names stand, what the memos tell of them is true, and so are the slots of the Variables
 pub record NamesHold (s : List ℕ) (l : Layout) (n : ℕ) (xs : List ℕ) : Type 0 where
   pub small : Small l
   pub pool : NamePool s l n xs
   pub memos : NameMemos s l n xs
+  pub slots : Slots s l xs
 
 -- r is the place of this name among them
 pub record FindsName (s : List ℕ) (l : Layout) (n : ℕ) (nm : Name) (xs : List ℕ) (r : ℕ) : Type 0 where

@@ -1,5 +1,5 @@
 -- All indexes together: the scratch xs holds cs constants, ts tokens, hs chains and ns names of sheet s, each with its index, and the
--- memos of the names are true.
+-- memos of the names and the slots of the Variables are true.
 use Prim.Native.Nat.{ℕ, _+_}
 use mathlib.Core.Path.{_≡_}
 use mathlib.Core.List.{List}
@@ -17,6 +17,7 @@ use Rattle.index.specs.Consts.{constSlot, sameConstOf, constHash, sameTo
 use Rattle.index.specs.Names.{nameHash, nameSlot}
 use Rattle.index.specs.Held.{namesHeld, NamePool, NameMemos}
 use Rattle.index.specs.Chains.{chainHash}
+use Rattle.index.specs.Locals.{Slots}
 
 abbrev pub ConstPool : List ℕ → Layout → ℕ → List ℕ → Type 0
 ConstPool s l n xs = Pool (sameConstOf s) (constHash s) (ConstKey s) constSlot (constIndex l) (l .nodes) n xs
@@ -36,6 +37,7 @@ pub record Indexes (s : List ℕ) (l : Layout) (cs ts hs ns : ℕ) (xs : List �
   pub chains : ChainPool s l (namesHeld s l ns xs) hs xs
   pub names : NamePool s l ns xs
   pub memos : NameMemos s l ns xs
+  pub slots : Slots s l xs
 
 -- the words when the entry with key j is added to n others: its key behind theirs, its link, its head
 abbrev pub addedTo : Index → ℕ → ℕ → ℕ → ℕ → ℕ → List ℕ → List ℕ

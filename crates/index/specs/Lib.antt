@@ -3,10 +3,10 @@ pub mod Table
 pub mod Indexed
 pub mod Lookup
 pub mod Pool
-pub mod Hash
 pub mod Consts
 pub mod Names
 pub mod Memo
+pub mod Locals
 pub mod Held
 pub mod Chains
 pub mod Indexes

@@ -4,7 +4,7 @@ use mathlib.Core.Bool.{Bool}
 use mathlib.Core.List.{List}
 use Rattle.lowering.specs.Pools.{Name, name, sameName, nameBytes}
 use Rattle.keys.specs.Keys.{nameOf, markBy}
-use Rattle.index.specs.Hash.{bytesHash}
+use Rattle.folds.specs.Hash.{bytesHash}
 
 module _ (s : List ℕ) where
   -- key k has this name

@@ -1,20 +1,20 @@
 // The index of the pools in lent words: a head for each bucket, and for each entry a link at the slot of its key. Reads and writes answer
 // at every place; what a search answers is known where the index holds (`Finds`, `FindsName`).
 ghost use mathlib.Core.Path.{_≡_};
-ghost use Prim.Native.Nat.{_+_, _/_, _≤_};
-ghost use lib.ListN.{length, getD, drop};
+ghost use Prim.Native.Nat.{_+_, _/_};
+ghost use lib.ListN.{getD};
 ghost use lib.Dec.{eqb};
 ghost use Rattle.sheet.specs.Limits.{maxDepth};
 ghost use Rattle.sheet.specs.Node as nodes;
 ghost use Rattle.lowering.specs.Pools.{name};
-ghost use Rattle.lowering.specs.Flatten.{links};
-ghost use Rattle.rules.specs.Inverse as answers;
+ghost use Rattle.lowering.specs.Flatten.{operandOf, links};
+ghost use Rattle.rules.specs.Reads.{Reads};
 ghost use Rattle.chains.specs.Same.{RootLocal, sameNodes};
 ghost use Rattle.keys.specs.Keys.{nameOf};
 ghost use Rattle.scratch.specs.Places as places;
+ghost use Rattle.folds.specs.Hash.{mix};
 ghost use Rattle.index.specs.Table.{headAt, linkAt, tagOf, notedBy};
 ghost use Rattle.index.specs.Lookup.{hitBy, Finds};
-ghost use Rattle.index.specs.Hash.{byteStep, fourSteps, bytesHash, foldHash, spread, step, mix};
 ghost use Rattle.index.specs.Consts.{constSlot, sameConstOf, constHash, sameTokenOf, tokenHash};
 ghost use Rattle.index.specs.Names.{isName, nameWith, nameHashOf, nameHash, nameSlot};
 ghost use Rattle.index.specs.Memo.{memoAt, remembered};
@@ -22,15 +22,17 @@ ghost use Rattle.index.specs.Held.{FindsName, namesHeld};
 ghost use Rattle.index.specs.Chains.{ByNames, FindsChain};
 ghost use Rattle.index.specs.Chains as chains;
 use chains::same_chain;
+use folds::byte_step;
+use folds::fold_bytes;
+use folds::hash_bytes;
+use folds::more;
+use folds::spread_out;
 use keys::is_marked;
 use keys::same_marked;
 use keys::text_of;
+use rules::chains::Read;
 use rules::chains::StepRule;
-use rules::chains::goes_on;
-use rules::chains::negated;
-use rules::chains::operand_of;
-use rules::chains::rest_of;
-use rules::chains::step_rule;
+use rules::chains::read_link;
 use rules::kinds::THIS;
 use rules::kinds::VARIABLE;
 use scratch::Index;
@@ -55,9 +57,9 @@ use std::num::wrapping_add_u32;
 use text::same_bytes;
 
 // A link has the entry before in its low 19 bits, and 13 bits of its own entry's hash above them.
-const RANKS: u32 = 524288;
+pub const RANKS: u32 = 524288;
 
-const TAGS: u32 = 8192;
+pub const TAGS: u32 = 8192;
 
 // The kind of a String.
 const STRING: u32 = 6;
@@ -97,78 +99,11 @@ pub fn note(x: &mut [u32], ix: Index, at: usize, h: u32, e: u32)
     put(x, front, wrapping_add_u32(e, 1));
 }
 
-// One number more of a hash.
-pub fn more(h: u32, v: u32) -> u32
-    ensures { λ r. ⌜ r ≡ step h v ⌝ }
-{
-    (((h as u64) * 16777619 + (v as u64)) % 4294967296) as u32
-}
-
 // The hash of a constant with kind `k` and fields `a`, `b`.
 fn number_hash(k: u32, a: u32, b: u32) -> u32
     ensures { λ r. ⌜ r ≡ mix k a b ⌝ }
 {
     more(more(more(more(0, a), b), k), 1)
-}
-
-// One byte more.
-fn byte_step(h: u32, b: u8) -> u32
-    ensures { λ r. ⌜ r ≡ byteStep h b ⌝ }
-{
-    (((h as u64) * 16777619 + (b as u64) + 1) % 4294967296) as u32
-}
-
-// Four bytes more at once.
-fn four_steps(h: u32, a: u8, b: u8, c: u8, d: u8) -> u32
-    ensures { λ r. ⌜ r ≡ fourSteps h a b c d ⌝ }
-{
-    let w = (h as u64) * 1345077009
-        + ((a as u64) + 1) * 1055306571
-        + ((b as u64) + 1) * 637696617
-        + ((c as u64) + 1) * 16777619;
-    ((w + (d as u64) + 1) % 4294967296) as u32
-}
-
-// All bytes from place `from` on more, one by one.
-fn fold_rest(x: &[u8], from: usize, start: u32) -> u32
-    requires { ⌜ from ≤ length (now x) ⌝ }
-    ensures { λ r. ⌜ r ≡ foldHash start (drop from (now (x .entry))) ⌝ }
-{
-    let mut h = start;
-    let mut i = from;
-    while i < x.len() {
-        h = byte_step(h, x[i]);
-        i += 1;
-    }
-    h
-}
-
-// The fold over bytes, before it is spread.
-fn fold_bytes(x: &[u8]) -> u32
-    ensures { λ r. ⌜ r ≡ foldHash 0 (now (x .entry)) ⌝ }
-{
-    let n = x.len();
-    let mut h: u32 = 0;
-    let mut i = 0;
-    while i + 4 <= n {
-        h = four_steps(h, x[i], x[i + 1], x[i + 2], x[i + 3]);
-        i += 4;
-    }
-    fold_rest(x, i, h)
-}
-
-// A fold, spread over all words.
-pub fn spread_out(h: u32) -> u32
-    ensures { λ r. ⌜ r ≡ spread h ⌝ }
-{
-    (((h as u64) * 2654435761) % 4294967296) as u32
-}
-
-// The hash of bytes.
-pub fn hash_bytes(x: &[u8]) -> u32
-    ensures { λ r. ⌜ r ≡ bytesHash (now (x .entry)) ⌝ }
-{
-    spread_out(fold_bytes(x))
 }
 
 // The memos from place `ms` on know text `t`.
@@ -394,14 +329,11 @@ pub fn name_place(s: &[u8], x: &[u32], l: Layout, n: u32, k: u32) -> u32
     text_place(s, x, l, n, t)
 }
 
-// One link more of a hash: link `c`, an index.
-fn index_hash(s: &[u8], h: u32, c: u32) -> u32
-    ensures { λ r. ⌜ r ≡ chains.indexHash (now (s .entry)) h c ⌝ }
+// One link more of a hash: link `c`, an index, which is taken with `v`.
+fn index_hash(s: &[u8], h: u32, c: u32, v: u32) -> u32
+    ensures { λ r. ⌜ (v ≡ operandOf (now (s .entry)) c → r ≡ chains.indexHash (now (s .entry)) h c) ⌝ }
 {
-    more(
-        more(more(h, 0), position(s, c)),
-        start_of(s, operand_of(s, c)),
-    )
+    more(more(more(h, 0), position(s, c)), start_of(s, v))
 }
 
 // Property `v`, by the places of its three names.
@@ -424,26 +356,20 @@ fn method_hash(s: &[u8], x: &[u32], l: Layout, n: u32, h: u32, v: u32) -> u32
     more(more(more(more(h, 2), position(s, v)), count(s, v)), a)
 }
 
-// Link `c` by rule `r`.
-fn step_hash(r: StepRule, s: &[u8], x: &[u32], l: Layout, n: u32, h: u32, c: u32) -> u32
+// Link `c`, which says `p`.
+fn link_hash(s: &[u8], x: &[u32], l: Layout, n: u32, h: u32, c: u32, p: Read) -> u32
     ensures { λ f. let sheet = now (s .entry) in let words = now (x .entry) in ⌜
-        ByNames sheet l n words (chains.stepHash (answers.stepRuleFrom r) sheet (namesHeld sheet l n words) h c) f ⌝ }
+        (Reads sheet c p → ByNames sheet l n words (chains.linkHash sheet (namesHeld sheet l n words) h c) f) ⌝ }
 {
+    let r = p.rule;
+    let v = p.with;
+    let g = more(h, p.flag);
     match r {
-        StepRule::Index => index_hash(s, h, c),
-        StepRule::Property => property_hash(s, x, l, n, h, operand_of(s, c)),
-        StepRule::Method => method_hash(s, x, l, n, h, operand_of(s, c)),
-        StepRule::Nothing => h,
+        StepRule::Index => index_hash(s, g, c, v),
+        StepRule::Property => property_hash(s, x, l, n, g, v),
+        StepRule::Method => method_hash(s, x, l, n, g, v),
+        StepRule::Nothing => g,
     }
-}
-
-// Link `c`.
-fn link_hash(s: &[u8], x: &[u32], l: Layout, n: u32, h: u32, c: u32) -> u32
-    ensures { λ r. let sheet = now (s .entry) in let words = now (x .entry) in ⌜
-        ByNames sheet l n words (chains.linkHash sheet (namesHeld sheet l n words) h c) r ⌝ }
-{
-    let r = step_rule(s, c);
-    step_hash(r, s, x, l, n, more(h, negated(s, c)), c)
 }
 
 // All links of the chain of node `j`.
@@ -455,9 +381,10 @@ fn links_hash(s: &[u8], x: &[u32], l: Layout, n: u32, j: u32) -> u32
     let mut h: u32 = 1;
     let mut c = j;
     while 0 < left {
-        h = link_hash(s, x, l, n, h, c);
-        if goes_on(s, c) {
-            c = rest_of(s, c);
+        let p = read_link(s, c);
+        h = link_hash(s, x, l, n, h, c, p);
+        if p.on {
+            c = p.rest;
             left -= 1;
         } else {
             return h;

@@ -64,7 +64,7 @@ fn node_numbers_ok(s: &[u8]) -> bool
     true
 }
 
-fn locals_ok(s: &[u8]) -> bool
+pub fn locals_ok(s: &[u8]) -> bool
     ensures { λ r. ⌜ r ≡ numbers.localsOk (now (s .entry)) ⌝ }
 {
     let m = local_count(s);

@@ -10,7 +10,6 @@ use lib.Dec.{eqb}
 use lib.ListN.{length, set}
 use lib.Seq.{getD-set-same, getD-set-other}
 use borrow.Author.Tests.{eq-eqb, ne-eqb}
-use Rattle.sheet.specs.Limits.{maxDepth}
 use Rattle.sheet.specs.Node.{next}
 use Rattle.lowering.specs.SwitchSheet.{bodyOf}
 use Rattle.counting.specs.declared.tallies.Tally.{Tally}
@@ -18,11 +17,11 @@ use Rattle.counting.specs.Limits.{cap}
 use Rattle.counting.specs.Tally.{instructions, nothing, plus, capped}
 use Rattle.counting.specs.TallyLaws.{tally-path, plus-nothing, capped-left}
 use Rattle.counting.specs.CodeLaws.{capped-more}
-use Rattle.counting.specs.Count.{Rec, tally}
+use Rattle.counting.specs.Count.{Rec}
 use Rattle.totals.specs.Bodies.{bodiesFrom, bodiesTally}
 use Rattle.totals.specs.Place.{bodyFrom}
 use Rattle.tables.specs.Columns.{size, guardNodeAt, wantedAt, bodyAt, dispatchAt, cell, Within}
-use Rattle.tables.specs.Table.{Guards}
+use Rattle.tables.specs.Table.{GuardsBy}
 use Rattle.tables.specs.Planned.{wantIn, wantedBy}
 use Rattle.tables.proofs.ColumnLaws.{within-none, within-then, within-put}
 use Rattle.tables.proofs.NodesLaws.{body-at}
@@ -39,37 +38,36 @@ capped-none a h = tally-path (omega (arith, h .0)) (omega (arith, h .1)) refl �
 -- ---- one body
 
 -- what is left of it: the table and the sum
-abbrev pub Bodied : List ℕ → List ℕ → ℕ → Tally → List ℕ → Tally → Type 0
-Bodied s w k b v r =
+abbrev pub Bodied : List ℕ → Rec → List ℕ → ℕ → Tally → List ℕ → Tally → Type 0
+Bodied s tal w k b v r =
     (b .len ≤ cap → v ≡ set w (bodyAt + k) (placeIf (wantIn w k) (b .len)))
-    × (b .len ≤ cap → b .emitted ≤ cap → r ≡ capped (plus b (bodyIf s (next s (cell w (guardNodeAt + k))) (wantIn w k))))
+    × (b .len ≤ cap → b .emitted ≤ cap → r ≡ capped (plus b (bodyIf tal (next s (cell w (guardNodeAt + k))) (wantIn w k))))
 
-pub body-yes : (s w v : List ℕ) (k x p g j : ℕ) (b t i u r : Tally) → x ≡ cell w (wantedAt + k) → x ≡ 1 → (b .len ≤ cap → p ≡ b .len)
-    → v ≡ set w (bodyAt + k) p → g ≡ cell v (guardNodeAt + k) → j ≡ next s g → t ≡ capped (tally maxDepth s j) → i ≡ instructions 1
-    → u ≡ capped (plus t i) → r ≡ capped (plus b u) → Bodied s w k b v r
+pub body-yes : (s : List ℕ) (tal : Rec) (w v : List ℕ) (k x p g j : ℕ) (b t i u r : Tally) → x ≡ cell w (wantedAt + k) → x ≡ 1
+    → (b .len ≤ cap → p ≡ b .len)
+    → v ≡ set w (bodyAt + k) p → g ≡ cell v (guardNodeAt + k) → j ≡ next s g → t ≡ capped (tal j) → i ≡ instructions 1
+    → u ≡ capped (plus t i) → r ≡ capped (plus b u) → Bodied s tal w k b v r
 unfolding placeIf bodyIf
-body-yes s w v k x p g j b t i u r x-is one p-is e g-is j-is t-is i-is u-is r-is =
+body-yes s tal w v k x p g j b t i u r x-is one p-is e g-is j-is t-is i-is u-is r-is =
     let at : g ≡ cell w (guardNodeAt + k) =
     (rw e at g-is) ∙ getD-set-other w (bodyAt + k) (guardNodeAt + k) p 0 (λ (f : guardNodeAt + k ≡ bodyAt + k). omega arith) in
     let node : j ≡ next s (cell w (guardNodeAt + k)) = j-is ∙ ap (next s) at in
     rw (eq-eqb (cell w (wantedAt + k)) 1 (sym x-is ∙ one)) (
       λ l. e ∙ ap (set w (bodyAt + k)) (p-is l),
       λ l m. rw (sym node) (r-is ∙ ap (λ (z : Tally). capped (plus b z))
-          (u-is ∙ ap₂ (λ (y z : Tally). capped (plus y z)) t-is i-is ∙ capped-left (tally maxDepth s j) (instructions 1))),
+          (u-is ∙ ap₂ (λ (y z : Tally). capped (plus y z)) t-is i-is ∙ capped-left (tal j) (instructions 1))),
     )
 
-pub body-no : (s w v : List ℕ) (k x : ℕ) (b : Tally) → x ≡ cell w (wantedAt + k) → (x ≡ 1 → ⊥) → v ≡ set w (bodyAt + k) 0
-    → Bodied s w k b v b
+pub body-no : (s : List ℕ) (tal : Rec) (w v : List ℕ) (k x : ℕ) (b : Tally) → x ≡ cell w (wantedAt + k) → (x ≡ 1 → ⊥)
+    → v ≡ set w (bodyAt + k) 0
+    → Bodied s tal w k b v b
 unfolding placeIf bodyIf
-body-no s w v k x b x-is off e =
+body-no s tal w v k x b x-is off e =
     rw (ne-eqb (cell w (wantedAt + k)) 1 (λ f. off (x-is ∙ f))) (λ l. e, λ l m. capped-none b (l, m))
 
 -- ---- where a body stands
 
-module _ (s : List ℕ) (ls : List (List ℕ)) (def : ℕ) where
-  abbrev t : Rec
-  t = tally maxDepth s
-
+module _ (s : List ℕ) (t : Rec) (ls : List (List ℕ)) (def : ℕ) where
   -- a start that is cut off
   from-cap : (i a b : ℕ) (l : List ℕ) → min a cap ≡ min b cap → min (bodyFrom s t i a l) cap ≡ min (bodyFrom s t i b l) cap
   unfolding bodyFrom
@@ -106,17 +104,17 @@ module _ (s : List ℕ) (ls : List (List ℕ)) (def : ℕ) where
     here false e l = rw (e, bodiesFrom) (ap (λ (y : ℕ). min y cap) (sym (before k (a .len) m (suc k) (omega arith))))
 
     left-on : (x : Bool) → wantedBy s def ls k ≡ x → (i : ℕ) → k < i
-        → min (bodyFrom s t i (capped (plus a (bodyIf s (bodyOf s k) x)) .len) rest) cap
+        → min (bodyFrom s t i (capped (plus a (bodyIf t (bodyOf s k) x)) .len) rest) cap
         ≡ min (bodyFrom s t i (a .len) (bodiesFrom s ls def (suc m) k)) cap
     unfolding bodyIf capped plus nothing instructions bodiesFrom bodyFrom
     left-on true e i h =
         rw (e, bodiesFrom, ne-eqb i k (λ q. omega (arith, q, h)), bodyFrom)
-        (from-cap i (capped (plus a (bodyIf s (bodyOf s k) true)) .len) (a .len + t (bodyOf s k) .len + 1) rest (omega arith))
+        (from-cap i (capped (plus a (bodyIf t (bodyOf s k) true)) .len) (a .len + t (bodyOf s k) .len + 1) rest (omega arith))
     left-on false e i h =
-        rw (e, bodiesFrom) (from-cap i (capped (plus a (bodyIf s (bodyOf s k) false)) .len) (a .len) rest (omega arith))
+        rw (e, bodiesFrom) (from-cap i (capped (plus a (bodyIf t (bodyOf s k) false)) .len) (a .len) rest (omega arith))
 
     sum-on : (x : Bool) → wantedBy s def ls k ≡ x
-        → capped (plus (capped (plus a (bodyIf s (bodyOf s k) x))) (bodiesTally s t rest))
+        → capped (plus (capped (plus a (bodyIf t (bodyOf s k) x))) (bodiesTally s t rest))
         ≡ capped (plus a (bodiesTally s t (bodiesFrom s ls def (suc m) k)))
     unfolding bodiesTally bodiesFrom bodyIf
     sum-on true e = rw (e, bodiesFrom) (capped-more a (plus (t (bodyOf s k)) (instructions 1)) (bodiesTally s t rest))
@@ -127,32 +125,33 @@ module _ (s : List ℕ) (ls : List (List ℕ)) (def : ℕ) where
 -- ---- the loop
 
 -- where the body of block i stands, of n behind b, and what all of them add
-abbrev spot : List ℕ → List (List ℕ) → ℕ → ℕ → ℕ → ℕ → ℕ → ℕ
-spot s ls def n k b i = min (bodyFrom s (tally maxDepth s) i b (bodiesFrom s ls def n k)) cap
+abbrev spot : List ℕ → Rec → List (List ℕ) → ℕ → ℕ → ℕ → ℕ → ℕ → ℕ
+spot s t ls def n k b i = min (bodyFrom s t i b (bodiesFrom s ls def n k)) cap
 
-abbrev all : List ℕ → List (List ℕ) → ℕ → ℕ → ℕ → Tally → Tally
-all s ls def n k b = capped (plus b (bodiesTally s (tally maxDepth s) (bodiesFrom s ls def n k)))
+abbrev all : List ℕ → Rec → List (List ℕ) → ℕ → ℕ → ℕ → Tally → Tally
+all s t ls def n k b = capped (plus b (bodiesTally s t (bodiesFrom s ls def n k)))
 
 -- blocks below k are passed, and the sum is where the next body stands
-pub record Placing (s : List ℕ) (ls : List (List ℕ)) (def n : ℕ) (b : Tally) (w₀ w : List ℕ) (sum : Tally) (k : ℕ) : Type 0 where
+pub record Placing (s : List ℕ) (t : Rec) (ls : List (List ℕ)) (def n : ℕ) (b : Tally) (w₀ w : List ℕ) (sum : Tally) (k : ℕ) : Type 0 where
   pub within : Within bodyAt dispatchAt w₀ w
   pub small : Small sum
-  pub placed : (i : ℕ) → i < k → cell w (bodyAt + i) ≡ spot s ls def n 0 (b .len) i
-  pub left : (i : ℕ) → k ≤ i → spot s ls def (n - k) k (sum .len) i ≡ spot s ls def n 0 (b .len) i
-  pub sums : all s ls def (n - k) k sum ≡ all s ls def n 0 b
+  pub placed : (i : ℕ) → i < k → cell w (bodyAt + i) ≡ spot s t ls def n 0 (b .len) i
+  pub left : (i : ℕ) → k ≤ i → spot s t ls def (n - k) k (sum .len) i ≡ spot s t ls def n 0 (b .len) i
+  pub sums : all s t ls def (n - k) k sum ≡ all s t ls def n 0 b
 
-module _ {s : List ℕ} {ls : List (List ℕ)} {def n : ℕ} {b : Tally} where
-  pub placing-start : (w : List ℕ) → b .len ≤ cap → b .emitted ≤ cap → Placing s ls def n b w w b 0
+module _ {s : List ℕ} {t : Rec} {ls : List (List ℕ)} {def n : ℕ} {b : Tally} where
+  pub placing-start : (w : List ℕ) → b .len ≤ cap → b .emitted ≤ cap → Placing s t ls def n b w w b 0
   placing-start w l m = record {
     within = within-none bodyAt dispatchAt w;
     small = (l, m);
     placed = λ i h. absurd (omega arith);
-    left = λ i h. ap (λ x. spot s ls def x 0 (b .len) i) (sub-zero n);
-    sums = ap (λ x. all s ls def x 0 b) (sub-zero n);
+    left = λ i h. ap (λ x. spot s t ls def x 0 (b .len) i) (sub-zero n);
+    sums = ap (λ x. all s t ls def x 0 b) (sub-zero n);
   }
 
-  pub placing-on : {w₀ w v : List ℕ} {sum r : Tally} {k : ℕ} → Placing s ls def n b w₀ w sum k → length w ≡ size → k < n → n ≤ 64
-      → Guards s w₀ n → ((i : ℕ) → i < n → wantIn w₀ i ≡ wantedBy s def ls i) → Bodied s w k sum v r → Placing s ls def n b w₀ v r (k + 1)
+  pub placing-on : {w₀ w v : List ℕ} {sum r : Tally} {k : ℕ} → Placing s t ls def n b w₀ w sum k → length w ≡ size → k < n → n ≤ 64
+      → GuardsBy s t w₀ n → ((i : ℕ) → i < n → wantIn w₀ i ≡ wantedBy s def ls i) → Bodied s t w k sum v r
+      → Placing s t ls def n b w₀ v r (k + 1)
   placing-on {w₀} {w} {v} {sum} {r} {k} c z h few guards wants d =
       let x = wantedBy s def ls k in
       let m = n - suc k in
@@ -162,22 +161,22 @@ module _ {s : List ℕ} {ls : List (List ℕ)} {def n : ℕ} {b : Tally} where
       let node-is : next s (cell w (guardNodeAt + k)) ≡ bodyOf s k =
       ap (next s) (c .within .low (guardNodeAt + k) (omega arith) ∙ guards .node k h) ∙ body-at s k in
       let v-is : v ≡ set w (bodyAt + k) p = d .0 (c .small .0) ∙ ap (λ (y : Bool). set w (bodyAt + k) (placeIf y (sum .len))) want-is in
-      let r-is : r ≡ capped (plus sum (bodyIf s (bodyOf s k) x)) =
-      d .1 (c .small .0) (c .small .1) ∙ ap₂ (λ (y : ℕ) (yes : Bool). capped (plus sum (bodyIf s y yes))) node-is want-is in
+      let r-is : r ≡ capped (plus sum (bodyIf t (bodyOf s k) x)) =
+      d .1 (c .small .0) (c .small .1) ∙ ap₂ (λ (y : ℕ) (yes : Bool). capped (plus sum (bodyIf t y yes))) node-is want-is in
       rw (v-is, r-is) (record {
         within = within-then (c .within) (within-put bodyAt dispatchAt w (bodyAt + k) p (omega arith) (omega (arith, h, few)));
-        small = cut-small (plus sum (bodyIf s (bodyOf s k) x)) refl;
-        placed = one-more (λ i. cell (set w (bodyAt + k) p) (bodyAt + i) ≡ spot s ls def n 0 (b .len) i) k
+        small = cut-small (plus sum (bodyIf t (bodyOf s k) x)) refl;
+        placed = one-more (λ i. cell (set w (bodyAt + k) p) (bodyAt + i) ≡ spot s t ls def n 0 (b .len) i) k
             (λ i l. getD-set-other w (bodyAt + k) (bodyAt + i) p 0 (λ e. omega arith) ∙ c .placed i l)
             (getD-set-same w (bodyAt + k) p 0 (omega (arith, z, h, few))
-            ∙ here s ls def m k sum x refl (c .small .0)
+            ∙ here s t ls def m k sum x refl (c .small .0)
             ∙ (rw one at (c .left k (omega arith))));
-        left = λ i l. rw (add-one k) (left-on s ls def m k sum x refl i (omega arith) ∙ (rw one at (c .left i (omega arith))));
-        sums = rw (add-one k) (sum-on s ls def m k sum x refl ∙ (rw one at (c .sums)));
+        left = λ i l. rw (add-one k) (left-on s t ls def m k sum x refl i (omega arith) ∙ (rw one at (c .left i (omega arith))));
+        sums = rw (add-one k) (sum-on s t ls def m k sum x refl ∙ (rw one at (c .sums)));
       })
 
-  pub placing-end : {w₀ w : List ℕ} {sum : Tally} {k : ℕ} → Placing s ls def n b w₀ w sum k → n ≤ k
-      → BodiesLaid s ls def n b w sum × Within bodyAt dispatchAt w₀ w
+  pub placing-end : {w₀ w : List ℕ} {sum : Tally} {k : ℕ} → Placing s t ls def n b w₀ w sum k → n ≤ k
+      → BodiesLaid s t ls def n b w sum × Within bodyAt dispatchAt w₀ w
   unfolding bodiesFrom bodiesTally
   placing-end {sum = sum} {k} c h =
       let none : n - k ≡ 0 = omega arith in

@@ -10,7 +10,6 @@ use lib.Dec.{eqb}
 use lib.ListN.{length, getD, set, drop, drop-of-length-le}
 use lib.Seq.{getD-set-same, getD-set-other, getD-take, drop-cons}
 use borrow.Author.Tests.{eq-eqb, ne-eqb}
-use Rattle.sheet.specs.Limits.{maxDepth}
 use Rattle.lowering.specs.SwitchSheet.{blockCount, guardOf}
 use Rattle.lowering.specs.Arms.{taken, declined, Guard, never, always, tried, guardKind}
 use Rattle.counting.specs.declared.tallies.Tally.{Tally}
@@ -18,7 +17,7 @@ use Rattle.counting.specs.Limits.{cap}
 use Rattle.counting.specs.Tally.{counted, instructions, nothing, plus, capped}
 use Rattle.counting.specs.TallyLaws.{tally-path, or-assoc, or-false, plus-assoc, nothing-plus}
 use Rattle.counting.specs.CodeLaws.{capped-more}
-use Rattle.counting.specs.Count.{Rec, tally}
+use Rattle.counting.specs.Count.{Rec}
 use Rattle.totals.specs.Arms.{triesTally, endOf, hasTry, wants, endTally, armTally}
 use Rattle.tables.specs.Columns.{size, guardAt, guardLenAt, guardEmittedAt, wantedAt, casePlaceAt, cell, Within}
 use Rattle.tables.specs.Spans.{oneIf}
@@ -94,22 +93,22 @@ marked-on w₀ w v def k x c z h e q =
 -- ---- the loop
 
 -- of the list l the blocks `rest` are left
-pub record Chaining (s l w₀ w : List ℕ) (sum : Tally) (tries : Bool) (rest : List ℕ) : Type 0 where
+pub record Chaining (s : List ℕ) (t : Rec) (l w₀ w : List ℕ) (sum : Tally) (tries : Bool) (rest : List ℕ) : Type 0 where
   pub within : Within wantedAt casePlaceAt w₀ w
   pub small : Small sum
-  pub sums : capped (plus sum (plus (triesTally s (tally maxDepth s) rest) (endTally (hasTry s l))))
-      ≡ capped (armTally s (tally maxDepth s) l)
+  pub sums : capped (plus sum (plus (triesTally s t rest) (endTally (hasTry s l))))
+      ≡ capped (armTally s t l)
   pub tried-is : (tries || hasTry s rest) ≡ hasTry s l
   pub ends-as : endOf s rest ≡ endOf s l
   pub wanted : (j : ℕ) → j < blockCount s → (wantIn w j || wants s j rest) ≡ (wantIn w₀ j || wants s j l)
 
-pub chaining-start : (s l w : List ℕ) (sum : Tally) → sum ≡ nothing → Chaining s l w w sum false l
+pub chaining-start : (s : List ℕ) (t : Rec) (l w : List ℕ) (sum : Tally) → sum ≡ nothing → Chaining s t l w w sum false l
 unfolding armTally nothing instructions
-chaining-start s l w sum e =
+chaining-start s t l w sum e =
     rw e (record {
       within = within-none wantedAt casePlaceAt w;
       small = (omega arith, omega arith);
-      sums = ap capped (nothing-plus (armTally s (tally maxDepth s) l));
+      sums = ap capped (nothing-plus (armTally s t l));
       tried-is = refl;
       ends-as = refl;
       wanted = λ j h. refl;
@@ -121,11 +120,8 @@ exit-told true k = (refl, refl)
 exit-told false k = (refl, refl)
 
 -- at place i of the list that is read
-module _ (s l w₀ a : List ℕ) (n : ℕ) (R : Reads s w₀ a n l) (w : List ℕ) (sum : Tally) (b : Bool) (i : ℕ)
-    (c : Chaining s l w₀ w sum b (drop i l)) where
-  abbrev t : Rec
-  t = tally maxDepth s
-
+module _ (s : List ℕ) (t : Rec) (l w₀ a : List ℕ) (n : ℕ) (R : Reads s t w₀ a n l) (w : List ℕ) (sum : Tally) (b : Bool) (i : ℕ)
+    (c : Chaining s t l w₀ w sum b (drop i l)) where
   abbrev end : Tally
   end = endTally (hasTry s l)
 
@@ -136,11 +132,11 @@ module _ (s l w₀ a : List ℕ) (n : ℕ) (R : Reads s w₀ a n l) (w : List �
   sum-end : (r x : Tally) → Ends r → b ≡ hasTry s l → capped (plus sum (plus nothing end)) ≡ x → r ≡ x
   sum-end r x p q m = p (c .small .0) (c .small .1) ∙ ap (λ (y : Tally). capped (plus sum y)) (ap endTally q ∙ sym (nothing-plus end)) ∙ m
 
-  pub chain-end : (r : Tally) (x : ℕ) → n ≤ i → Ends r → x ≡ either b 0 2 → ChainOf s l w₀ w r x
+  pub chain-end : (r : Tally) (x : ℕ) → n ≤ i → Ends r → x ≡ either b 0 2 → ChainOf s t l w₀ w r x
   unfolding triesTally hasTry endOf wants
   chain-end r x h p q =
       let none : drop i l ≡ [] = drop-of-length-le l {i = i} (omega (arith, h, R .listed .count)) in
-      let d : Chaining s l w₀ w sum b [] = rw none at c in
+      let d : Chaining s t l w₀ w sum b [] = rw none at c in
       let b-is : b ≡ hasTry s l = sym (or-false b) ∙ d .tried-is in
       record {
         sum-is = sum-end r _ p b-is (d .sums);
@@ -165,7 +161,7 @@ module _ (s l w₀ a : List ℕ) (n : ℕ) (R : Reads s w₀ a n l) (w : List �
     below : k < blockCount s
     below = rw here at (R .named i inside)
 
-    d : Chaining s l w₀ w sum b (k ∷ ks)
+    d : Chaining s t l w₀ w sum b (k ∷ ks)
     d = rw (drop-cons l i 0 inside ∙ ap₂ (λ (y m : ℕ). y ∷ drop m l) here (sym (add-one i))) at c
 
     row : (u : List ℕ) → Within wantedAt casePlaceAt w₀ u → knownIn u k ≡ knownBy (guardKind s (guardOf s k)) (capped adds)
@@ -176,7 +172,7 @@ module _ (s l w₀ a : List ℕ) (n : ℕ) (R : Reads s w₀ a n l) (w : List �
     kind-is =
         sym (kind-told (guardKind s (guardOf s k)) (capped adds)) ∙ ap kindBy (sym (at ∙ ap (λ (y : Known). y .kind) (row w (c .within))))
 
-    pub chain-never : x ≡ 0 → Chaining s l w₀ w sum b ks
+    pub chain-never : x ≡ 0 → Chaining s t l w₀ w sum b ks
     unfolding kindBy triesTally hasTry endOf wants
     chain-never q =
         let g : guardKind s (guardOf s k) ≡ never = kind-is ∙ ap kindBy q in
@@ -198,7 +194,7 @@ module _ (s l w₀ a : List ℕ) (n : ℕ) (R : Reads s w₀ a n l) (w : List �
           let few : k < 64 = omega (arith, below, R .few) in
           rw e (within-then (c .within) (within-put wantedAt casePlaceAt w (wantedAt + k) 1 (omega arith) (omega (arith, few))))
 
-      pub chain-always : (r : Tally) (y z : ℕ) → x ≡ 1 → Ends r → y ≡ either b 1 z → (k < 64 → z ≡ k + 3) → ChainOf s l w₀ v r y
+      pub chain-always : (r : Tally) (y z : ℕ) → x ≡ 1 → Ends r → y ≡ either b 1 z → (k < 64 → z ≡ k + 3) → ChainOf s t l w₀ v r y
       unfolding kindBy triesTally hasTry endOf wants
       chain-always r y z q p o f =
           let g : guardKind s (guardOf s k) ≡ always = kind-is ∙ ap kindBy q in
@@ -214,7 +210,7 @@ module _ (s l w₀ a : List ℕ) (n : ℕ) (R : Reads s w₀ a n l) (w : List �
 
       pub chain-tried : (r u : Tally) → (x ≡ 0 → ⊥) → (x ≡ 1 → ⊥)
           → u ≡ counted (cell v (guardLenAt + k)) (cell v (guardEmittedAt + k)) (eqb x 3) → r ≡ capped (plus sum u)
-          → Chaining s l w₀ v r true ks
+          → Chaining s t l w₀ v r true ks
       unfolding knownBy triesTally hasTry endOf wants
       chain-tried r u p q u-is r-is =
           let g : guardKind s (guardOf s k) ≡ tried = kind-is ∙ kind-many x p q in

@@ -10,7 +10,6 @@ use lib.Seq.{getD-set-same}
 use borrow.Author.Tests.{leb-true, eq-eqb}
 use Rattle.words.specs.CountLaws.{all-at}
 use Rattle.sheet.specs.Layout.{nodeCount}
-use Rattle.sheet.specs.Limits.{maxDepth}
 use Rattle.sheet.specs.Node.{kind}
 use Rattle.numbers.specs.Numbers.{exist, numberAmong, numberOk, nodeNumbersOk, numbersOk}
 use Rattle.checks.specs.Checked.{numberOf, checked}
@@ -24,17 +23,17 @@ use Rattle.counting.specs.declared.tallies.Tally.{Tally}
 use Rattle.counting.specs.Limits.{cap}
 use Rattle.counting.specs.Tally.{instructions, plus, capped}
 use Rattle.counting.specs.TallyLaws.{or-assoc, plus-assoc, capped-left, back-capped}
-use Rattle.counting.specs.Count.{Rec, tally}
+use Rattle.counting.specs.Count.{Rec}
 use Rattle.totals.specs.Arms.{anyWants, armsTally}
 use Rattle.totals.specs.ArmsAdd.{any-append}
 use Rattle.totals.specs.Bodies.{bodiesTally}
-use Rattle.totals.specs.Total.{caseLists, splitLists, bodiesOf, switchTally, switchTotal}
+use Rattle.totals.specs.Total.{caseLists, splitLists, bodiesOf, switchTally}
 use Rattle.totals.specs.Place.{casesPlace, dispatchPlace, bodiesPlace, bodyFrom, bodyPlace, defaultPlace}
 use Rattle.tables.specs.Columns.{size, runsAt, runPlaceAt, runExitAt, wantedAt, casePlaceAt, caseExitAt, bodyAt, dispatchAt, defaultAt}
 use Rattle.tables.specs.Columns.{caseConstAt, cell, Within}
 use Rattle.tables.specs.Runs.{runAt, runsIn, entryOf}
-use Rattle.tables.specs.Table.{Guards}
-use Rattle.tables.specs.Planned.{Tables, Placed, entries, wantIn, wantedBy}
+use Rattle.tables.specs.Table.{GuardsBy}
+use Rattle.tables.specs.Planned.{TablesBy, PlacedBy, entries, wantIn, wantedBy}
 use Rattle.tables.proofs.Accepted.{accepted-numbers}
 use Rattle.tables.proofs.ColumnLaws.{within-put}
 use Rattle.plan.specs.Counted.{Counted}
@@ -52,7 +51,7 @@ unfolding runsIn
 runs-length w zero = refl
 runs-length w (suc n) = omega (arith, length-append (runsIn w n) (runAt w n ∷ []), runs-length w n)
 
-entry-count : {s w : List ℕ} → Tables s w → cell w runsAt ≡ length (entries s)
+entry-count : {s w : List ℕ} {tal : Rec} → TablesBy s tal w → cell w runsAt ≡ length (entries s)
 entry-count {s} {w} t =
     sym (runs-length w (cell w runsAt))
     ∙ sym (length-map (runsIn w (cell w runsAt)) (entryOf (rangesOf s) (cuts (rangesOf s))))
@@ -85,52 +84,52 @@ second-most {n = suc n} p h = most _ (p .sum)
 -- ---- what each pass is given
 
 -- the subject and the Switch, as the code adds them
-pub head-of : (s : List ℕ) {j : ℕ} {sub one head : Tally} → j ≡ subject → sub ≡ capped (tally maxDepth s j) → one ≡ instructions 1
-    → head ≡ capped (plus sub one) → head ≡ capped (plus (capped (tally maxDepth s subject)) (instructions 1))
-head-of s e p q h = rw (h, p, q, e)
+pub head-of : (tal : Rec) {j : ℕ} {sub one head : Tally} → j ≡ subject → sub ≡ capped (tal j) → one ≡ instructions 1
+    → head ≡ capped (plus sub one) → head ≡ capped (plus (capped (tal subject)) (instructions 1))
+head-of tal e p q h = rw (h, p, q, e)
 
-pub exits-of : {s w v : List ℕ} {b r : Tally} → Tables s v → Laid s (caseLists s) casePlaceAt caseExitAt b w v r → Exits s v (caseLists s)
+pub exits-of : {s w v : List ℕ} {tal : Rec} {b r : Tally} → TablesBy s tal v → Laid s tal (caseLists s) casePlaceAt caseExitAt b w v r
+    → Exits s v (caseLists s)
 exits-of t p = record { count = sym (case-count t); few = omega (arith, case-count t, t .few-heads); exit = p .exits }
 
 pub second-in : {n : ℕ} {i : Bool} {b r : Tally} {w v : List ℕ} → Second n i b w v r → Within dispatchAt defaultAt w v
 second-in {n} {i} {b} {r} {w} p =
     rw (p .put) (within-put dispatchAt defaultAt w dispatchAt (secondAt n i (b .len)) (omega arith) (omega arith))
 
-pub second-by : {s w v : List ℕ} {i : Bool} {b r : Tally} → Tables s w → Second (cell w runsAt) i b w v r
+pub second-by : {s w v : List ℕ} {tal : Rec} {i : Bool} {b r : Tally} → TablesBy s tal w → Second (cell w runsAt) i b w v r
     → Second (length (entries s)) i b w v r
 second-by t p = rw (← entry-count t) p
 
 -- the blocks that are wanted: by the default, by the cases, and by the runs
-pub wanted-by : {s w₁ w₂ w₃ w₄ : List ℕ} {n def a b c d : ℕ} {ls ms : List (List ℕ)} {h i j k : Tally} → n ≡ blockCount s → n ≤ 64
-    → def ≡ defaultBlock s → ((m : ℕ) → m < n → wantIn w₁ m ≡ eqb def (suc m)) → Laid s ls a b h w₁ w₂ i → Within dispatchAt defaultAt w₂ w₃
-    → Laid s ms c d j w₃ w₄ k → (m : ℕ) → m < blockCount s → wantIn w₄ m ≡ wantedBy s (defaultBlock s) (ls ++ ms) m
-wanted-by {s} {ls = ls} {ms = ms} e few d-is one p in₃ q m l =
+pub wanted-by : {tal : Rec} {s w₁ w₂ w₃ w₄ : List ℕ} {n def a b c d : ℕ} {ls ms : List (List ℕ)} {h i j k : Tally} → n ≡ blockCount s
+    → n ≤ 64
+    → def ≡ defaultBlock s → ((m : ℕ) → m < n → wantIn w₁ m ≡ eqb def (suc m)) → Laid s tal ls a b h w₁ w₂ i
+    → Within dispatchAt defaultAt w₂ w₃
+    → Laid s tal ms c d j w₃ w₄ k → (m : ℕ) → m < blockCount s → wantIn w₄ m ≡ wantedBy s (defaultBlock s) (ls ++ ms) m
+wanted-by {s = s} {ls = ls} {ms = ms} e few d-is one p in₃ q m l =
     q .wanted m l
     ∙ rw (in₃ .low (wantedAt + m) (omega (arith, e)), p .wanted m l, one m (omega (arith, e)), d-is, any-append)
     (or-assoc (eqb (defaultBlock s) (suc m)) (anyWants s m ls) (anyWants s m ms))
 
 -- all blocks are read
-pub bodies-of : {s w v : List ℕ} {n d : ℕ} {ls : List (List ℕ)} {b r : Tally} {P : Type 0} → n ≡ blockCount s → Tables s w
-    → (Guards s w n → ((j : ℕ) → j < n → wantIn w j ≡ wantedBy s d ls j) → BodiesLaid s ls d n b v r × P)
-    → ((j : ℕ) → j < blockCount s → wantIn w j ≡ wantedBy s d ls j) → BodiesLaid s ls d (blockCount s) b v r × P
+pub bodies-of : {tal : Rec} {s w v : List ℕ} {n d : ℕ} {ls : List (List ℕ)} {b r : Tally} {P : Type 0} → n ≡ blockCount s → TablesBy s tal w
+    → (GuardsBy s tal w n → ((j : ℕ) → j < n → wantIn w j ≡ wantedBy s d ls j) → BodiesLaid s tal ls d n b v r × P)
+    → ((j : ℕ) → j < blockCount s → wantIn w j ≡ wantedBy s d ls j) → BodiesLaid s tal ls d (blockCount s) b v r × P
 bodies-of e t f g = rw (← e) (f (rw e (t .guards)) (λ j l. g j (omega (arith, e))))
 
 -- what the passes leave in turn: w₁ the want of the default, w₂ the chains of the cases, w₃ the second Switch, w₄ the chains of the runs,
 -- w₅ the bodies, w₆ the end
-module _ {s w₁ w₂ w₃ w₄ w₅ w₆ : List ℕ} {head cases switched runs all : Tally} {def : ℕ} (few : defaultBlock s ≤ blockCount s)
-    (d-is : def ≡ defaultBlock s) (head-sum : head ≡ capped (plus (capped (tally maxDepth s subject)) (instructions 1)))
-    (chains₂ : Laid s (caseLists s) casePlaceAt caseExitAt head w₁ w₂ cases)
+module _ {s w₁ w₂ w₃ w₄ w₅ w₆ : List ℕ} {t : Rec} {head cases switched runs all : Tally} {def : ℕ} (few : defaultBlock s ≤ blockCount s)
+    (d-is : def ≡ defaultBlock s) (head-sum : head ≡ capped (plus (capped (t subject)) (instructions 1)))
+    (chains₂ : Laid s t (caseLists s) casePlaceAt caseExitAt head w₁ w₂ cases)
     (second : Second (length (entries s)) (idlesFrom s false (caseLists s)) cases w₂ w₃ switched)
     (long : length w₂ ≡ size)
-    (chains₄ : Laid s (splitLists (entries s)) runPlaceAt runExitAt switched w₃ w₄ runs × Within runPlaceAt casePlaceAt w₃ w₄)
+    (chains₄ : Laid s t (splitLists (entries s)) runPlaceAt runExitAt switched w₃ w₄ runs × Within runPlaceAt casePlaceAt w₃ w₄)
     (wanted₄ : (k : ℕ) → k < blockCount s → wantIn w₄ k ≡ wantedBy s (defaultBlock s) (caseLists s ++ splitLists (entries s)) k)
-    (bodies₅ : BodiesLaid s (caseLists s ++ splitLists (entries s)) (defaultBlock s) (blockCount s) runs w₅ all
+    (bodies₅ : BodiesLaid s t (caseLists s ++ splitLists (entries s)) (defaultBlock s) (blockCount s) runs w₅ all
     × Within bodyAt dispatchAt w₄ w₅)
-    (tables₅ : Tables s w₅) (end-in : Within defaultAt caseConstAt w₅ w₆)
+    (tables₅ : TablesBy s t w₅) (end-in : Within defaultAt caseConstAt w₅ w₆)
     (finished : all .len < cap → runs .len ≤ cap → Finished w₅ w₆ def (runs .len) (all .len)) where
-  abbrev t : Rec
-  t = tally maxDepth s
-
   abbrev es : List Split.Entry
   es = entries s
 
@@ -209,7 +208,7 @@ module _ {s w₁ w₂ w₃ w₄ w₅ w₆ : List ℕ} {head cases switched runs 
     end-of : Finished w₅ w₆ (defaultBlock s) (runs .len) (all .len)
     end-of = rw (← d-is) (finished (omega (arith, all-is, ends-fit)) (omega (arith, runs-is, ends-fit)))
 
-    placed : Placed s w₆
+    placed : PlacedBy s t w₆
     placed = record {
       wanted = λ k h. ap (λ x. eqb x 1) (after-runs (wantedAt + k) (omega (arith, tables₅ .few-blocks))) ∙ wanted₄ k h;
       bodies = λ k h. end-in .low (bodyAt + k) (omega (arith, tables₅ .few-blocks)) ∙ body-at k h;
@@ -235,8 +234,8 @@ module _ {s w₁ w₂ w₃ w₄ w₅ w₆ : List ℕ} {head cases switched runs 
           end-of .fallback-is ∙ rw (entry-count tables₅, default-by (defaultBlock s) few, dispatch₅) (fall-by s t es (defaultBlock s));
     }
 
-  pub counted : {r last : Tally} {c : ℕ} → c ≡ lastOnes def → last ≡ instructions c → r ≡ capped (plus all last) → Counted s w₆ r
-  unfolding switchTotal switchTally bodiesOf
+  pub counted : {r last : Tally} {c : ℕ} → c ≡ lastOnes def → last ≡ instructions c → r ≡ capped (plus all last) → Counted s t w₆ r
+  unfolding switchTally bodiesOf
   counted {r} e q h = record {
     total =
         rw (h, q, e, d-is, bodies₅ .0 .sum, chains₄ .0 .sum, second .sum, chains₂ .sum, head-sum)

@@ -7,7 +7,6 @@ use native.Mathlib.Omega.{arith}
 use lib.ListN.{length, set, length-set}
 use lib.Seq.{getD-set-same, getD-set-other}
 use borrow.Author.Tests.{eq-eqb, ne-eqb}
-use Rattle.sheet.specs.Limits.{maxDepth}
 use Rattle.sheet.specs.Node.{kind, fieldA, child, next}
 use Rattle.sheet.specs.Walk.{skip}
 use Rattle.switches.specs.Switch.{firstCase}
@@ -18,9 +17,9 @@ use Rattle.counting.specs.declared.tallies.Tally.{Tally}
 use Rattle.counting.specs.Limits.{cap}
 use Rattle.counting.specs.Tally.{instructions, plus, capped}
 use Rattle.counting.specs.TallyLaws.{capped-left}
-use Rattle.counting.specs.Count.{tally}
+use Rattle.counting.specs.Count.{Rec}
 use Rattle.tables.specs.Columns.{size, guardAt, guardLenAt, guardEmittedAt, guardNodeAt, caseHeadsAt, cell, Within}
-use Rattle.tables.specs.Table.{Known, triedKind, knownBy, knownOf, knownIn, Guards}
+use Rattle.tables.specs.Table.{Known, triedKind, knownBy, knownOf, knownIn, GuardsBy}
 use Rattle.tables.proofs.ColumnLaws.{within-none, within-then}
 use Rattle.tables.proofs.NodesLaws.{body-at, guard-next}
 use Rattle.plan.specs.Known.{withKnown, withGuard}
@@ -46,39 +45,40 @@ cut-small b e = (omega (arith, ap (λ (x : Tally). x .len) e), omega (arith, ap 
 
 -- ---- what a guard is
 
-module _ (s : List ℕ) (j : ℕ) where
-  pub known-never : fieldA s j ≡ 0 → kind s j ≡ boolKind → record { kind = 0; len = 0; emitted = 0 } ≡ knownOf s j
+module _ (s : List ℕ) (tal : Rec) (j : ℕ) where
+  pub known-never : fieldA s j ≡ 0 → kind s j ≡ boolKind → record { kind = 0; len = 0; emitted = 0 } ≡ knownOf s tal j
   unfolding knownOf knownBy guardKind
   known-never z e = rw (eq-eqb (kind s j) boolKind e, eq-eqb (fieldA s j) 0 z, knownOf, guardKind)
 
-  pub known-always : (fieldA s j ≡ 0 → ⊥) → kind s j ≡ boolKind → record { kind = 1; len = 0; emitted = 0 } ≡ knownOf s j
+  pub known-always : (fieldA s j ≡ 0 → ⊥) → kind s j ≡ boolKind → record { kind = 1; len = 0; emitted = 0 } ≡ knownOf s tal j
   unfolding knownOf knownBy guardKind
   known-always z e = rw (eq-eqb (kind s j) boolKind e, ne-eqb (fieldA s j) 0 z, knownOf, guardKind)
 
   -- by the sums that the code makes
-  pub known-tried : (t a b : Tally) (x l m : ℕ) → (kind s j ≡ boolKind → ⊥) → t ≡ capped (plus a b) → a ≡ capped (tally maxDepth s j)
+  pub known-tried : (t a b : Tally) (x l m : ℕ) → (kind s j ≡ boolKind → ⊥) → t ≡ capped (plus a b) → a ≡ capped (tal j)
       → b ≡ instructions 1 → x ≡ triedKind (t .defeated) → (t .len ≤ cap → l ≡ t .len) → (t .emitted ≤ cap → m ≡ t .emitted)
-      → record { kind = x; len = l; emitted = m } ≡ knownOf s j
+      → record { kind = x; len = l; emitted = m } ≡ knownOf s tal j
   unfolding knownOf knownBy guardKind
   known-tried t a b x l m ne p q r kx kl km =
-      let is : t ≡ capped (plus (tally maxDepth s j) (instructions 1)) =
-      p ∙ ap₂ (λ (y z : Tally). capped (plus y z)) q r ∙ capped-left (tally maxDepth s j) (instructions 1) in
+      let is : t ≡ capped (plus (tal j) (instructions 1)) =
+      p ∙ ap₂ (λ (y z : Tally). capped (plus y z)) q r ∙ capped-left (tal j) (instructions 1) in
       rw (ne-eqb (kind s j) boolKind ne, knownOf, guardKind)
       (known-path kx (kl (cut-small (plus a b) p .0)) (km (cut-small (plus a b) p .1)) ∙ ap (knownBy tried) is)
 
 -- ---- what is written of one
 
-pub with-guard : (s w a v : List ℕ) (k j : ℕ) (x : Known) → a ≡ set w (guardNodeAt + k) j → v ≡ withKnown a k x → x ≡ knownOf s j
-    → v ≡ withGuard s w k j
+pub with-guard : (s : List ℕ) (tal : Rec) (w a v : List ℕ) (k j : ℕ) (x : Known) → a ≡ set w (guardNodeAt + k) j → v ≡ withKnown a k x
+    → x ≡ knownOf s tal j
+    → v ≡ withGuard s tal w k j
 unfolding withGuard
-with-guard s w a v k j x p q e = q ∙ ap₂ (λ (y : List ℕ) (z : Known). withKnown y k z) p e
+with-guard s tal w a v k j x p q e = q ∙ ap₂ (λ (y : List ℕ) (z : Known). withKnown y k z) p e
 
-module _ (s w : List ℕ) (k j : ℕ) (z : length w ≡ size) (h : k < 64) where
+module _ (s : List ℕ) (tal : Rec) (w : List ℕ) (k j : ℕ) (z : length w ≡ size) (h : k < 64) where
   abbrev x : Known
-  x = knownOf s j
+  x = knownOf s tal j
 
   abbrev v : List ℕ
-  v = withGuard s w k j
+  v = withGuard s tal w k j
 
   abbrev w₁ : List ℕ
   w₁ = set w (guardNodeAt + k) j
@@ -117,11 +117,11 @@ module _ (s w : List ℕ) (k j : ℕ) (z : length w ≡ size) (h : k < 64) where
       ∙ getD-set-same w₂ (guardLenAt + k) (x .len) 0 (omega (arith, z₂, h)))
       (getD-set-same w₃ (guardEmittedAt + k) (x .emitted) 0 (omega (arith, z₃, h)))
 
-  guards-on : Guards s w k → j ≡ guardOf s k → Guards s v (k + 1)
+  guards-on : GuardsBy s tal w k → j ≡ guardOf s k → GuardsBy s tal v (k + 1)
   guards-on g e = record {
-    known = one-more (λ i. knownIn v i ≡ knownOf s (guardOf s i)) k
+    known = one-more (λ i. knownIn v i ≡ knownOf s tal (guardOf s i)) k
         (λ i l. known-path (same 0 i l) (same 1 i l) (same 2 i l) ∙ g .known i l)
-        (known-here ∙ ap (knownOf s) e);
+        (known-here ∙ ap (knownOf s tal) e);
     node = one-more (λ i. cell v (guardNodeAt + i) ≡ guardOf s i) k (λ i l. same 3 i l ∙ g .node i l) (node-here ∙ e);
   }
     where
@@ -131,18 +131,20 @@ module _ (s w : List ℕ) (k j : ℕ) (z : length w ≡ size) (h : k < 64) where
 -- ---- the loop
 
 -- guards up to block k are there, from the table w₀ on
-abbrev pub Filled : List ℕ → List ℕ → List ℕ → ℕ → Type 0
-Filled s w₀ w k = Guards s w k × Within guardAt caseHeadsAt w₀ w
+abbrev pub Filled : List ℕ → Rec → List ℕ → List ℕ → ℕ → Type 0
+Filled s tal w₀ w k = GuardsBy s tal w k × Within guardAt caseHeadsAt w₀ w
 
-pub filled-none : (s w : List ℕ) → Filled s w w 0
-filled-none s w = (record { known = λ i l. absurd (omega arith); node = λ i l. absurd (omega arith) }, within-none guardAt caseHeadsAt w)
+pub filled-none : (s : List ℕ) (tal : Rec) (w : List ℕ) → Filled s tal w w 0
+filled-none s tal w =
+    (record { known = λ i l. absurd (omega arith); node = λ i l. absurd (omega arith) }, within-none guardAt caseHeadsAt w)
 
-pub filled-on : (s w₀ w v : List ℕ) (k j : ℕ) → Filled s w₀ w k → length w ≡ size → k < 64 → j ≡ guardOf s k → v ≡ withGuard s w k j
-    → Filled s w₀ v (k + 1)
-filled-on s w₀ w v k j f z h e q =
-    let moved : Within guardAt caseHeadsAt w (withGuard s w k j) =
-    record { low = λ i l. absurd (omega arith); high = λ i l. aside s w k j z h i (λ m d r. omega arith) } in
-    rw q (guards-on s w k j z h (f .0) e, within-then (f .1) moved)
+pub filled-on : (s : List ℕ) (tal : Rec) (w₀ w v : List ℕ) (k j : ℕ) → Filled s tal w₀ w k → length w ≡ size → k < 64 → j ≡ guardOf s k
+    → v ≡ withGuard s tal w k j
+    → Filled s tal w₀ v (k + 1)
+filled-on s tal w₀ w v k j f z h e q =
+    let moved : Within guardAt caseHeadsAt w (withGuard s tal w k j) =
+    record { low = λ i l. absurd (omega arith); high = λ i l. aside s tal w k j z h i (λ m d r. omega arith) } in
+    rw q (guards-on s tal w k j z h (f .0) e, within-then (f .1) moved)
 
 -- the guard of block k is node j
 pub first-guard : (s : List ℕ) {x j : ℕ} → x ≡ child 0 → j ≡ next s x → j ≡ guardOf s 0

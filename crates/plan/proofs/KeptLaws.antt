@@ -8,6 +8,7 @@ use lib.ListN.{length, length-take}
 use Rattle.cases.specs.Points.{cuts}
 use Rattle.cases.specs.PointsLaws.{cuts-length}
 use Rattle.lowering.specs.SwitchSheet.{rangesOf}
+use Rattle.counting.specs.Count.{Rec}
 use Rattle.tables.specs.Columns.{guardAt, guardLenAt, guardEmittedAt, guardNodeAt, caseHeadsAt, caseNumberAt, headNodeAt, spansAt, lowAt}
 use Rattle.tables.specs.Columns.{highAt, runsAt, runFirstAt, runLastAt, runHeadsAt, runNumberAt, runHeadAt, runHashAt, runPlaceAt}
 use Rattle.tables.specs.Columns.{runExitAt, wantedAt, casePlaceAt, caseExitAt, bodyAt, dispatchAt, defaultAt, endAt, fallbackAt}
@@ -15,8 +16,8 @@ use Rattle.tables.specs.Columns.{caseConstAt, cell, column, Within}
 use Rattle.tables.specs.Spans.{Span, blocksAt}
 use Rattle.tables.specs.Heads.{caseKey}
 use Rattle.tables.specs.Runs.{Run, runsIn, entryOf}
-use Rattle.tables.specs.Table.{knownIn, Guards, headKeys, rangesRead, spansIn, pieceIn, CutWords}
-use Rattle.tables.specs.Planned.{Tables, Placed, entries}
+use Rattle.tables.specs.Table.{knownIn, GuardsBy, headKeys, rangesRead, spansIn, pieceIn, CutWords}
+use Rattle.tables.specs.Planned.{TablesBy, PlacedBy, entries}
 use Rattle.tables.proofs.ColumnLaws.{column-kept, keys-length}
 use Rattle.lists.proofs.SpanLaws.{spans-same}
 use Rattle.totals.specs.Total.{caseLists, splitLists}
@@ -31,7 +32,7 @@ module _ (w v : List ℕ) (b : ℕ) (same : (i : ℕ) → i < b → cell v i ≡
   counted-stays : (at c m : ℕ) → c < b → at + m ≤ b → cell w c ≤ m → column v at (cell v c) ≡ column w at (cell w c)
   counted-stays at c m l h k = ap (column v at) (same c l) ∙ column-kept w v at (cell w c) (λ i n. same (at + i) (omega arith))
 
-  pub guards-stay : (s : List ℕ) (n : ℕ) → caseHeadsAt ≤ b → n ≤ 64 → Guards s w n → Guards s v n
+  pub guards-stay : (s : List ℕ) {tal : Rec} (n : ℕ) → caseHeadsAt ≤ b → n ≤ 64 → GuardsBy s tal w n → GuardsBy s tal v n
   guards-stay s n h l g = record {
     known = λ k m.
         let known : knownIn v k ≡ knownIn w k = λ i. record {
@@ -77,7 +78,7 @@ module _ (w v : List ℕ) (b : ℕ) (same : (i : ℕ) → i < b → cell v i ≡
 
   -- ---- all that is read
 
-  pub tables-stay : (s : List ℕ) → runHashAt ≤ b → Tables s w → Tables s v
+  pub tables-stay : (s : List ℕ) {tal : Rec} → runHashAt ≤ b → TablesBy s tal w → TablesBy s tal v
   tables-stay s h t = record {
     few-blocks = t .few-blocks;
     few-cases = t .few-cases;
@@ -103,20 +104,21 @@ module _ (w v : List ℕ) (b : ℕ) (same : (i : ℕ) → i < b → cell v i ≡
   }
 
 -- what is read stays where only cells of the count change
-pub tables-kept : {s w v : List ℕ} {lo hi : ℕ} → Tables s w → Within lo hi w v → runHashAt ≤ lo → Tables s v
-tables-kept {s} {w} {v} {lo} t c h = tables-stay w v lo (λ i l. c .low i l) s h t
+pub tables-kept : {s w v : List ℕ} {tal : Rec} {lo hi : ℕ} → TablesBy s tal w → Within lo hi w v → runHashAt ≤ lo → TablesBy s tal v
+tables-kept {s} {w} {v} {tal} {lo} t c h = tables-stay w v lo (λ i l. c .low i l) s h t
 
 -- ---- where the parts stand
 
 -- how many chains there are
-pub case-count : {s w : List ℕ} → Tables s w → length (caseLists s) ≡ cell w caseHeadsAt
+pub case-count : {s w : List ℕ} {tal : Rec} → TablesBy s tal w → length (caseLists s) ≡ cell w caseHeadsAt
 case-count {s} {w} t = sym (ap length (t .case-heads)) ∙ keys-length (caseKey s) w headNodeAt (cell w caseHeadsAt)
 
-pub run-count : {s w : List ℕ} → Tables s w → length (splitLists (entries s)) ≡ cell w runHeadsAt
+pub run-count : {s w : List ℕ} {tal : Rec} → TablesBy s tal w → length (splitLists (entries s)) ≡ cell w runHeadsAt
 run-count {s} {w} t = sym (ap length (t .run-heads)) ∙ keys-length (pieceIn w) w runHeadAt (cell w runHeadsAt)
 
-pub placed-kept : {s w v : List ℕ} {lo hi : ℕ} → Tables s w → Placed s w → Within lo hi w v → caseConstAt ≤ lo → Placed s v
-placed-kept {s} {w} {v} {lo} t p c h = record {
+pub placed-kept : {s w v : List ℕ} {tal : Rec} {lo hi : ℕ} → TablesBy s tal w → PlacedBy s tal w → Within lo hi w v → caseConstAt ≤ lo
+    → PlacedBy s tal v
+placed-kept {s} {w} {v} {tal} {lo} t p c h = record {
   wanted = λ k l. ap (λ x. eqb x 1) (same (wantedAt + k) (omega (arith, t .few-blocks))) ∙ p .wanted k l;
   bodies = λ k l. same (bodyAt + k) (omega (arith, t .few-blocks)) ∙ p .bodies k l;
   case-chains = record {

@@ -10,7 +10,6 @@ use native.Mathlib.Numerals.{add-one}
 use lib.Dec.{eqb}
 use lib.ListN.{length, getD, set, take, drop, length-set, drop-of-length-le}
 use lib.Seq.{getD-set-same, getD-set-other, drop-cons}
-use Rattle.sheet.specs.Limits.{maxDepth}
 use Rattle.sheet.specs.Node.{kind}
 use Rattle.checks.specs.Checked.{numberOf, checked}
 use Rattle.lowering.specs.Kinds.{switchKind}
@@ -22,14 +21,14 @@ use Rattle.counting.specs.declared.tallies.Tally.{Tally}
 use Rattle.counting.specs.Limits.{cap}
 use Rattle.counting.specs.Tally.{instructions, nothing, plus, capped}
 use Rattle.counting.specs.TallyLaws.{or-assoc, or-false, plus-assoc, capped-left, capped-right}
-use Rattle.counting.specs.Count.{Rec, tally}
+use Rattle.counting.specs.Count.{Rec}
 use Rattle.totals.specs.Arms.{wants, anyWants, armTally, armsTally}
 use Rattle.totals.specs.Total.{caseLists, splitLists}
 use Rattle.tables.specs.Columns.{size, caseHeadsAt, spansAt, lowAt, runPlaceAt, runExitAt, wantedAt, casePlaceAt, caseExitAt, bodyAt, cell}
 use Rattle.tables.specs.Columns.{column, Within}
 use Rattle.tables.specs.Listed.{Listed}
 use Rattle.tables.specs.Table.{pieceIn}
-use Rattle.tables.specs.Planned.{exitOf, chainPlace, wantIn, Tables, entries}
+use Rattle.tables.specs.Planned.{exitOf, chainPlace, wantIn, TablesBy, entries}
 use Rattle.tables.proofs.Accepted.{accepted-numbers}
 use Rattle.tables.proofs.ColumnLaws.{within-none, within-then, keys-length, key-at}
 use Rattle.lists.proofs.SpanLaws.{piece-kept}
@@ -53,12 +52,13 @@ aside w v h i clear =
           ]
     ]
 
-pub laid-one : {s l w a u w₁ w₂ : List ℕ} {n place exit x p : ℕ} {b y r : Tally} → Reads s w a n l → Cells place exit → b .len ≤ cap
-    → ChainOf s l w u y x → length u ≡ length w → w₁ ≡ set u place p → (b .len ≤ cap → p ≡ b .len) → w₂ ≡ set w₁ exit x
-    → r ≡ capped (plus b y) → LaidOne s l place exit b w w₂ r
-laid-one {s} {l} {w} {a} {u} {w₁} {w₂} {n} {place} {exit} {x} {p} {b} R C small c same e p-is f q =
+pub laid-one : {t : Rec} {s l w a u w₁ w₂ : List ℕ} {n place exit x p : ℕ} {b y r : Tally} → Reads s t w a n l → Cells place exit
+    → b .len ≤ cap
+    → ChainOf s t l w u y x → length u ≡ length w → w₁ ≡ set u place p → (b .len ≤ cap → p ≡ b .len) → w₂ ≡ set w₁ exit x
+    → r ≡ capped (plus b y) → LaidOne s t l place exit b w w₂ r
+laid-one {t} {s} {l} {w} {a} {u} {w₁} {w₂} {n} {place} {exit} {x} {p} {b} R C small c same e p-is f q =
     rw (f, e, q) (record {
-      sum-is = ap (λ (z : Tally). capped (plus b z)) (c .sum-is) ∙ capped-right b (armTally s (tally maxDepth s) l);
+      sum-is = ap (λ (z : Tally). capped (plus b z)) (c .sum-is) ∙ capped-right b (armTally s t l);
       place-is =
           getD-set-other (set u place p) exit place x 0 (C .apart)
           ∙ getD-set-same u place p 0 (omega (arith, C .place-in, same, R .whole))
@@ -106,17 +106,18 @@ take-more s t (l ∷ ls) zero h = omega arith
 take-more s t (l ∷ ls) (suc q) h = omega (arith, take-more s t ls q (omega arith))
 
 -- lists below q are passed
-pub record Laying (s : List ℕ) (ls : List (List ℕ)) (at out lo hi : ℕ) (b : Tally) (w₀ w : List ℕ) (sum : Tally) (q : ℕ) : Type 0 where
+pub record Laying (s : List ℕ) (t : Rec) (ls : List (List ℕ)) (at out lo hi : ℕ) (b : Tally) (w₀ w : List ℕ) (sum : Tally)
+    (q : ℕ) : Type 0 where
   pub within : Within lo hi w₀ w
   pub small : Small sum
-  pub start : sum .len ≡ min (chainPlace s ls (b .len) q) cap
-  pub sums : capped (plus sum (armsTally s (tally maxDepth s) (drop q ls))) ≡ capped (plus b (armsTally s (tally maxDepth s) ls))
-  pub places : (p : ℕ) → p < q → cell w (at + p) ≡ min (chainPlace s ls (b .len) p) cap
+  pub start : sum .len ≡ min (chainPlace s t ls (b .len) q) cap
+  pub sums : capped (plus sum (armsTally s t (drop q ls))) ≡ capped (plus b (armsTally s t ls))
+  pub places : (p : ℕ) → p < q → cell w (at + p) ≡ min (chainPlace s t ls (b .len) p) cap
   pub exits : (p : ℕ) → p < q → cell w (out + p) ≡ exitOf s (getD ls p [])
   pub wanted : (k : ℕ) → k < blockCount s → (wantIn w k || anyWants s k (drop q ls)) ≡ (wantIn w₀ k || anyWants s k ls)
 
-module _ {s : List ℕ} {ls : List (List ℕ)} {at out lo hi : ℕ} {b : Tally} where
-  pub laying-start : (w : List ℕ) → b .len ≤ cap → b .emitted ≤ cap → Laying s ls at out lo hi b w w b 0
+module _ {s : List ℕ} {t : Rec} {ls : List (List ℕ)} {at out lo hi : ℕ} {b : Tally} where
+  pub laying-start : (w : List ℕ) → b .len ≤ cap → b .emitted ≤ cap → Laying s t ls at out lo hi b w w b 0
   unfolding armsTally nothing instructions
   laying-start w l m = record {
     within = within-none lo hi w;
@@ -128,8 +129,8 @@ module _ {s : List ℕ} {ls : List (List ℕ)} {at out lo hi : ℕ} {b : Tally} 
     wanted = λ k h. refl;
   }
 
-  pub laying-end : {w₀ w : List ℕ} {sum : Tally} {q : ℕ} → Laying s ls at out lo hi b w₀ w sum q → length ls ≤ q
-      → Laid s ls at out b w₀ w sum × Within lo hi w₀ w
+  pub laying-end : {w₀ w : List ℕ} {sum : Tally} {q : ℕ} → Laying s t ls at out lo hi b w₀ w sum q → length ls ≤ q
+      → Laid s t ls at out b w₀ w sum × Within lo hi w₀ w
   unfolding armsTally anyWants
   laying-end {w = w} {sum} {q} c h =
       let none : drop q ls ≡ [] = drop-of-length-le ls {i = q} h in (
@@ -142,11 +143,10 @@ module _ {s : List ℕ} {ls : List (List ℕ)} {at out lo hi : ℕ} {b : Tally} 
         c .within,
       )
 
-  laying-on : {m : ℕ} {w₀ w v : List ℕ} {sum r : Tally} {q : ℕ} → Columns at out lo hi m → Laying s ls at out lo hi b w₀ w sum q
-      → q < length ls → q < m → LaidOne s (getD ls q []) (at + q) (out + q) sum w v r → Laying s ls at out lo hi b w₀ v r (q + 1)
+  laying-on : {m : ℕ} {w₀ w v : List ℕ} {sum r : Tally} {q : ℕ} → Columns at out lo hi m → Laying s t ls at out lo hi b w₀ w sum q
+      → q < length ls → q < m → LaidOne s t (getD ls q []) (at + q) (out + q) sum w v r → Laying s t ls at out lo hi b w₀ v r (q + 1)
   unfolding armsTally anyWants capped plus
   laying-on {m} {w₀} {w} {v} {sum} {r} {q} C c h few o =
-      let t = tally maxDepth s in
       let l = getD ls q [] in
       let rest = drop (q + 1) ls in
       let rest-is : drop q ls ≡ l ∷ rest = drop-cons ls q [] h ∙ ap (λ (n : ℕ). l ∷ drop n ls) (sym (add-one q)) in
@@ -165,7 +165,7 @@ module _ {s : List ℕ} {ls : List (List ℕ)} {at out lo hi : ℕ} {b : Tally} 
             capped-left (plus sum (armTally s t l)) (armsTally s t rest)
             ∙ ap capped (plus-assoc sum (armTally s t l) (armsTally s t rest))
             ∙ (rw rest-is at (c .sums));
-        places = one-more (λ p. cell v (at + p) ≡ min (chainPlace s ls (b .len) p) cap) q
+        places = one-more (λ p. cell v (at + p) ≡ min (chainPlace s t ls (b .len) p) cap) q
             (λ p d. o .kept (at + p) (λ k y z. C .clear k p y (omega (arith, d, few)) .0 z) (λ z. omega (arith, d, z))
             (λ z. omega (arith, C .order, few, d, z)) ∙ c .places p d)
             (o .place-is ∙ c .start);
@@ -217,19 +217,21 @@ run-columns = record {
 -- ---- the chain of one head more
 
 -- of an accepted switch the chains of the lists below q are laid
-abbrev pub LaidTo : List ℕ → List (List ℕ) → ℕ → ℕ → ℕ → ℕ → Tally → List ℕ → List ℕ → Tally → ℕ → Type 0
-LaidTo s ls at out lo hi b w₀ w sum q =
-    length w₀ ≡ size → numberOf (checked s) ≡ 0 → kind s 0 ≡ switchKind → Tables s w₀ → b .len ≤ cap → b .emitted ≤ cap
-    → Laying s ls at out lo hi b w₀ w sum q
+abbrev pub LaidTo : List ℕ → Rec → List (List ℕ) → ℕ → ℕ → ℕ → ℕ → Tally → List ℕ → List ℕ → Tally → ℕ → Type 0
+LaidTo s t ls at out lo hi b w₀ w sum q =
+    length w₀ ≡ size → numberOf (checked s) ≡ 0 → kind s 0 ≡ switchKind → TablesBy s t w₀ → b .len ≤ cap → b .emitted ≤ cap
+    → Laying s t ls at out lo hi b w₀ w sum q
 
 -- the heads are those by f of the numbers from `nodes` on, as many as cell `count` says
-pub head-on : {s w₀ w a : List ℕ} {ls : List (List ℕ)} {lo many q x m at out hi n y : ℕ} {v : List ℕ} {b sum r : Tally} (f : ℕ → List ℕ)
+pub head-on : {t : Rec} {s w₀ w a : List ℕ} {ls : List (List ℕ)} {lo many q x m at out hi n y : ℕ} {v : List ℕ} {b sum r : Tally} (f : ℕ
+    → List ℕ)
     (nodes count : ℕ) → map f (column w₀ nodes (cell w₀ count)) ≡ ls → caseHeadsAt ≤ lo → nodes + many ≤ lo → Columns at out lo hi many
-    → AllIn (λ (i : ℕ). i < blockCount s) ls → Tables s w₀ → length w ≡ size → Laying s ls at out lo hi b w₀ w sum q → q < n
+    → AllIn (λ (i : ℕ). i < blockCount s) ls → TablesBy s t w₀ → length w ≡ size → Laying s t ls at out lo hi b w₀ w sum q → q < n
     → n ≡ min y many → y ≡ cell w₀ count → x ≡ cell w (nodes + q) → Listed a m (f x)
-    → ((s′ l : List ℕ) → Reads s′ w a m l → Cells (at + q) (out + q) → sum .len ≤ cap → LaidOne s′ l (at + q) (out + q) sum w v r)
-    → Laying s ls at out lo hi b w₀ v r (q + 1)
-head-on {s} {w₀} {w} {a} {ls} {lo} {many} {q} {x} {m} f nodes count heads low behind C named T z c h n-is y-is x-is listed laid =
+    → ((s′ : List ℕ) (t′ : Rec) (l : List ℕ) → Reads s′ t′ w a m l → Cells (at + q) (out + q) → sum .len ≤ cap
+    → LaidOne s′ t′ l (at + q) (out + q) sum w v r)
+    → Laying s t ls at out lo hi b w₀ v r (q + 1)
+head-on {t} {s} {w₀} {w} {a} {ls} {lo} {many} {q} {x} {m} f nodes count heads low behind C named T z c h n-is y-is x-is listed laid =
     let below : q < cell w₀ count = omega (arith, h, n-is, y-is) in
     let inside : q < length ls = omega (arith, below, ap length heads, keys-length f w₀ nodes (cell w₀ count)) in
     let few : q < many = omega (arith, h, n-is) in
@@ -238,7 +240,7 @@ head-on {s} {w₀} {w} {a} {ls} {lo} {many} {q} {x} {m} f nodes count heads low 
     ap f (x-is ∙ c .within .low (nodes + q) (omega (arith, few, behind)))
     ∙ sym (key-at f w₀ nodes [] (cell w₀ count) q below)
     ∙ ap (λ (xs : List (List ℕ)). getD xs q []) heads in
-    let R : Reads s w a m l =
+    let R : Reads s t w a m l =
     record {
       whole = z;
       few = T .few-blocks;
@@ -246,10 +248,10 @@ head-on {s} {w₀} {w} {a} {ls} {lo} {many} {q} {x} {m} f nodes count heads low 
       listed = subst (Listed a m) list listed;
       named = all-place (λ (i : ℕ). i < blockCount s) l (lists-place (λ (i : ℕ). i < blockCount s) ls named q inside);
     } in
-    laying-on C c inside few (laid s l R (columns-cells C q few) (c .small .0))
+    laying-on C c inside few (laid s t l R (columns-cells C q few) (c .small .0))
 
 -- a piece as it was read
-pub piece-listed : {s w₀ w a : List ℕ} {lo hi m : ℕ} (x : ℕ) → Tables s w₀ → Within lo hi w₀ w → lowAt ≤ lo
+pub piece-listed : {t : Rec} {s w₀ w a : List ℕ} {lo hi m : ℕ} (x : ℕ) → TablesBy s t w₀ → Within lo hi w₀ w → lowAt ≤ lo
     → (cell w spansAt ≤ 64 → Listed a m (pieceIn w x)) → Listed a m (pieceIn w₀ x)
 piece-listed x T c h listed =
     rw (sym (piece-kept h (T .few-spans) c x)) (listed (omega (arith, c .low spansAt (omega arith), T .few-spans)))

@@ -14,14 +14,15 @@ use Rattle.cases.specs.Split as Split
 use Rattle.lowering.specs.Kinds.{switchKind}
 use Rattle.lowering.specs.SwitchSheet.{blockCount}
 use Rattle.lowering.specs.Arms.{distinct}
+use Rattle.counting.specs.Count.{Rec}
 use Rattle.totals.specs.Total.{caseLists, splitLists}
 use Rattle.tables.specs.Columns.{caseHeadsAt, caseNumberAt, spansAt, runsAt, runFirstAt, runLastAt, runHeadsAt, wantedAt, cell, column}
 use Rattle.tables.specs.Columns.{Within}
 use Rattle.tables.specs.Spans.{blocksAt}
 use Rattle.tables.specs.Numbers.{numberIn}
 use Rattle.tables.specs.Runs.{runAt, runsIn, entryOf, joined}
-use Rattle.tables.specs.Table.{Guards, CaseHeads, caseKeys, rangesRead, pieceIn, Spanned, CutWords, RunsAre, runKeys, RunHeads}
-use Rattle.tables.specs.Planned.{Tables, entries}
+use Rattle.tables.specs.Table.{GuardsBy, CaseHeads, caseKeys, rangesRead, pieceIn, Spanned, CutWords, RunsAre, runKeys, RunHeads}
+use Rattle.tables.specs.Planned.{TablesBy, entries}
 use Rattle.tables.proofs.Accepted.{few-blocks, few-cases, ranges-whole, blocks-whole}
 use Rattle.tables.proofs.Whole.{case-keys, split-all, run-list}
 use Rattle.tables.proofs.SpansLaws.{piece-list}
@@ -67,13 +68,14 @@ module _ (s : List ℕ) (ok : numberOf (checked s) ≡ 0) (k : kind s 0 ≡ swit
   joined-entries = split-all s ok k (rangesRead s) (cuts (rangesRead s)) (ranges-whole s ok k) refl
 
   -- w₁ has the guards, w₂ the heads of the cases, w₃ the ranges, w₄ the heads of the runs
-  module _ {w₁ w₂ w₃ w₄ : List ℕ} (g : Guards s w₁ (min (blockCount s) 64)) (h : CaseHeads s w₂ × Within caseHeadsAt spansAt w₁ w₂)
+  module _ {w₁ w₂ w₃ w₄ : List ℕ} {tal : Rec} (g : GuardsBy s tal w₁ (min (blockCount s) 64))
+      (h : CaseHeads s w₂ × Within caseHeadsAt spansAt w₁ w₂)
       (x : Spanned s w₃) (u : CutWords s w₃) (a : RunsAre s w₃) (c₃ : Within spansAt wantedAt w₂ w₃)
       (r : RunHeads w₄ × Within runHeadsAt wantedAt w₃ w₄) where
     low : (i : ℕ) → i < spansAt → cell w₄ i ≡ cell w₂ i
     low i l = r .1 .low i (omega arith) ∙ c₃ .low i l
 
-    guards₄ : Guards s w₄ (min (blockCount s) 64)
+    guards₄ : GuardsBy s tal w₄ (min (blockCount s) 64)
     guards₄ = guards-stay w₁ w₄ caseHeadsAt (λ i l. low i (omega arith) ∙ h .1 .low i l) s _ (omega arith) (omega arith) g
 
     spanned₄ : Spanned s w₄
@@ -98,7 +100,7 @@ module _ (s : List ℕ) (ok : numberOf (checked s) ≡ 0) (k : kind s 0 ≡ swit
     unfolding splitLists
     heads₄ = ap distinct keys₄
 
-    pub tables-read : Tables s w₄
+    pub tables-read : TablesBy s tal w₄
     tables-read = record {
       few-blocks = few-blocks s ok k;
       few-cases = few-cases s ok k;

@@ -1,17 +1,16 @@
--- One chain: what a pass reads for it, and what it leaves.
+-- One chain: what a pass reads for it, and what it leaves; t is the tally of a node.
 use Prim.Native.Nat.{ℕ, _+_, _<_, _≤_}
 use mathlib.Core.Path.{_≡_}
 use mathlib.Core.Bool.{Bool, true, false, _||_}
 use mathlib.Core.List.{List}
 use lib.ListN.{length, getD}
-use Rattle.sheet.specs.Limits.{maxDepth}
 use Rattle.lowering.specs.SwitchSheet.{blockCount}
 use Rattle.counting.specs.declared.tallies.Tally.{Tally}
 use Rattle.counting.specs.Tally.{plus, capped}
-use Rattle.counting.specs.Count.{tally}
+use Rattle.counting.specs.Count.{Rec}
 use Rattle.totals.specs.Arms.{wants, armTally}
 use Rattle.tables.specs.Columns.{size, wantedAt, casePlaceAt, cell, Within}
-use Rattle.tables.specs.Table.{Guards}
+use Rattle.tables.specs.Table.{GuardsBy}
 use Rattle.tables.specs.Listed.{Listed}
 use Rattle.tables.specs.Planned.{exitOf, wantIn}
 
@@ -21,16 +20,16 @@ either true a b = a
 either false a b = b
 
 -- the table w has the guards of s, and the first n of a are the list l of its blocks
-pub record Reads (s w a : List ℕ) (n : ℕ) (l : List ℕ) : Type 0 where
+pub record Reads (s : List ℕ) (t : Rec) (w a : List ℕ) (n : ℕ) (l : List ℕ) : Type 0 where
   pub whole : length w ≡ size
   pub few : blockCount s ≤ 64
-  pub guards : Guards s w (blockCount s)
+  pub guards : GuardsBy s t w (blockCount s)
   pub listed : Listed a n l
   pub named : (i : ℕ) → i < length l → getD l i 0 < blockCount s
 
 -- the chain of l is counted, from the table w to v: what it adds, and where l goes
-pub record ChainOf (s l w v : List ℕ) (sum : Tally) (exit : ℕ) : Type 0 where
-  pub sum-is : sum ≡ capped (armTally s (tally maxDepth s) l)
+pub record ChainOf (s : List ℕ) (t : Rec) (l w v : List ℕ) (sum : Tally) (exit : ℕ) : Type 0 where
+  pub sum-is : sum ≡ capped (armTally s t l)
   pub exit-is : exit ≡ exitOf s l
   pub wanted : (k : ℕ) → k < blockCount s → wantIn v k ≡ (wantIn w k || wants s k l)
   pub within : Within wantedAt casePlaceAt w v
@@ -44,8 +43,8 @@ pub record Cells (place exit : ℕ) : Type 0 where
   pub exit-clear : (k : ℕ) → k < 64 → wantedAt + k ≡ exit → ⊥
 
 -- the chain of l stands behind b: r is the sum, and these cells have its place and its exit
-pub record LaidOne (s l : List ℕ) (place exit : ℕ) (b : Tally) (w v : List ℕ) (r : Tally) : Type 0 where
-  pub sum-is : r ≡ capped (plus b (armTally s (tally maxDepth s) l))
+pub record LaidOne (s : List ℕ) (t : Rec) (l : List ℕ) (place exit : ℕ) (b : Tally) (w v : List ℕ) (r : Tally) : Type 0 where
+  pub sum-is : r ≡ capped (plus b (armTally s t l))
   pub place-is : cell v place ≡ b .len
   pub exit-is : cell v exit ≡ exitOf s l
   pub wanted : (k : ℕ) → k < blockCount s → wantIn v k ≡ (wantIn w k || wants s k l)

@@ -2,6 +2,7 @@
 use Prim.Native.Nat.{ℕ, _+_}
 use mathlib.Core.List.{List}
 use lib.ListN.{set}
+use Rattle.counting.specs.Count.{Rec}
 use Rattle.tables.specs.Columns.{guardAt, guardLenAt, guardEmittedAt, guardNodeAt}
 use Rattle.tables.specs.Table.{Known, knownOf}
 
@@ -9,6 +10,6 @@ use Rattle.tables.specs.Table.{Known, knownOf}
 unfoldable pub withKnown : List ℕ → ℕ → Known → List ℕ
 withKnown w k x = set (set (set w (guardAt + k) (x .kind)) (guardLenAt + k) (x .len)) (guardEmittedAt + k) (x .emitted)
 
--- guard k is that at node j
-unfoldable pub withGuard : List ℕ → List ℕ → ℕ → ℕ → List ℕ
-withGuard s w k j = withKnown (set w (guardNodeAt + k) j) k (knownOf s j)
+-- guard k is that at node j, where t is the tally of a node
+unfoldable pub withGuard : List ℕ → Rec → List ℕ → ℕ → ℕ → List ℕ
+withGuard s t w k j = withKnown (set w (guardNodeAt + k) j) k (knownOf s t j)

@@ -8,12 +8,13 @@ ghost use Rattle.sheet.specs.Node.{kind as kindOf};
 ghost use Rattle.checks.specs.Checked.{numberOf, checked};
 ghost use Rattle.lowering.specs.Kinds.{switchKind};
 ghost use Rattle.counting.specs.Limits.{cap};
+ghost use Rattle.counting.specs.Count.{Rec};
 ghost use Rattle.counting.specs.Tally as tallies;
 ghost use Rattle.totals.specs.Arms.{endTally};
 ghost use Rattle.totals.specs.Total.{caseLists, splitLists};
 ghost use Rattle.tables.specs.Columns.{size, guardLenAt, guardEmittedAt, wantedAt, bodyAt, casePlaceAt, caseExitAt};
 ghost use Rattle.tables.specs.Columns.{runPlaceAt, runExitAt, cell, Within};
-ghost use Rattle.tables.specs.Planned.{Tables, entries, wantIn};
+ghost use Rattle.tables.specs.Planned.{TablesBy, entries, wantIn};
 ghost use Rattle.tables.specs.Spans.{oneIf};
 ghost use Rattle.plan.specs.Laid.{Laid};
 ghost use Rattle.plan.specs.Chain.{either, Reads, ChainOf, Cells, LaidOne};
@@ -82,8 +83,8 @@ fn body_of(k: u32) -> u32
 
 // The chain of the first `n` blocks of `a`; the blocks that it reaches are wanted.
 fn chain_of(w: &mut [u32], a: &[u32], n: usize) -> Chain
-    ensures { λ r. ⌜ ((s l : List ℕ) → Reads s (now (w .entry)) (now (a .entry)) n l
-        → ChainOf s l (now (w .entry)) (now (w .exit)) (r .sum) (r .exit)) ⌝ }
+    ensures { λ r. ⌜ ((s : List ℕ) (t : Rec) (l : List ℕ) → Reads s t (now (w .entry)) (now (a .entry)) n l
+        → ChainOf s t l (now (w .entry)) (now (w .exit)) (r .sum) (r .exit)) ⌝ }
 {
     let mut sum = nothing();
     let mut tried = false;
@@ -110,8 +111,8 @@ fn chain_of(w: &mut [u32], a: &[u32], n: usize) -> Chain
 
 // The chain of the first `n` blocks of `a` behind `b`: its place and its exit go to these cells.
 fn laid(w: &mut [u32], a: &[u32], n: usize, place: usize, exit: usize, b: Tally) -> Tally
-    ensures { λ r. ⌜ ((s l : List ℕ) → Reads s (now (w .entry)) (now (a .entry)) n l → Cells place exit → b .len ≤ cap
-        → LaidOne s l place exit b (now (w .entry)) (now (w .exit)) r) ⌝ }
+    ensures { λ r. ⌜ ((s : List ℕ) (t : Rec) (l : List ℕ) → Reads s t (now (w .entry)) (now (a .entry)) n l → Cells place exit
+        → b .len ≤ cap → LaidOne s t l place exit b (now (w .entry)) (now (w .exit)) r) ⌝ }
 {
     let y = chain_of(w, a, n);
     put(w, place, word(b.len));
@@ -121,9 +122,9 @@ fn laid(w: &mut [u32], a: &[u32], n: usize, place: usize, exit: usize, b: Tally)
 
 // The chains of the cases, behind `b`.
 pub fn case_chains(s: &[u8], w: &mut [u32], b: Tally) -> Tally
-    ensures { λ r. let sheet = now (s .entry) in ⌜ (length (now (w .entry)) ≡ size → numberOf (checked sheet) ≡ 0
-        → kindOf sheet 0 ≡ switchKind → Tables sheet (now (w .entry)) → b .len ≤ cap → b .emitted ≤ cap
-        → Laid sheet (caseLists sheet) casePlaceAt caseExitAt b (now (w .entry)) (now (w .exit)) r
+    ensures { λ r. let sheet = now (s .entry) in ⌜ ((t : Rec) → length (now (w .entry)) ≡ size → numberOf (checked sheet) ≡ 0
+        → kindOf sheet 0 ≡ switchKind → TablesBy sheet t (now (w .entry)) → b .len ≤ cap → b .emitted ≤ cap
+        → Laid sheet t (caseLists sheet) casePlaceAt caseExitAt b (now (w .entry)) (now (w .exit)) r
         × Within wantedAt bodyAt (now (w .entry)) (now (w .exit))) ⌝ }
 {
     let n = capped(get(w, CASE_HEADS) as usize);
@@ -141,9 +142,9 @@ pub fn case_chains(s: &[u8], w: &mut [u32], b: Tally) -> Tally
 
 // The chains of the runs, behind `b`.
 pub fn run_chains(w: &mut [u32], b: Tally) -> Tally
-    ensures { λ r. ⌜ ((s : List ℕ) → length (now (w .entry)) ≡ size → numberOf (checked s) ≡ 0 → kindOf s 0 ≡ switchKind
-        → Tables s (now (w .entry)) → b .len ≤ cap → b .emitted ≤ cap
-        → Laid s (splitLists (entries s)) runPlaceAt runExitAt b (now (w .entry)) (now (w .exit)) r
+    ensures { λ r. ⌜ ((s : List ℕ) (t : Rec) → length (now (w .entry)) ≡ size → numberOf (checked s) ≡ 0 → kindOf s 0 ≡ switchKind
+        → TablesBy s t (now (w .entry)) → b .len ≤ cap → b .emitted ≤ cap
+        → Laid s t (splitLists (entries s)) runPlaceAt runExitAt b (now (w .entry)) (now (w .exit)) r
         × Within runPlaceAt casePlaceAt (now (w .entry)) (now (w .exit))) ⌝ }
 {
     let n = capped_runs(get(w, RUN_HEADS) as usize);

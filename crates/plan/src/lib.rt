@@ -1,5 +1,6 @@
 // The plan of a switch: the flat table is read from the sheet, then each chain and each body is counted and gets its place. The guard of
-// a block is counted once, however many lists name it; the chain of a list once, however many cases and runs have it.
+// a block is counted once, however many lists name it; the chain of a list once, however many cases and runs have it. `told` says which
+// Variables are locals (counting::locals).
 ghost use mathlib.Core.Path.{_≡_};
 ghost use Prim.Native.Nat.{ℕ, _+_, _-_, _<_, _≤_};
 ghost use mathlib.Core.Bool.{false};
@@ -8,10 +9,13 @@ ghost use lib.ListN.{length};
 ghost use Rattle.sheet.specs.Node.{kind as kindOf};
 ghost use Rattle.checks.specs.Checked.{numberOf, checked};
 ghost use Rattle.lowering.specs.Kinds.{switchKind};
+ghost use Rattle.sheet.specs.Limits.{maxDepth};
 ghost use Rattle.counting.specs.Limits.{cap};
+ghost use Rattle.counting.specs.Locals.{answer};
+ghost use Rattle.counting.specs.Count.{tallyBy};
 ghost use Rattle.tables.specs.Columns.{size, cell, runsAt, dispatchAt, defaultAt, caseConstAt, Within};
 ghost use Rattle.tables.specs.Spans.{oneIf};
-ghost use Rattle.tables.specs.Planned.{Tables};
+ghost use Rattle.tables.specs.Planned.{TablesBy};
 ghost use Rattle.plan.specs.Counted.{Counted};
 ghost use Rattle.plan.specs.Finished.{defaultIn, endBy, fallBy, lastOnes, Finished};
 ghost use Rattle.plan.specs.Idle.{Exits, idlesFrom, Second};
@@ -50,11 +54,11 @@ use tables::FALLBACK;
 use tables::RUNS;
 
 // The switch at node 0 is read into the table.
-pub fn read(s: &[u8], w: &mut [u32])
-    ensures { λ _. ⌜ (length (now (w .entry)) ≡ size → numberOf (checked (now (s .entry))) ≡ 0 → kindOf (now (s .entry)) 0 ≡ switchKind
-        → Tables (now (s .entry)) (now (w .exit))) ⌝ }
+pub fn read(s: &[u8], told: &[u32], w: &mut [u32])
+    ensures { λ _. let sheet = now (s .entry) in let t = tallyBy (answer (now (told .entry)) sheet) maxDepth sheet in ⌜
+        (length (now (w .entry)) ≡ size → numberOf (checked sheet) ≡ 0 → kindOf sheet 0 ≡ switchKind → TablesBy sheet t (now (w .exit))) ⌝ }
 {
-    let c = guards(s, w);
+    let c = guards(s, told, w);
     let r = case_heads(s, w, c);
     ranges(s, w, r);
     run_heads(w);
@@ -172,18 +176,19 @@ fn closing(def: u32) -> u32
 }
 
 // What the switch emits, and whether it reaches an `eval`; its parts get their places. The answer's length is not told.
-pub fn count(s: &[u8], w: &mut [u32]) -> Tally
-    ensures { λ r. ⌜ (length (now (w .entry)) ≡ size → numberOf (checked (now (s .entry))) ≡ 0 → kindOf (now (s .entry)) 0 ≡ switchKind
-        → Tables (now (s .entry)) (now (w .entry)) → Counted (now (s .entry)) (now (w .exit)) r) ⌝ }
+pub fn count(s: &[u8], told: &[u32], w: &mut [u32]) -> Tally
+    ensures { λ r. let sheet = now (s .entry) in let t = tallyBy (answer (now (told .entry)) sheet) maxDepth sheet in ⌜
+        (length (now (w .entry)) ≡ size → numberOf (checked sheet) ≡ 0 → kindOf sheet 0 ≡ switchKind → TablesBy sheet t (now (w .entry))
+        → Counted sheet t (now (w .exit)) r) ⌝ }
 {
     let n = capped(field_a(s, 0) as usize);
     let def = field_c(s, 0);
     want_default(w, n, def);
-    let head = plus(tally(MAX_DEPTH, s, child(0)), instructions(1));
+    let head = plus(tally(MAX_DEPTH, s, told, child(0)), instructions(1));
     let cases = case_chains(s, w, head);
     let switched = second(w, cases);
     let runs = run_chains(w, switched);
-    let all = bodies(s, w, n, runs);
+    let all = bodies(s, told, w, n, runs);
     finish(w, def, runs.len, all.len);
     plus(all, instructions(closing(def)))
 }

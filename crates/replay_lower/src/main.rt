@@ -1,6 +1,7 @@
-// Replays lowerings of the oracle. Standard input holds the count of records, then each record: the image's room in words, the scratch's room,
-// the expected number, the word count, that many image words, the sheet's length in bytes, and the sheet padded with zeros to a word. Compares the
-// answer, every word of the image's room and every word of the scratch. Prints how many records were the same, and how many were not.
+// Replays lowerings of the oracle. Standard input holds the count of records, then each record: the image's room in words, the scratch's
+// room, the expected number, the word count, that many image words, the sheet's length in bytes, and the sheet padded with zeros to a word.
+// Compares the answer, every word of the image's room, every word of the scratch, and what the sheet is said to need. Prints how many
+// records were the same, and how many were not.
 ghost use Prim.Native.Nat.{_≤_, _<_};
 ghost use lib.ListN.{length, getD};
 ghost use lib.Dec.{eqb};
@@ -8,6 +9,9 @@ ghost use mathlib.Core.Path.{_≡_};
 ghost use Rattle.words.specs.Count.{allBelow};
 ghost use Rattle.replay_lower.specs.Left as left;
 use lowering::IMAGE_TOO_LONG;
+use lowering::SCRATCH_TOO_SHORT;
+use needs::Need;
+use needs::needs;
 use records::fill;
 use records::left_as;
 use records::noise;
@@ -30,6 +34,19 @@ fn answered(a: Answer, number: u32, count: usize) -> bool
     match a {
         Answer::Lowered { words } => (number == 0) & (words == count),
         Answer::Refused { number: n } => (n == number) & (count == 0),
+    }
+}
+
+// With `room` words of scratch the need of the sheet foretells this number.
+fn foretold(n: Need, room: usize, number: u32) -> bool
+    ensures { λ r. ⌜ r ≡ left.foretold n room number ⌝ }
+{
+    match n {
+        Need::Scratch { words } => {
+            (((room as u64) < words) & (number == SCRATCH_TOO_SHORT))
+                | ((words <= (room as u64)) & ((number == 0) | (number == IMAGE_TOO_LONG)))
+        }
+        Need::Refused { number: k } => k == number,
     }
 }
 
@@ -58,7 +75,7 @@ fn image_same(image: &[u32], wanted: &[u8], count: usize) -> bool
     true
 }
 
-// The lowering of `sheet` answers and leaves what it must.
+// The lowering of `sheet` answers and leaves what it must, and the need of `sheet` foretells the number.
 fn lowers(
     sheet: &[u8],
     image: &mut [u32],
@@ -72,7 +89,8 @@ fn lowers(
     let answer = answered(lower(sheet, image, scratch), number, count);
     let words = image_same(&image[..], wanted, count);
     let rest = left_as(&scratch[..], (number == 0) | (number == IMAGE_TOO_LONG));
-    answer & words & rest
+    let need = foretold(needs(sheet), scratch.len(), number);
+    answer & words & rest & need
 }
 
 // The same of the first `n` bytes of `sheet`, with `x` words for the image and `y` for the scratch, where there is room for them.

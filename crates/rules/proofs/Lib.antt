@@ -1,1 +1,3 @@
 pub mod KeywordLaws
+mod ReadLaws
+pub mod ReceiverLaws

@@ -1,4 +1,10 @@
 -- The rules of the definition as the code's enums give them.
+use Prim.Native.Nat.{ℕ, _/_, _%_}
+use mathlib.Core.Bool.{Bool, true, false, _&&_, not}
+use mathlib.Core.List.{List}
+use lib.Dec.{leb, eqb}
+use Rattle.sheet.specs.Node.{kind, count, fieldB, fieldC, child}
+use Rattle.lowering.specs.Kinds.{indexKind}
 use Rattle.lowering.specs.Expression.{Rule, boolean, unit, constant, interpolated, array, variable, this, fnCall, chain, and, or, coalesce, residual}
 use Rattle.lowering.specs.Call as Call
 use Rattle.lowering.specs.Flatten as Flatten
@@ -35,8 +41,21 @@ firstOf Call.named = Firsts.the-variants.Named
 firstOf Call.this = Firsts.the-variants.This
 firstOf Call.value = Firsts.the-variants.Value
 
+-- the kind of a call's receiver, 0 where it has none
+unfoldable pub receiverKind : List ℕ → ℕ → ℕ
+receiverKind s j =
+    elim (eqb (fieldC s j) 0 && eqb (fieldB s j) 0 && leb 1 (count s j)) [ true ↦ kind s (child j) | false ↦ 0 ]
+
 unfoldable pub stepRuleOf : Flatten.StepRule → StepRules.StepRule
 stepRuleOf Flatten.index = StepRules.the-variants.Index
 stepRuleOf Flatten.property = StepRules.the-variants.Property
 stepRuleOf Flatten.method = StepRules.the-variants.Method
 stepRuleOf Flatten.none = StepRules.the-variants.Nothing
+
+-- a link with these flags goes on with a rest of kind k
+abbrev pub leadsOn : ℕ → ℕ → Bool
+leadsOn flags k = not (eqb (flags / 2 % 2) 1) && Flatten.isChain k
+
+-- the step of a link of kind k onto a node of kind m
+unfoldable pub ruleOnto : ℕ → ℕ → Flatten.StepRule
+ruleOnto k m = elim (eqb k indexKind) [ true ↦ Flatten.index | false ↦ Flatten.dotRule m ]

@@ -13,12 +13,12 @@ use Rattle.lowering.specs.Slots.{resolve}
 use Rattle.lowering.specs.Expression.{Rule, rules, rule, residual}
 use Rattle.lowering.specs.Call as Call
 use Rattle.lowering.specs.Call.{variableFirst, receiver}
-use Rattle.lowering.specs.Flatten.{restOf, goesOn, operandOf, dotRule, stepRule}
+use Rattle.lowering.specs.Flatten.{restOf, goesOn, operandOf, dotRule}
 use Rattle.slots.specs.declared.Found.the-variants.{At, Nothing}
 use Rattle.slots.specs.Found.{found}
 use Rattle.rules.specs.declared.calls.First as Firsts
 use Rattle.rules.specs.declared.chains.StepRule as StepRules
-use Rattle.rules.specs.Answers.{ruleOf, firstOf, stepRuleOf}
+use Rattle.rules.specs.Answers.{ruleOf, firstOf, stepRuleOf, ruleOnto}
 
 -- ---- nodes
 
@@ -107,13 +107,13 @@ module _ (s : List ℕ) (c : ℕ) where
   unfolding operandOf
   operand-rest h = rw (h, operandOf)
 
-  pub step-index : kind s c ≡ 15 → StepRules.the-variants.Index ≡ stepRuleOf (stepRule s c)
-  unfolding stepRule stepRuleOf
-  step-index h = rw (eq-eqb (kind s c) 15 h, stepRule)
+pub onto-index : (k m : ℕ) → k ≡ 15 → StepRules.the-variants.Index ≡ stepRuleOf (ruleOnto k m)
+unfolding ruleOnto stepRuleOf
+onto-index k m h = rw (eq-eqb k 15 h, ruleOnto)
 
-  pub step-dot : (kind s c ≡ 15 → ⊥) → stepRule s c ≡ dotRule (kind s (operandOf s c))
-  unfolding stepRule
-  step-dot h = rw (ne-eqb (kind s c) 15 h, stepRule)
+pub onto-dot : (k m : ℕ) → (k ≡ 15 → ⊥) → ruleOnto k m ≡ dotRule m
+unfolding ruleOnto
+onto-dot k m h = rw (ne-eqb k 15 h, ruleOnto)
 
 pub dot-property : (k : ℕ) → k ≡ 11 → StepRules.the-variants.Property ≡ stepRuleOf (dotRule k)
 unfolding dotRule stepRuleOf

@@ -44,7 +44,7 @@ pub fn call_rule(s: &[u8], j: u32) -> CallRule
 fn variable_first(s: &[u8], v: u32) -> First
     ensures { λ r. ⌜ r ≡ answers.firstOf (calls.variableFirst (now (s .entry)) v) ⌝ }
 {
-    let found = slots::resolve(s, sheet::text(s, field_a(s, v)));
+    let found = slots::resolve(s, field_a(s, v));
     match found {
         Found::At(slot) => First::Local(slot),
         Found::Nothing => First::Named,
@@ -76,6 +76,19 @@ pub fn receiver(s: &[u8], j: u32) -> First
         return first_of(s, child(j));
     }
     First::Value
+}
+
+// The kind of call `j`'s receiver, 0 where it has none: what the locals say of a variable is left to the caller.
+pub fn receiver_kind(s: &[u8], j: u32) -> u32
+    ensures { λ r. ⌜ r ≡ answers.receiverKind (now (s .entry)) j ⌝ }
+{
+    let c = field_c(s, j);
+    let b = field_b(s, j);
+    let n = count(s, j);
+    if (c == 0) & (b == 0) & (1 <= n) {
+        return kind(s, child(j));
+    }
+    0
 }
 
 // An operator is stored with 1 or 2 arguments.

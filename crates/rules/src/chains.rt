@@ -3,6 +3,7 @@ ghost use mathlib.Core.Path.{_≡_};
 ghost use Rattle.lowering.specs.Flatten as chains;
 ghost use Rattle.lowering.specs.Steps as steps;
 ghost use Rattle.rules.specs.Answers as answers;
+ghost use Rattle.rules.specs.Reads.{Reads};
 use crate::keywords::as_method;
 use crate::keywords::keyword_of;
 use crate::kinds::DOT;
@@ -24,6 +25,15 @@ pub enum StepRule {
     Nothing,
 }
 
+// What a link says: whether the rest is a link too, the rest, the node that the step is taken with, the step, flag NEGATED (0 or 1).
+pub struct Read {
+    pub on: bool,
+    pub rest: u32,
+    pub with: u32,
+    pub rule: StepRule,
+    pub flag: u32,
+}
+
 // A chain node.
 pub fn is_chain(k: u32) -> bool
     ensures { λ r. ⌜ r ≡ chains.isChain k ⌝ }
@@ -38,26 +48,19 @@ pub fn rest_of(s: &[u8], c: u32) -> u32
     next(s, child(c))
 }
 
-// Flag BREAK of link `c`.
-fn breaks(s: &[u8], c: u32) -> bool
-    ensures { λ r. ⌜ r ≡ chains.breaks (now (s .entry)) c ⌝ }
+// A link with these flags, of which 2 is BREAK, goes on with a rest of kind `k`.
+fn leads_on(flags: u32, k: u32) -> bool
+    ensures { λ r. ⌜ r ≡ answers.leadsOn flags k ⌝ }
 {
-    field_a(s, c) / 2 % 2 == 1
-}
-
-// Flag NEGATED of link `c`, 0 or 1.
-pub fn negated(s: &[u8], c: u32) -> u32
-    ensures { λ r. ⌜ r ≡ chains.negated (now (s .entry)) c ⌝ }
-{
-    field_a(s, c) % 2
+    let stops = flags / 2 % 2 == 1;
+    !stops & is_chain(k)
 }
 
 // The rest is a link too.
 pub fn goes_on(s: &[u8], c: u32) -> bool
     ensures { λ r. ⌜ r ≡ chains.goesOn (now (s .entry)) c ⌝ }
 {
-    let stops = breaks(s, c);
-    !stops & is_chain(kind(s, rest_of(s, c)))
+    leads_on(field_a(s, c), kind(s, rest_of(s, c)))
 }
 
 // The node that the step of link `c` is taken with.
@@ -84,14 +87,43 @@ fn dot_rule(k: u32) -> StepRule
     StepRule::Nothing
 }
 
-// The step of link `c`.
-pub fn step_rule(s: &[u8], c: u32) -> StepRule
-    ensures { λ r. ⌜ r ≡ answers.stepRuleOf (chains.stepRule (now (s .entry)) c) ⌝ }
+// The step of a link of kind `k` onto a node of kind `m`.
+fn rule_onto(k: u32, m: u32) -> StepRule
+    ensures { λ r. ⌜ r ≡ answers.stepRuleOf (answers.ruleOnto k m) ⌝ }
 {
-    if kind(s, c) == INDEX {
+    if k == INDEX {
         return StepRule::Index;
     }
-    dot_rule(kind(s, operand_of(s, c)))
+    dot_rule(m)
+}
+
+// What link `c` says. Its words are read once.
+pub fn read_link(s: &[u8], c: u32) -> Read
+    ensures { λ r. ⌜ Reads (now (s .entry)) c r ⌝ }
+{
+    let k = kind(s, c);
+    let flags = field_a(s, c);
+    let rest = rest_of(s, c);
+    let m = kind(s, rest);
+    if leads_on(flags, m) {
+        let with = child(rest);
+        let rule = rule_onto(k, kind(s, with));
+        return Read {
+            on: true,
+            rest,
+            with,
+            rule,
+            flag: flags % 2,
+        };
+    }
+    let rule = rule_onto(k, m);
+    Read {
+        on: false,
+        rest,
+        with: rest,
+        rule,
+        flag: flags % 2,
+    }
 }
 
 // Method call `x` lowers: `call` and `curry` do, `eval` and `Fn` never.

@@ -9,6 +9,7 @@ use lib.Seq.{length-take-le}
 use borrow.Author.Tests.{ne-eqb}
 use Rattle.sheet.specs.Limits.{maxDepth}
 use Rattle.sheet.specs.Node.{kind, fieldA, child}
+use Rattle.bytecode.specs.declared.Root.{Root}
 use Rattle.bytecode.specs.declared.Chain.{Chain}
 use Rattle.bytecode.specs.Chain.{chainWords}
 use Rattle.lowering.specs.Kinds.{variableKind}
@@ -16,7 +17,7 @@ use Rattle.lowering.specs.Flatten.{goesOn, restOf, links}
 use Rattle.lowering.specs.Pools.{Name, name}
 use Rattle.lowering.specs.Image.{section}
 use Rattle.chains.specs.LinkLaws.{links-most}
-use Rattle.chains.specs.Steps.{nameIn, rootWith, rootIn, chainRoot, linkCount, chainWith, chainIn, chainsFrom}
+use Rattle.chains.specs.Steps.{nameIn, rootWith, rootIn, chainRoot, linkCount, chainBy, chainIn, chainsFrom}
 use Rattle.chains.specs.Kept.{stepCount}
 use Rattle.chains.specs.KeptLaws.{chains-length, chains-snoc}
 use Rattle.chains.specs.StayLaws.{root-nameless}
@@ -44,11 +45,10 @@ module _ (s : List ℕ) (ns : List Name) where
   unfolding rootIn
   root-plain v i n = root-nameless s v i (nameIn s ns (fieldA s v)) (ne-eqb (kind s v) variableKind n)
 
-  pub chain-placed : (j first i v : ℕ) → v ≡ child j → rootWith s v i ≡ rootIn s ns v → chainWith s j i first ≡ chainIn s ns first j
-  unfolding chainWith chainIn chainRoot
-  chain-placed j first i v is e =
-      let root = subst (λ (n : ℕ). rootWith s n i ≡ rootIn s ns n) is e in
-      rw root
+  pub chain-rooted :
+      (j first : ℕ) {v : ℕ} {r : Root} → v ≡ child j → r ≡ rootIn s ns v → chainBy s j first r ≡ chainIn s ns first j
+  unfolding chainIn chainRoot
+  chain-rooted j first is e = ap (chainBy s j first) (e ∙ ap (rootIn s ns) is)
 
 -- how many steps
 module _ (s : List ℕ) where

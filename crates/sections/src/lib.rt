@@ -8,27 +8,29 @@ ghost use Rattle.bytecode.specs.Chain.{chainWords};
 ghost use Rattle.lowering.specs.Flatten as flatten;
 ghost use Rattle.lowering.specs.Pools.{constOf, stepsWords};
 ghost use Rattle.lowering.specs.Image.{section, constWords, nameWords};
+ghost use Rattle.rules.specs.Reads.{Reads};
 ghost use Rattle.chains.specs.Steps as chains;
 ghost use Rattle.chains.specs.Kept as kept;
 ghost use Rattle.keys.specs.Keys.{nameOf};
 ghost use Rattle.index.specs.Held.{NamesHold, namesHeld};
 ghost use Rattle.sections.specs.PutLaws.{putPart};
 use bytecode::Chain;
+use bytecode::Root;
 use bytecode::Step;
 use chains::chain_of;
 use chains::chain_words;
 use chains::link_count;
+use chains::root_of;
 use chains::step_of;
 use chains::step_words;
 use chains::width;
 use index::text_place;
 use keys::mark_of;
 use keys::text_of;
+use local_slots::local_of;
+use rules::chains::Read;
 use rules::chains::StepRule;
-use rules::chains::goes_on;
-use rules::chains::operand_of;
-use rules::chains::rest_of;
-use rules::chains::step_rule;
+use rules::chains::read_link;
 use scratch::Layout;
 use sheet::child;
 use sheet::field_a;
@@ -36,6 +38,7 @@ use sheet::field_b;
 use sheet::field_c;
 use sheet::kind;
 use sheet::limits::MAX_DEPTH;
+use slots::Found;
 
 // The node kind of a variable.
 const VARIABLE: u32 = 9;
@@ -126,24 +129,26 @@ pub fn tokens(s: &[u8], out: &mut [u32], ks: &[u32])
     }
 }
 
-// Where the name of root `v` stands among the `n` names. Only a variable has one.
-fn root_place(s: &[u8], x: &[u32], l: Layout, n: u32, v: u32) -> u32
+// Root `v`, with its name among the `n` names. Only a variable has one.
+fn root_at(s: &[u8], x: &[u32], l: Layout, n: u32, v: u32) -> Root
     ensures { λ r. let sheet = now (s .entry) in let words = now (x .entry) in ⌜
-        (NamesHold sheet l n words → chains.rootWith sheet v r ≡ chains.rootIn sheet (namesHeld sheet l n words) v) ⌝ }
+        (NamesHold sheet l n words → r ≡ chains.rootIn sheet (namesHeld sheet l n words) v) ⌝ }
 {
     if kind(s, v) == VARIABLE {
-        return text_place(s, x, l, n, field_a(s, v));
+        let name = text_place(s, x, l, n, field_a(s, v));
+        return root_of(s, v, name, local_of(s, x, l, v));
     }
-    0
+    root_of(s, v, 0, Found::Nothing)
 }
 
 // The chain of node `j`, with `first` steps before it.
 fn chain_at(s: &[u8], x: &[u32], l: Layout, n: u32, j: u32, first: u32) -> Chain
     ensures { λ r. let sheet = now (s .entry) in let words = now (x .entry) in ⌜
-        (NamesHold sheet l n words → r ≡ chains.chainIn sheet (namesHeld sheet l n words) first j) ⌝ }
+        (r .steps ≡ chains.linkCount sheet j)
+        × (NamesHold sheet l n words → r ≡ chains.chainIn sheet (namesHeld sheet l n words) first j) ⌝ }
 {
-    let name = root_place(s, x, l, n, child(j));
-    chain_of(s, j, name, first)
+    let root = root_at(s, x, l, n, child(j));
+    chain_of(s, j, root, first)
 }
 
 // The chains of the nodes `js`, over the `n` names that the scratch holds.
@@ -160,30 +165,32 @@ pub fn chains(s: &[u8], out: &mut [u32], js: &[u32], x: &[u32], l: Layout, n: u3
         let j = js[i];
         let c = chain_at(s, x, l, n, j, first);
         put_six(out, 6 * i, chain_words(c));
-        first += link_count(s, j);
+        first += c.steps;
         i += 1;
     }
 }
 
-// The step of link `c`, with `k` operands before it. Places are looked for only where the step has names.
-fn step_at(s: &[u8], x: &[u32], l: Layout, n: u32, c: u32, k: u32) -> Step
+// The step of link `c`, which says `p`, with `k` operands before it. Places are looked for only where the step has names.
+fn step_at(s: &[u8], x: &[u32], l: Layout, n: u32, c: u32, p: Read, k: u32) -> Step
     ensures { λ r. let sheet = now (s .entry) in let words = now (x .entry) in ⌜
-        (NamesHold sheet l n words → r ≡ chains.stepAs (flatten.stepRule sheet c) sheet (namesHeld sheet l n words) c k) ⌝ }
+        (Reads sheet c p → NamesHold sheet l n words
+        → r ≡ chains.stepAs (flatten.stepRule sheet c) sheet (namesHeld sheet l n words) c k) ⌝ }
 {
-    let r = step_rule(s, c);
-    let o = operand_of(s, c);
+    let r = p.rule;
+    let o = p.with;
     match r {
-        StepRule::Index => step_of(s, c, k, 0, 0, 0),
+        StepRule::Index => step_of(s, c, p, k, 0, 0, 0),
         StepRule::Property => step_of(
             s,
             c,
+            p,
             k,
             text_place(s, x, l, n, field_a(s, o)),
             text_place(s, x, l, n, field_b(s, o)),
             text_place(s, x, l, n, field_c(s, o)),
         ),
-        StepRule::Method => step_of(s, c, k, text_place(s, x, l, n, field_a(s, o)), 0, 0),
-        StepRule::Nothing => step_of(s, c, k, 0, 0, 0),
+        StepRule::Method => step_of(s, c, p, k, text_place(s, x, l, n, field_a(s, o)), 0, 0),
+        StepRule::Nothing => step_of(s, c, p, k, 0, 0, 0),
     }
 }
 
@@ -198,12 +205,13 @@ fn chain_steps(s: &[u8], out: &mut [u32], j: u32, x: &[u32], l: Layout, n: u32)
     let mut k: u32 = 0;
     let mut i = 0;
     while 0 < left {
-        let w = step_at(s, x, l, n, c, k);
+        let p = read_link(s, c);
+        let w = step_at(s, x, l, n, c, p, k);
         put_six(out, 6 * i, step_words(w));
         i += 1;
-        k += width(s, c);
-        if goes_on(s, c) {
-            c = rest_of(s, c);
+        k += width(s, p);
+        if p.on {
+            c = p.rest;
             left -= 1;
         } else {
             return;

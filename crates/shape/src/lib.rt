@@ -17,7 +17,7 @@ use sheet::span;
 const ANY: u32 = 0xffff_ffff;
 
 // For each kind from 0 on: the least and the greatest count of children, and the greatest a, b and c. Kind 0 is no kind.
-const BOUNDS: [u32; 130] = [
+pub const BOUNDS: [u32; 130] = [
     1,
     0,
     0,
@@ -210,7 +210,7 @@ fn case_child(i: u32, k: u32) -> bool
 }
 
 // Kind `k` may stand as child `i` of a node of kind `p` whose fields are `a` and `b`.
-fn child_kind(p: u32, a: u32, b: u32, i: u32, k: u32) -> bool
+pub fn child_kind(p: u32, a: u32, b: u32, i: u32, k: u32) -> bool
     ensures { λ r. ⌜ r ≡ kinds.childKind p a b i k ⌝ }
 {
     if p == 19 {
@@ -245,7 +245,7 @@ fn within_bounds(t: &[u32; 130], k: u32, m: u32, a: u32, b: u32, c: u32) -> bool
 }
 
 // A Char is a scalar value, and a Switch has a subject, its blocks and its cases.
-fn own_rule(k: u32, m: u32, a: u32, b: u32) -> bool
+pub fn own_rule(k: u32, m: u32, a: u32, b: u32) -> bool
     ensures { λ r. ⌜ r ≡ shape.ownRule k m a b ⌝ }
 {
     let wanted = 1 + 2 * (a as u64) + (b as u64);
@@ -253,7 +253,7 @@ fn own_rule(k: u32, m: u32, a: u32, b: u32) -> bool
 }
 
 // Node 0 is an expression or a Switch, and its subtree is the whole sheet.
-fn root_ok(s: &[u8]) -> bool
+pub fn root_ok(s: &[u8]) -> bool
     ensures { λ r. ⌜ r ≡ shape.rootOk (now (s .entry)) ⌝ }
 {
     let k = kind(s, 0);

@@ -23,6 +23,7 @@ use Rattle.index.specs.Table.{headAt, linkAt, tagOf, notedBy}
 use Rattle.index.specs.Lookup.{Finds}
 use Rattle.index.specs.Consts.{constSlot, sameConstOf, constHash, sameTokenOf, tokenHash}
 use Rattle.index.specs.Names.{isName, nameWith, nameHashOf, nameHash, nameSlot}
+use Rattle.index.specs.Locals.{Slots}
 use Rattle.index.specs.Held.{namesHeld}
 use Rattle.index.specs.Chains.{chainHash, ByNames, FindsChain}
 use Rattle.index.specs.Indexes.{constAdded, tokenAdded, chainAdded, nameAdded}
@@ -170,15 +171,16 @@ module _
     }
 
 module _
-    (s : List ℕ) (l : Layout) (xs c : List ℕ) (v h i : ℕ) (local : Bool) (told : RootLocal s (child v) local)
-    (hashed : ByNames s l (stateOf c .names) xs (chainHash s (namesHeld s l (stateOf c .names) xs) v) h)
+    (s : List ℕ) (l : Layout) (xs c : List ℕ) (v h i : ℕ) (local : Bool) (told : Slots s l xs → RootLocal s (child v) local)
+    (hashed :
+    RootLocal s (child v) local → ByNames s l (stateOf c .names) xs (chainHash s (namesHeld s l (stateOf c .names) xs) v) h)
     (sought : FindsChain s v local (chainIndex l) (stateOf c .chains) h xs i)
   where
     chain-hash-is : (a : Made) → Holds s l xs (stateOf c) a → h ≡ chainHash s (namesHeld s l (stateOf c .names) xs) v
-    chain-hash-is a q = hashed .is (indexes-names (q .index))
+    chain-hash-is a q = hashed (told (q .index .slots)) .is (indexes-names (q .index))
 
     chain-fits : (a : Made) → Holds s l xs (stateOf c) a → i ≡ firstWhere (sameNodes s v) (region (chainsAt l) (stateOf c .chains) xs)
-    chain-fits a q = chain-found (q .index) v h i local told (chain-hash-is a q) sought
+    chain-fits a q = chain-found (q .index) v h i local (told (q .index .slots)) (chain-hash-is a q) sought
 
     pub chain-adds-old : i < stateOf c .chains → AddsChain s l xs (stateOf c) xs (stateOf c) i v
     chain-adds-old less = record {

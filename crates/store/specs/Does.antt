@@ -9,6 +9,7 @@ use Rattle.keys.specs.Used.{ChainKey}
 use Rattle.emission.specs.Made.{Made}
 use Rattle.emission.specs.Construct.{addChain, chainPlace}
 use Rattle.scratch.specs.declared.Layout.{Layout}
+use Rattle.index.specs.Locals.{Slots}
 use Rattle.store.specs.declared.State.{State}
 use Rattle.store.specs.States.{stateOf, Full, layoutOf}
 use Rattle.store.specs.StateLaws.{full-by, greatest-least}
@@ -111,6 +112,17 @@ laid-is {l = l} h = ap₂ (λ (m n : ℕ). record { most = m; nodes = n }) (h .l
 -- counts that are held are all there
 pub held-full : {s : List ℕ} {l : Layout} {xs : List ℕ} {a : Made} (c : List ℕ) → Holds s l xs (stateOf c) a → Full c
 held-full {a = a} c h = full-by c (let d = h .counts .deepest in let g = greatest-least (a .code) in omega arith)
+
+-- the locals that are held, by the layout that the counts tell
+pub held-slots :
+    {s : List ℕ} {l m : Layout} {xs : List ℕ} {st : State} {a : Made} → m ≡ layoutOf st → Holds s l xs st a → Slots s m xs
+held-slots {s} {l} {m} {xs} is h = subst (λ (k : Layout). Slots s k xs) (sym (is ∙ laid-is h)) (h .index .slots)
+
+-- what is done may be known from what is held
+pub does-held :
+    {s : List ℕ} {l : Layout} {xs ys : List ℕ} {st r : State} {F : Made → Made}
+    → ((a : Made) → Holds s l xs st a → Does s l xs st ys r F) → Does s l xs st ys r F
+does-held known = record { holds = λ a h f. known a h .holds a h f }
 
 -- so what is done with it is done with any that is held
 module _ {s xs ys : List ℕ} {st r : State} {m : Layout} (is : m ≡ layoutOf st) where

@@ -23,7 +23,6 @@ ghost use Rattle.store.specs.Does.{Does, Adds, AddsChain};
 ghost use Rattle.store.specs.States as states;
 use bytecode::Op;
 use chains::link_count;
-use chains::root_local;
 use index::chain_hash;
 use index::const_hash;
 use index::find_chain;
@@ -40,6 +39,7 @@ use index::seek_name;
 use index::token_hash;
 use keys::is_marked;
 use keys::text_of;
+use local_slots::root_local;
 use ops::after;
 use ops::op_words;
 use scratch::OP;
@@ -244,7 +244,7 @@ pub fn add_chain(s: &[u8], c: &mut [u32; COUNTS], x: &mut [u32], j: u32) -> u32
 {
     let l = layout_of(c);
     let n = c[CHAINS];
-    let local = root_local(s, j);
+    let local = root_local(s, &x[..], l, j);
     let h = chain_hash(s, &x[..], l, c[NAMES], j, local);
     let i = find_chain(s, &x[..], l, n, j, h, local);
     if i < n {

@@ -13,7 +13,7 @@ use Rattle.cases.specs.Split.{split, atoms}
 use Rattle.cases.specs.Split as Split
 use Rattle.lowering.specs.SwitchSheet.{blockCount, defaultBlock, caseBlocks, rangesOf}
 use Rattle.lowering.specs.Arms.{End, taken, declined, idle}
-use Rattle.counting.specs.Count.{tally}
+use Rattle.counting.specs.Count.{Rec, tally}
 use Rattle.totals.specs.Arms.{anyWants, armsTally, endOf, hasTry}
 use Rattle.totals.specs.Total.{caseLists, splitLists}
 use Rattle.totals.specs.Place.{casesPlace, dispatchPlace, bodyPlace, defaultPlace, endPlace, fallbackPlace}
@@ -22,17 +22,17 @@ use Rattle.tables.specs.Columns.{runPlaceAt, runExitAt, wantedAt, casePl
 use Rattle.tables.specs.Columns.{fallbackAt, cell, column}
 use Rattle.tables.specs.Numbers.{numberIn}
 use Rattle.tables.specs.Runs.{runsIn, entryOf}
-use Rattle.tables.specs.Table.{Guards, CutWords, rangesRead, headKeys, runHeadKeys}
+use Rattle.tables.specs.Table.{GuardsBy, CutWords, rangesRead, headKeys, runHeadKeys}
 
 -- the entries of the split
 abbrev pub entries : List ℕ → List Split.Entry
 entries s = split (rangesOf s)
 
--- what is read of an accepted switch
-pub record Tables (s w : List ℕ) : Type 0 where
+-- what is read of an accepted switch, where t is the tally of a node
+pub record TablesBy (s : List ℕ) (t : Rec) (w : List ℕ) : Type 0 where
   pub few-blocks : blockCount s ≤ 64
   pub few-cases : caseCount s ≤ 64
-  pub guards : Guards s w (blockCount s)
+  pub guards : GuardsBy s t w (blockCount s)
   pub few-heads : cell w caseHeadsAt ≤ 64
   pub case-heads : headKeys s w ≡ caseLists s
   pub case-numbers : (i : ℕ) → i < caseCount s → cell w (caseNumberAt + i) ≡ numberIn (caseBlocks s (skip s i (firstCase s))) (caseLists s)
@@ -46,6 +46,9 @@ pub record Tables (s w : List ℕ) : Type 0 where
       → cell w (runNumberAt + i) ≡ numberIn (getD (map (λ (e : Split.Entry). e .blocks) (entries s)) i []) (splitLists (entries s))
   pub firsts : (i : ℕ) → i < cell w runsAt → cell w (runFirstAt + i) < length (atoms (cuts (rangesRead s)))
   pub lasts : (i : ℕ) → i < cell w runsAt → cell w (runLastAt + i) < length (atoms (cuts (rangesRead s)))
+
+abbrev pub Tables : List ℕ → List ℕ → Type 0
+Tables s w = TablesBy s (tally maxDepth s) w
 
 -- where a list goes: to its chain, which ends with a jump to the fallback (0) or to a body (1); without one to the fallback (2), or to
 -- the body of a block (plus 3)
@@ -61,8 +64,8 @@ abbrev pub exitOf : List ℕ → List ℕ → ℕ
 exitOf s l = exitBy (hasTry s l) (endOf s l)
 
 -- where the chain of number q of the lists ls stands, from place b on
-abbrev pub chainPlace : List ℕ → List (List ℕ) → ℕ → ℕ → ℕ
-chainPlace s ls b q = b + armsTally s (tally maxDepth s) (take q ls) .len
+abbrev pub chainPlace : List ℕ → Rec → List (List ℕ) → ℕ → ℕ → ℕ
+chainPlace s t ls b q = b + armsTally s t (take q ls) .len
 
 -- block k has a body
 abbrev pub wantIn : List ℕ → ℕ → Bool
@@ -73,17 +76,20 @@ abbrev pub wantedBy : List ℕ → ℕ → List (List ℕ) → ℕ → Bool
 wantedBy s def ls k = eqb def (suc k) || anyWants s k ls
 
 -- the chains of the lists ls: places from b on in the column `at`, exits in the column `out`
-pub record Chained (s w : List ℕ) (ls : List (List ℕ)) (b at out : ℕ) : Type 0 where
-  pub places : (q : ℕ) → q < length ls → cell w (at + q) ≡ chainPlace s ls b q
+pub record Chained (s : List ℕ) (t : Rec) (w : List ℕ) (ls : List (List ℕ)) (b at out : ℕ) : Type 0 where
+  pub places : (q : ℕ) → q < length ls → cell w (at + q) ≡ chainPlace s t ls b q
   pub exits : (q : ℕ) → q < length ls → cell w (out + q) ≡ exitOf s (getD ls q [])
 
 -- where the parts of the switch stand
-pub record Placed (s w : List ℕ) : Type 0 where
+pub record PlacedBy (s : List ℕ) (t : Rec) (w : List ℕ) : Type 0 where
   pub wanted : (k : ℕ) → k < blockCount s → wantIn w k ≡ wantedBy s (defaultBlock s) (caseLists s ++ splitLists (entries s)) k
-  pub bodies : (k : ℕ) → k < blockCount s → cell w (bodyAt + k) ≡ bodyPlace s (tally maxDepth s) (entries s) k
-  pub case-chains : Chained s w (caseLists s) (casesPlace s (tally maxDepth s)) casePlaceAt caseExitAt
-  pub run-chains : Chained s w (splitLists (entries s)) (dispatchPlace s (tally maxDepth s) (entries s) + 1) runPlaceAt runExitAt
-  pub dispatch-is : cell w dispatchAt ≡ dispatchPlace s (tally maxDepth s) (entries s)
-  pub default-is : cell w defaultAt ≡ defaultPlace s (tally maxDepth s) (entries s) (defaultBlock s)
-  pub end-is : cell w endAt ≡ endPlace s (tally maxDepth s) (entries s) (defaultBlock s)
-  pub fallback-is : cell w fallbackAt ≡ fallbackPlace s (tally maxDepth s) (entries s) (defaultBlock s)
+  pub bodies : (k : ℕ) → k < blockCount s → cell w (bodyAt + k) ≡ bodyPlace s t (entries s) k
+  pub case-chains : Chained s t w (caseLists s) (casesPlace s t) casePlaceAt caseExitAt
+  pub run-chains : Chained s t w (splitLists (entries s)) (dispatchPlace s t (entries s) + 1) runPlaceAt runExitAt
+  pub dispatch-is : cell w dispatchAt ≡ dispatchPlace s t (entries s)
+  pub default-is : cell w defaultAt ≡ defaultPlace s t (entries s) (defaultBlock s)
+  pub end-is : cell w endAt ≡ endPlace s t (entries s) (defaultBlock s)
+  pub fallback-is : cell w fallbackAt ≡ fallbackPlace s t (entries s) (defaultBlock s)
+
+abbrev pub Placed : List ℕ → List ℕ → Type 0
+Placed s w = PlacedBy s (tally maxDepth s) w

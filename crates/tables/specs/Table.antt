@@ -16,7 +16,7 @@ use Rattle.lowering.specs.SwitchSheet.{guardOf, casesOf, rangesOf}
 use Rattle.lowering.specs.Arms.{Guard, never, always, tried, guardKind, distinct}
 use Rattle.counting.specs.declared.tallies.Tally.{Tally}
 use Rattle.counting.specs.Tally.{instructions, plus, capped}
-use Rattle.counting.specs.Count.{tally}
+use Rattle.counting.specs.Count.{Rec, tally}
 use Rattle.tables.specs.Columns.{guardAt, guardLenAt, guardEmittedAt, guardNodeAt, caseHeadsAt, caseNumberAt, headNodeAt, spansAt}
 use Rattle.tables.specs.Columns.{firstAt, behindAt, blockAt, lowAt, highAt, runsAt, runFirstAt, runLastAt, runHeadsAt, runNumberAt}
 use Rattle.tables.specs.Columns.{runHeadAt, runHashAt, cell, column}
@@ -45,17 +45,20 @@ knownBy never a = record { kind = 0; len = 0; emitted = 0 }
 knownBy always a = record { kind = 1; len = 0; emitted = 0 }
 knownBy tried a = record { kind = triedKind (a .defeated); len = a .len; emitted = a .emitted }
 
--- the guard at node g, with its jump
-unfoldable pub knownOf : List ℕ → ℕ → Known
-knownOf s g = knownBy (guardKind s g) (capped (plus (tally maxDepth s g) (instructions 1)))
+-- the guard at node g, with its jump, where t is the tally of a node
+unfoldable pub knownOf : List ℕ → Rec → ℕ → Known
+knownOf s t g = knownBy (guardKind s g) (capped (plus (t g) (instructions 1)))
 
 abbrev pub knownIn : List ℕ → ℕ → Known
 knownIn w k = record { kind = cell w (guardAt + k); len = cell w (guardLenAt + k); emitted = cell w (guardEmittedAt + k) }
 
 -- the guards of the first n blocks
-pub record Guards (s w : List ℕ) (n : ℕ) : Type 0 where
-  pub known : (k : ℕ) → k < n → knownIn w k ≡ knownOf s (guardOf s k)
+pub record GuardsBy (s : List ℕ) (t : Rec) (w : List ℕ) (n : ℕ) : Type 0 where
+  pub known : (k : ℕ) → k < n → knownIn w k ≡ knownOf s t (guardOf s k)
   pub node : (k : ℕ) → k < n → cell w (guardNodeAt + k) ≡ guardOf s k
+
+abbrev pub Guards : List ℕ → List ℕ → ℕ → Type 0
+Guards s w n = GuardsBy s (tally maxDepth s) w n
 
 -- ---- the cases
 

@@ -1,6 +1,7 @@
 pub mod Lazy
 pub mod Same
 pub mod SameLaws
+pub mod Eight
 pub mod Keyword
 pub mod Utf8
 pub mod RowLaws

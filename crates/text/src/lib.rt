@@ -1,11 +1,106 @@
 // Texts as byte strings: equality, the four keywords, and well-formed UTF-8.
 ghost use mathlib.Core.Path.{_≡_};
-ghost use lib.ListN.{drop};
+ghost use Prim.Native.Nat.{_+_, _^_, _≤_, _<_};
+ghost use lib.ListN.{length, drop};
 ghost use Rattle.text.specs.Same.{same};
+ghost use Rattle.text.specs.Eight.{fromFour, fourAt, eightAt, blockSame, Agree};
 ghost use Rattle.text.specs.Keyword.{isEval, isFn, isCall, isCurry};
 ghost use Rattle.text.specs.Utf8.{utf8};
 ghost use Rattle.text.specs.Char.{charLength};
 ghost use Rattle.text.specs.RowLaws.{Leads};
+
+// The number that four bytes stand for, the lowest first.
+fn from_four(a: u8, b: u8, c: u8, d: u8) -> u64
+    ensures { λ r. ⌜ r ≡ fromFour a b c d ⌝ }
+{
+    (a as u64) + 256 * (b as u64) + 65536 * (c as u64) + 16777216 * (d as u64)
+}
+
+// Four bytes of `s` from `i` on as a number.
+fn four(s: &[u8], i: usize) -> u64
+    requires { ⌜ i + 4 ≤ length (now s) ⌝ }
+    ensures { λ r. ⌜ (r ≡ fourAt (now (s .entry)) i) × (r < 2 ^ 32) ⌝ }
+{
+    from_four(s[i], s[i + 1], s[i + 2], s[i + 3])
+}
+
+// Eight bytes of `s` from `i` on as a number.
+fn eight(s: &[u8], i: usize) -> u64
+    requires { ⌜ i + 8 ≤ length (now s) ⌝ }
+    ensures { λ r. ⌜ r ≡ eightAt (now (s .entry)) i ⌝ }
+{
+    four(s, i) + 4294967296 * four(s, i + 4)
+}
+
+// The 32 bytes from `i` on are the same.
+fn same_block(a: &[u8], b: &[u8], i: usize) -> bool
+    requires { ⌜ (i + 32 ≤ length (now a)) × (length (now a) ≡ length (now b)) ⌝ }
+    ensures { λ r. ⌜ r ≡ blockSame (now (a .entry)) (now (b .entry)) i ⌝ }
+{
+    (eight(a, i) == eight(b, i))
+        & (eight(a, i + 8) == eight(b, i + 8))
+        & (eight(a, i + 16) == eight(b, i + 16))
+        & (eight(a, i + 24) == eight(b, i + 24))
+}
+
+// A number of bytes at the start that are the same, 32 at a time: all but the last 32 or fewer, or those before 32 that differ.
+fn same_start(a: &[u8], b: &[u8]) -> usize
+    requires { ⌜ length (now a) ≡ length (now b) ⌝ }
+    ensures { λ r. ⌜ (r ≤ length (now (a .entry))) × Agree (now (a .entry)) (now (b .entry)) r ⌝ }
+{
+    let n = a.len();
+    let mut i = 0;
+    while 32 < n - i {
+        if same_block(a, b, i) {
+            i += 32;
+        } else {
+            return i;
+        }
+    }
+    i
+}
+
+// The same bytes, of two strings of one length, more than 8. Some of the last eight may be compared twice.
+fn same_long(a: &[u8], b: &[u8]) -> bool
+    requires { ⌜ (8 < length (now a)) × (length (now a) ≡ length (now b)) ⌝ }
+    ensures { λ r. ⌜ r ≡ same (now (a .entry)) (now (b .entry)) ⌝ }
+{
+    let n = a.len();
+    let mut i = same_start(a, b);
+    while 8 < n - i {
+        if eight(a, i) == eight(b, i) {
+            i += 8;
+        } else {
+            return false;
+        }
+    }
+    eight(a, n - 8) == eight(b, n - 8)
+}
+
+// The same bytes, of two strings of one length, 4 to 8: the first four and the last four.
+fn same_few(a: &[u8], b: &[u8]) -> bool
+    requires { ⌜ (4 ≤ length (now a)) × (length (now a) ≤ 8) × (length (now a) ≡ length (now b)) ⌝ }
+    ensures { λ r. ⌜ r ≡ same (now (a .entry)) (now (b .entry)) ⌝ }
+{
+    let last = a.len() - 4;
+    (four(a, 0) == four(b, 0)) & (four(a, last) == four(b, last))
+}
+
+// The same bytes, of two strings of one length.
+fn same_short(a: &[u8], b: &[u8]) -> bool
+    requires { ⌜ length (now a) ≡ length (now b) ⌝ }
+    ensures { λ r. ⌜ r ≡ same (now (a .entry)) (now (b .entry)) ⌝ }
+{
+    let n = a.len();
+    let mut i = 0;
+    while i < n {
+        if a[i] != b[i] {
+            return false;
+        }
+        i += 1;
+    }
+    true
+}
 
 // Whether `a` and `b` are the same bytes.
 pub fn same_bytes(a: &[u8], b: &[u8]) -> bool
@@ -15,14 +110,13 @@ pub fn same_bytes(a: &[u8], b: &[u8]) -> bool
     if n != b.len() {
         return false;
     }
-    let mut i = 0;
-    while i < n {
-        if a[i] != b[i] {
-            return false;
-        }
-        i += 1;
+    if n < 4 {
+        return same_short(a, b);
     }
-    true
+    if n <= 8 {
+        return same_few(a, b);
+    }
+    same_long(a, b)
 }
 
 // Whether `name` is the keyword `eval`.

@@ -1,4 +1,5 @@
 pub mod Texts
+pub mod Plain
 pub mod Marks
 pub mod MarkLaws
 pub mod TextsLaws

@@ -1,58 +1,135 @@
 -- Laws of the marks that are kept.
-use Prim.Native.Nat.{ℕ, zero, suc, _/_, _≤_, _<_}
-use mathlib.Core.Path.{_≡_, refl, ap, sym, _∙_}
-use mathlib.Core.Bool.{false}
-use mathlib.Core.List.{List}
-use native.Mathlib.Decide.{ℕ-discrete}
+use Prim.Native.Nat.{ℕ, zero, suc, _+_, _-_, _*_, _/_, _≤_, _<_}
+use mathlib.Core.Path.{_≡_, refl, ap, sym, subst, _∙_}
+use mathlib.Core.Bool.{Bool, true, false, not, _&&_, and-eq-true-iff}
+use mathlib.Core.List.{List, [], _∷_, _++_}
+use native.Mathlib.Decide.{ℕ-discrete, decLt}
 use native.Mathlib.Omega.{arith}
-use lib.ListN.{length, getD, set, take, drop, length-take, length-set, replicate, length-replicate}
-use lib.Seq.{take-take, getD-set-same, getD-set-other}
-use Rattle.text.specs.Utf8.{utf8}
-use Rattle.text.specs.ReadLaws.{read-stuck}
-use Rattle.text.specs.RunLaws.{run-rest}
-use Rattle.texts.specs.Marks.{Run, block, blocks, markFrom, markTo, Mark, Holds, Marks, Leap}
+use lib.Dec.{leb, eqb}
+use lib.ListN.{length, getD, set, take, drop, length-set, replicate, length-replicate, List·getD-eq-default, take-append-drop}
+use lib.Seq.{slice, slice-cons, take-take, drop-drop, getD-set-same, getD-set-other}
+use borrow.Author.Tests.{lt-leb, eq-eqb, ne-eqb}
+use Rattle.text.specs.Utf8.{utf8, within}
+use Rattle.text.specs.Utf8Laws.{noTail, utf8-sync}
+use Rattle.text.specs.ReadLaws.{read-end, read-stuck}
+use Rattle.text.specs.RunLaws.{cut, run-none, run-rest}
+use Rattle.texts.specs.Marks.{Run, Reading, block, blocks, markFrom, markTo, Mark, Holds, Marks}
 
--- reading goes on at a mark's second place
-pub mark-leap : {s vs : List ℕ} (k v i : ℕ) → Marks s vs → v ≡ getD vs k 0 → 0 < v → markFrom k v ≡ i → markTo k v ≤ length s
-    → Leap s i (markTo k v)
-mark-leap {s} {vs} k v i m e p f g =
-    let h : Holds s k v = rw e (m .true-at k) in
-    record { least = omega arith; most = g; goes = run-rest s i (markTo k v) (omega arith) (rw (← f) (h p g)) }
+-- no character
+pub run-here : (s : List ℕ) (i : ℕ) → i ≤ length s → Run s i i
+run-here s i h = record { least = omega arith; most = h; good = run-none s i }
 
--- the marks serve a shorter string too
-pub mark-take : {b vs : List ℕ} (n : ℕ) → Marks b vs → Marks (take n b) vs
-mark-take {b} {vs} n m = record { size = m .size; true-at = λ k. at k (getD vs k 0) (m .true-at k) }
+pub run-stays : (s : List ℕ) {i j : ℕ} → i ≡ j → j ≤ length s → Run s i j
+run-stays s {i} {j} e h = subst (λ x. Run s x j) (sym e) (run-here s j h)
+
+-- a run, and another from its end on
+pub run-join : {s : List ℕ} {i j k : ℕ} → Run s i j → Run s j k → Run s i k
+run-join {s} {i} {j} {k} f g =
+    let first : utf8 (slice i j (take k s)) ≡ true = ap (λ l. utf8 (drop i l)) (take-take j k s (g .least)) ∙ f .good in
+    record { least = omega arith; most = g .most; good = run-rest (take k s) i j (f .least) first ∙ g .good }
+
+-- the same, where the place is named by an equal
+pub run-onto : {s : List ℕ} {i j p k : ℕ} → Run s i j → j ≡ p → Run s p k → Run s i k
+run-onto {s} {i} {j} {p} {k} f e g = run-join f (subst (λ x. Run s x k) (sym e) g)
+
+-- a string is well-formed if it is read to its end
+pub reading-whole : (s : List ℕ) {r : ℕ} → Reading s 0 (length s) r → eqb r (length s) ≡ utf8 s
+reading-whole s {r} h = by (ℕ-discrete r (length s))
   where
-    at : (k v : ℕ) → Holds b k v → Holds (take n b) k v
-    at k v h p l =
-        let e = length-take n b in
-        ap (λ t. utf8 (drop (markFrom k v) t)) (take-take (markTo k v) n b (omega arith)) ∙ h p (omega arith)
+    rest : utf8 s ≡ utf8 (drop r s)
+    rest = run-rest s 0 r (omega arith) (h .passed .good)
 
-getD-zeros : (n k : ℕ) → _≡_ {A = ℕ} (getD (replicate n 0) k 0) 0
-getD-zeros zero k = refl
-getD-zeros (suc n) zero = refl
-getD-zeros (suc n) (suc k) = getD-zeros n k
+    by : Dec (r ≡ length s) → eqb r (length s) ≡ utf8 s
+    by (yes y) = eq-eqb r (length s) y ∙ sym (rest ∙ read-end s r (omega arith))
+    by (no n) =
+        let less : r < length s = omega (arith, h .passed .most) in
+        ne-eqb r (length s) n ∙ sym (rest ∙ read-stuck s r 0 (sym (h .stuck less)) less refl)
 
--- no mark
-pub mark-none : (b : List ℕ) → Marks b (replicate blocks 0)
-mark-none b = record {
-  size = length-replicate {A = ℕ} blocks 0;
-  true-at = λ k p. absurd (omega (arith, getD-zeros blocks k));
+-- a run up to a place where no tail byte stands
+pub run-cut : {s : List ℕ} {i j k : ℕ} → Run s i k → i ≤ j → j ≤ k → noTail (slice j k s) ≡ true → Run s i j
+run-cut {s} {i} {j} {k} f h l n =
+    record { least = h; most = omega arith; good = ap utf8 (sym front) ∙ utf8-sync (take (j - i) whole) (drop (j - i) whole) n' .0 both .0 }
+  where
+    whole : List ℕ
+    whole = slice i k s
+
+    sum : i + (j - i) ≡ j
+    sum = omega arith
+
+    front : take (j - i) whole ≡ slice i j s
+    front = sym (cut i (j - i) (take k s)) ∙ (ap (λ m. slice i m (take k s)) sum ∙ ap (drop i) (take-take j k s l))
+
+    back : drop (j - i) whole ≡ slice j k s
+    back = drop-drop (j - i) i (take k s) ∙ ap (λ m. drop m (take k s)) sum
+
+    n' : noTail (drop (j - i) whole) ≡ true
+    n' = ap noTail back ∙ n
+
+    both : utf8 (take (j - i) whole ++ drop (j - i) whole) ≡ true
+    both = ap utf8 (take-append-drop (j - i) whole) ∙ f .good
+
+-- a byte below 80 and one above BF are no tail bytes
+no-tail : (s : List ℕ) (j k : ℕ) → j < k → k ≤ length s → (within 0x80 0xBF (getD s j 0) ≡ false) → noTail (slice j k s) ≡ true
+no-tail s j k h l e = ap noTail (slice-cons j k s 0 h l) ∙ ap not e
+
+pub low-cut : {s : List ℕ} {i j k : ℕ} → Run s i k → i ≤ j → j < k → getD s j 0 < 0x80 → Run s i j
+low-cut {s} {i} {j} {k} f h l b =
+    run-cut f h (omega arith) (no-tail s j k l (f .most) (rw (lt-leb 0x80 (getD s j 0) b)))
+
+and-false : (x : Bool) → (x && false) ≡ false
+and-false true = refl
+and-false false = refl
+
+pub high-cut : {s : List ℕ} {i j k : ℕ} → Run s i k → i ≤ j → j < k → 0xBF < getD s j 0 → Run s i j
+high-cut {s} {i} {j} {k} f h l b =
+    let out : within 0x80 0xBF (getD s j 0) ≡ false = rw (lt-leb (getD s j 0) 0xBF b) (and-false (leb 0x80 (getD s j 0))) in
+    run-cut f h (omega arith) (no-tail s j k l (f .most) out)
+
+-- a mark that holds is a run
+pub mark-run : {b : List ℕ} {e v : ℕ} → Holds b e v → (i : ℕ) → markFrom e v ≡ i → i ≤ markTo v → markTo v ≤ length b → Run b i (markTo v)
+mark-run {b} {e} {v} h i f l m = record { least = l; most = m; good = rw (← f) (h .whole (omega arith) m) }
+
+pub mark-end : {b : List ℕ} {e v : ℕ} → Holds b e v → (i j : ℕ) → markFrom e v ≡ i → i ≤ j → markTo v ≡ j → j ≤ length b → Run b i j
+mark-end {b} {e} {v} h i j f l g m = subst (λ x. Run b i x) g (mark-run h i f (omega arith) (omega arith))
+
+-- the mark of a run holds
+mark-holds : {b : List ℕ} {e p far v : ℕ} → 0 < e → Run b p far → Mark e p far v → Holds b e v
+mark-holds {b} {e} {p} {far} {v} z f m = record { whole = λ h l. by (decLt 0 v) h }
+  where
+    by : Dec (0 < v) → markFrom e v ≤ markTo v → utf8 (slice (markFrom e v) (markTo v) b) ≡ true
+    by (yes y) h = rw (m .starts y, m .ends y) (f .good)
+    by (no y) h = let none : v ≡ 0 = omega arith in absurd (omega arith)
+
+-- no block has a mark yet
+pub mark-none : (b : List ℕ) (base : ℕ) {vs : List ℕ} → length vs ≡ blocks → Marks b base blocks vs
+mark-none b base {vs} e = record {
+  size = e;
+  true-at = λ k h. record { whole = λ f. absurd (omega (arith, List·getD-eq-default vs 0 (past k h))) };
 }
-
--- a run's mark is kept
-pub mark-set : {b vs : List ℕ} {i stop r v : ℕ} → Marks b vs → Run b i stop r → Mark i r v → i / block < blocks
-    → Marks b (set vs (i / block) v)
-mark-set {b} {vs} {i} {stop} {r} {v} m h a l =
-    record { size = length-set vs (i / block) v ∙ m .size; true-at = λ j. by j (ℕ-discrete j (i / block)) }
   where
-    by : (j : ℕ) → Dec (j ≡ i / block) → Holds b j (getD (set vs (i / block) v) j 0)
-    by j (yes e) = rw (e, getD-set-same vs (i / block) v 0 (omega (arith, m .size))) (λ p g. rw (a .starts p, a .ends p) (h .good))
-    by j (no e) = rw (getD-set-other vs (i / block) j v 0 e) (m .true-at j)
+    past : (k : ℕ) → blocks ≤ k → length vs ≤ k
+    past k h = omega arith
 
--- after a run the rest counts; where it is stuck, the rest is malformed
-pub run-goes : {s : List ℕ} {i stop r : ℕ} → Run s i stop r → utf8 (drop i s) ≡ utf8 (drop r s)
-run-goes {s} {i} {stop} {r} h = run-rest s i r (h .least) (h .good)
+-- every block has its mark
+pub mark-all : {b vs : List ℕ} {base j : ℕ} → Marks b base j vs → j ≡ 0 → Marks b base 0 vs
+mark-all m e = record { size = m .size; true-at = λ k h. m .true-at k (omega arith) }
 
-pub run-stuck : {s : List ℕ} {i stop r : ℕ} → Run s i stop r → stop ≤ length s → r < stop → utf8 (drop i s) ≡ false
-run-stuck {s} {i} {stop} {r} h l g = run-goes h ∙ read-stuck s r 0 (sym (h .stuck g)) (omega arith) refl
+-- the mark of block k
+pub mark-at : {b vs : List ℕ} {base e v : ℕ} → Marks b base 0 vs → (k : ℕ) → e ≡ base + (k + 1) * block → v ≡ getD vs k 0 → Holds b e v
+mark-at {b} {vs} {base} {e} {v} m k f g = rw (f, g) (m .true-at k (omega arith))
+
+-- the mark of the block before the first
+pub mark-set : {b vs : List ℕ} {base e p far v : ℕ} (first j : ℕ) → Marks b base first vs → j + 1 ≡ first → first ≤ blocks
+    → e ≡ base + first * block → Run b p far → Mark e p far v → Marks b base j (set vs j v)
+mark-set {b} {vs} {base} {e} {p} {far} {v} first j m g l f r a =
+    record { size = length-set vs j v ∙ m .size; true-at = λ k h. by k h (ℕ-discrete k j) }
+  where
+    here : base + (j + 1) * block ≡ e
+    here = omega arith
+
+    at : Holds b (base + (j + 1) * block) v
+    at = rw here (mark-holds (omega arith) r a)
+
+    by : (k : ℕ) → j ≤ k → Dec (k ≡ j) → Holds b (base + (k + 1) * block) (getD (set vs j v) k 0)
+    by k h (yes y) = rw (y, getD-set-same vs j v 0 (omega (arith, m .size))) at
+    by k h (no n) = rw (getD-set-other vs j k v 0 n) (m .true-at k (omega arith))

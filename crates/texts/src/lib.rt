@@ -1,44 +1,112 @@
 // Refusal 3 of a sheet: every text lies within the text bytes and is well-formed UTF-8.
-// Texts may overlap. So that the bytes are not read once for each text, they are read once in blocks of 2,048, and each block gets a
-// mark of one byte: the places near its start and its end between which whole characters stand. A text is read at its two ends and
-// goes through its middle from place to place.
+// Where all the text bytes are ASCII, each text only has to lie within them. Else each text is read, if their lengths come to no more than
+// eight times the text bytes. Longer texts overlap. So that the bytes are not read once for each text, they are taken in stretches of
+// 16,384, from the last to the first, and each block of 64 bytes of a stretch gets a mark: a place at the block's end, and how far whole
+// characters stand from there on. A text that starts in the stretch is read to the end of its first block, and goes on by its mark.
 ghost use mathlib.Core.Path.{_≡_};
+ghost use mathlib.Core.Bool.{true};
 ghost use Prim.Native.Nat.{_+_, _*_, _^_, _≤_, _<_};
-ghost use lib.ListN.{length, drop};
+ghost use lib.ListN.{length};
+ghost use Rattle.words.specs.Count.{allBelow};
 ghost use Rattle.text.specs.Utf8.{utf8};
+ghost use Rattle.sheet.specs.Layout.{textCount};
 ghost use Rattle.texts.specs.Texts.{textOk, textsOk};
-ghost use Rattle.texts.specs.Marks.{textBytes, Run, Mark, Marks, Leap};
+ghost use Rattle.texts.specs.Plain as ascii;
+ghost use Rattle.texts.specs.Marks.{textBytes, Run, Reading, blocks, Mark, Holds, Marks, Due, AllDue};
 use sheet::byte_count;
 use sheet::bytes_at;
+use sheet::text;
 use sheet::text_count;
 use sheet::text_length;
 use sheet::text_start;
 use text::char_len;
 use words::part;
 
-// bytes of a block, and the number of blocks: together the greatest text section
-const BLOCK: usize = 2048;
-
-const BLOCKS: usize = 512;
-
-// The end of the block that byte `i` is in, or `n` if that comes first.
-fn edge(i: usize, n: usize) -> usize
-    requires { ⌜ i < n ⌝ }
-    requires { ⌜ n < 2 ^ 63 ⌝ }
-    ensures { λ r. ⌜ (i < r) × (r ≤ n) ⌝ }
+// Four bytes are ASCII.
+fn four(b: &[u8], i: usize) -> bool
+    requires { ⌜ i + 4 ≤ length (now b) ⌝ }
+    ensures { λ r. ⌜ r ≡ ascii.four (now (b .entry)) i ⌝ }
 {
-    let r = i / BLOCK * BLOCK + BLOCK;
-    if n < r {
-        return n;
-    }
-    r
+    (b[i] < 0x80) & (b[i + 1] < 0x80) & (b[i + 2] < 0x80) & (b[i + 3] < 0x80)
 }
+
+// 16 bytes are ASCII.
+fn sixteen(b: &[u8], i: usize) -> bool
+    requires { ⌜ i + 16 ≤ length (now b) ⌝ }
+    ensures { λ r. ⌜ r ≡ ascii.sixteen (now (b .entry)) i ⌝ }
+{
+    four(b, i) & four(b, i + 4) & four(b, i + 8) & four(b, i + 12)
+}
+
+// A number of bytes at the start that are ASCII, 16 at a time.
+fn plain_start(b: &[u8]) -> usize
+    ensures { λ r. ⌜ (r ≤ length (now (b .entry))) × ascii.PlainTo (now (b .entry)) r ⌝ }
+{
+    let n = b.len();
+    let mut i = 0;
+    while 16 <= n - i {
+        if sixteen(b, i) {
+            i += 16;
+        } else {
+            return i;
+        }
+    }
+    i
+}
+
+// All bytes are ASCII, if it says so.
+fn plain(b: &[u8]) -> bool
+    ensures { λ r. ⌜ (r ≡ true → ascii.PlainTo (now (b .entry)) (length (now (b .entry)))) ⌝ }
+{
+    let size = b.len();
+    let mut i = plain_start(b);
+    while i < size {
+        if 0x7F < b[i] {
+            return false;
+        }
+        i += 1;
+    }
+    true
+}
+
+// Text `t` lies within the text bytes.
+fn inside(s: &[u8], t: u32) -> bool
+    ensures { λ r. ⌜ r ≡ ascii.inside (now (s .entry)) t ⌝ }
+{
+    let start = text_start(s, t) as usize;
+    let len = text_length(s, t) as usize;
+    let bytes = byte_count(s) as usize;
+    start + len <= bytes
+}
+
+// Every text lies within the text bytes.
+fn all_inside(s: &[u8]) -> bool
+    ensures { λ r. ⌜ r ≡ allBelow (textCount (now (s .entry))) (ascii.inside (now (s .entry))) ⌝ }
+{
+    let count = text_count(s);
+    let mut t: u32 = 0;
+    while t < count {
+        if inside(s, t) {
+            t += 1;
+        } else {
+            return false;
+        }
+    }
+    true
+}
+
+// bytes of a block, and the number of blocks of a stretch
+const BLOCK: usize = 64;
+
+const BLOCKS: usize = 256;
+
+const STRETCH: usize = 16384;
 
 // Reads characters from `i` on until `stop` is reached or passed, and answers where that is; before `stop` only where no character
 // starts.
 fn run(s: &[u8], i: usize, stop: usize) -> usize
     requires { ⌜ (i ≤ length (now s)) × (stop ≤ length (now s)) ⌝ }
-    ensures { λ r. ⌜ Run (now (s .entry)) i stop r ⌝ }
+    ensures { λ r. ⌜ Reading (now (s .entry)) i stop r ⌝ }
 {
     let mut r = i;
     while r < stop {
@@ -53,61 +121,6 @@ fn run(s: &[u8], i: usize, stop: usize) -> usize
         }
     }
     r
-}
-
-// A mark as a number.
-fn wide(v: u8) -> usize
-    ensures { λ r. ⌜ (r ≡ v) × (r < 256) ⌝ }
-{
-    v as usize
-}
-
-// A place of `s` at or after `i` from which reading goes on as from `i`: the second place of the mark whose first is `i`, or `i`
-// itself.
-fn leap(s: &[u8], i: usize, marks: &[u8; BLOCKS]) -> usize
-    requires { ⌜ i ≤ length (now s) ⌝ }
-    requires { ⌜ Marks (now s) (now marks) ⌝ }
-    ensures { λ r. ⌜ Leap (now (s .entry)) i r ⌝ }
-{
-    let k = i / BLOCK;
-    if BLOCKS <= k {
-        return i;
-    }
-    let v = wide(marks[k]);
-    if v == 0 {
-        return i;
-    }
-    if k * BLOCK + (v - 1) % 4 != i {
-        return i;
-    }
-    let r = (k + 1) * BLOCK + (v - 1) / 4;
-    if s.len() < r {
-        return i;
-    }
-    r
-}
-
-// Whether the bytes from `start` on are well-formed.
-fn well_from(s: &[u8], start: usize, marks: &[u8; BLOCKS]) -> bool
-    requires { ⌜ Marks (now s) (now marks) ⌝ }
-    ensures { λ r. ⌜ r ≡ utf8 (drop start (now (s .entry))) ⌝ }
-{
-    let n = s.len();
-    let mut i = start;
-    while i < n {
-        let j = leap(s, i, marks);
-        if i < j {
-            i = j;
-        } else {
-            let stop = edge(i, n);
-            let r = run(s, i, stop);
-            if r < stop {
-                return false;
-            }
-            i = r;
-        }
-    }
-    true
 }
 
 // A place at or after `p` for reading to start again: the first byte that is no tail byte, if it is one of the next three.
@@ -133,72 +146,200 @@ fn restart(b: &[u8], p: usize) -> usize
     r
 }
 
-// The mark of a run from `i` to `r`: how far after its block's start it starts, and how far after the block's end it ends. Only
-// distances below 4 are kept: other runs have the mark 0.
-fn mark(i: usize, r: usize) -> u8
-    requires { ⌜ i < 2 ^ 63 ⌝ }
-    ensures { λ v. ⌜ Mark i r v ⌝ }
+// Two places between which there are whole characters.
+struct Far(usize, usize);
+
+// The end of the bytes, twice.
+fn far_end(b: &[u8]) -> Far
+    ensures { λ r. ⌜ Run (now (b .entry)) (r .0) (r .1) ⌝ }
 {
-    let from = i % BLOCK;
-    let end = (i / BLOCK + 1) * BLOCK;
+    let n = b.len();
+    Far(n, n)
+}
+
+// The places from byte `e` on, where those behind it are known.
+fn far_from(b: &[u8], e: usize, f: Far) -> Far
+    requires { ⌜ Run (now b) (f .0) (f .1) ⌝ }
+    ensures { λ r. ⌜ Run (now (b .entry)) (r .0) (r .1) ⌝ }
+{
+    if b.len() < e {
+        return f;
+    }
+    let p = f.0;
+    let far = f.1;
+    let q = restart(b, e);
+    let r = run(b, q, p);
+    if r == p {
+        return Far(q, far);
+    }
+    Far(q, r)
+}
+
+// The mark of a run from `p` to `far`, for the block with end `e`. Only a start at `e` or at one of the next three bytes is kept:
+// other runs have the mark 0.
+fn mark(e: usize, p: usize, far: usize) -> u32
+    ensures { λ v. ⌜ Mark e p far v ⌝ }
+{
+    if p < e {
+        return 0;
+    }
+    let from = p - e;
     if 4 <= from {
         return 0;
     }
-    if r < end {
+    if 0x10000000 <= far {
         return 0;
     }
-    let to = r - end;
-    if 4 <= to {
-        return 0;
-    }
-    (1 + from + 4 * to) as u8
+    (4 * far + from) as u32
 }
 
-// Reads all the bytes, and keeps the mark of the run that starts in each block.
-fn keep(b: &[u8], marks: &mut [u8; BLOCKS])
-    requires { ⌜ Marks (now b) (now marks) ⌝ }
-    ensures { λ r. ⌜ Marks (now (b .entry)) (now (marks .exit)) ⌝ }
+// The marks of the stretch that starts at `base`, from its last block to its first; `from` is known from the stretch behind it.
+fn keep(b: &[u8], base: usize, from: Far, marks: &mut [u32; BLOCKS]) -> Far
+    requires { ⌜ (base < 2 ^ 33) × (length (now marks) ≡ blocks) ⌝ }
+    requires { ⌜ Run (now b) (from .0) (from .1) ⌝ }
+    ensures { λ r. ⌜ Run (now (b .entry)) (r .0) (r .1) × Marks (now (b .entry)) base 0 (now (marks .exit)) ⌝ }
 {
-    let n = b.len();
-    let mut i = 0;
-    while i < n {
-        let k = i / BLOCK;
-        if BLOCKS <= k {
-            return;
-        }
-        let stop = edge(i, n);
-        let r = run(b, i, stop);
-        marks[k] = mark(i, r);
-        if r < stop {
-            i = restart(b, stop);
-        } else {
-            i = r;
-        }
+    let mut f = from;
+    let mut j = BLOCKS;
+    while 0 < j {
+        let e = base + j * BLOCK;
+        f = far_from(b, e, f);
+        let p = f.0;
+        let far = f.1;
+        j -= 1;
+        marks[j] = mark(e, p, far);
     }
+    f
 }
 
-// Text `t` is in its place and well-formed.
-fn text_ok(s: &[u8], t: u32, marks: &[u8; BLOCKS]) -> bool
-    requires { ⌜ Marks (textBytes (now s)) (now marks) ⌝ }
-    ensures { λ r. ⌜ r ≡ textOk (now (s .entry)) t ⌝ }
+// There are whole characters from `i` to `end`, if it says so: `v` is the mark of the block with end `e`.
+fn leaps(b: &[u8], e: usize, v: usize, i: usize, end: usize) -> bool
+    requires { ⌜ (e < 2 ^ 34) × (end ≤ length (now b)) ⌝ }
+    requires { ⌜ Holds (now b) e v ⌝ }
+    ensures { λ r. ⌜ (r ≡ true → Run (now (b .entry)) i end) ⌝ }
+{
+    if i == end {
+        return true;
+    }
+    if e + v % 4 != i {
+        return false;
+    }
+    if end < i {
+        return false;
+    }
+    let far = v / 4;
+    if far < end {
+        return false;
+    }
+    if b.len() < far {
+        return false;
+    }
+    if far == end {
+        return true;
+    }
+    if b[end] < 0x80 {
+        return true;
+    }
+    0xBF < b[end]
+}
+
+// The lesser of two.
+fn least(a: usize, b: usize) -> usize
+    ensures { λ r. ⌜ (r ≤ a) × (r ≤ b) ⌝ }
+{
+    if b < a {
+        return b;
+    }
+    a
+}
+
+// A mark as a number.
+fn wide(v: u32) -> usize
+    ensures { λ r. ⌜ r ≡ v ⌝ }
+{
+    v as usize
+}
+
+// There are whole characters from `start` to `end`, if it says so. The text is read up to the end of its first block, and goes on by the
+// block's mark.
+fn whole(b: &[u8], start: usize, end: usize, first: usize, marks: &[u32; BLOCKS]) -> bool
+    requires { ⌜ (start ≤ end) × (end ≤ length (now b)) × (first < 2 ^ 33) ⌝ }
+    requires { ⌜ Marks (now b) first 0 (now marks) ⌝ }
+    ensures { λ r. ⌜ (r ≡ true → Run (now (b .entry)) start end) ⌝ }
+{
+    if start < first {
+        return false;
+    }
+    let k = (start - first) / BLOCK;
+    if BLOCKS <= k {
+        return false;
+    }
+    let e = first + (k + 1) * BLOCK;
+    let i = run(b, start, least(e, end));
+    leaps(b, e, wide(marks[k]), i, end)
+}
+
+// Text `t` is right, if it says so.
+fn known_ok(s: &[u8], b: &[u8], t: u32, base: usize, marks: &[u32; BLOCKS]) -> bool
+    requires { ⌜ (now b ≡ textBytes (now s)) × (base < 2 ^ 33) ⌝ }
+    requires { ⌜ Marks (now b) base 0 (now marks) ⌝ }
+    ensures { λ r. ⌜ (r ≡ true → textOk (now (s .entry)) t ≡ true) ⌝ }
 {
     let start = text_start(s, t) as usize;
     let end = start + (text_length(s, t) as usize);
-    if end <= (byte_count(s) as usize) {
-        return well_from(part(s, 4 * bytes_at(s), end), start, marks);
+    if b.len() < end {
+        return false;
+    }
+    whole(b, start, end, base, marks)
+}
+
+// Whether `q` is well-formed.
+fn read_whole(q: &[u8]) -> bool
+    ensures { λ r. ⌜ r ≡ utf8 (now (q .entry)) ⌝ }
+{
+    let n = q.len();
+    run(q, 0, n) == n
+}
+
+// Text `t` is in its place and well-formed: all of it is read.
+fn read_ok(s: &[u8], t: u32) -> bool
+    ensures { λ r. ⌜ r ≡ textOk (now (s .entry)) t ⌝ }
+{
+    if inside(s, t) {
+        return read_whole(text(s, t));
     }
     false
 }
 
-// Every text is in its place and well-formed.
-fn all_ok(s: &[u8], marks: &[u8; BLOCKS]) -> bool
-    requires { ⌜ Marks (textBytes (now s)) (now marks) ⌝ }
-    ensures { λ r. ⌜ r ≡ textsOk (now (s .entry)) ⌝ }
+// Text `t` is right, if it starts from `base` on and before `limit`.
+fn due_ok(s: &[u8], b: &[u8], t: u32, base: usize, limit: usize, marks: &[u32; BLOCKS]) -> bool
+    requires { ⌜ (now b ≡ textBytes (now s)) × (base < 2 ^ 33) ⌝ }
+    requires { ⌜ Marks (now b) base 0 (now marks) ⌝ }
+    ensures { λ r. ⌜ Due (now (s .entry)) t base limit r ⌝ }
 {
-    let n = text_count(s);
+    let start = text_start(s, t) as usize;
+    if start < base {
+        return true;
+    }
+    if limit <= start {
+        return true;
+    }
+    if known_ok(s, b, t, base, marks) {
+        return true;
+    }
+    read_ok(s, t)
+}
+
+// Every text that starts from `base` on and before `limit` is right.
+fn stretch_ok(s: &[u8], b: &[u8], base: usize, limit: usize, marks: &[u32; BLOCKS]) -> bool
+    requires { ⌜ (now b ≡ textBytes (now s)) × (base < 2 ^ 33) ⌝ }
+    requires { ⌜ Marks (now b) base 0 (now marks) ⌝ }
+    ensures { λ r. ⌜ AllDue (now (s .entry)) base limit r ⌝ }
+{
+    let last = text_count(s);
     let mut t: u32 = 0;
-    while t < n {
-        if text_ok(s, t, marks) {
+    while t < last {
+        if due_ok(s, b, t, base, limit, marks) {
             t += 1;
         } else {
             return false;
@@ -207,11 +348,91 @@ fn all_ok(s: &[u8], marks: &[u8; BLOCKS]) -> bool
     true
 }
 
+// Where the stretch starts that ends at `limit`, of `n` bytes.
+fn below(limit: usize, n: usize) -> usize
+    requires { ⌜ 0 < limit ⌝ }
+    ensures { λ r. ⌜ r < limit ⌝ }
+{
+    if n < limit {
+        return n / STRETCH * STRETCH;
+    }
+    if limit < STRETCH {
+        return 0;
+    }
+    limit - STRETCH
+}
+
+// Nothing of refusal 3, by marks: stretch by stretch, from the last to the first.
+fn marked_ok(s: &[u8], b: &[u8]) -> bool
+    requires { ⌜ now b ≡ textBytes (now s) ⌝ }
+    requires { ⌜ allBelow (textCount (now s)) (ascii.inside (now s)) ≡ true ⌝ }
+    ensures { λ r. ⌜ r ≡ textsOk (now (s .entry)) ⌝ }
+{
+    let mut marks: [u32; BLOCKS] = [0; BLOCKS];
+    let n = byte_count(s) as usize;
+    let mut f = far_end(b);
+    let mut limit = n + 1;
+    while 0 < limit {
+        let base = below(limit, n);
+        f = keep(b, base, f, &mut marks);
+        if stretch_ok(s, b, base, limit, &marks) {
+            limit = base;
+        } else {
+            return false;
+        }
+    }
+    true
+}
+
+// Nothing of refusal 3, text by text.
+fn each_ok(s: &[u8]) -> bool
+    ensures { λ r. ⌜ r ≡ textsOk (now (s .entry)) ⌝ }
+{
+    let n = text_count(s);
+    let mut t: u32 = 0;
+    while t < n {
+        if read_ok(s, t) {
+            t += 1;
+        } else {
+            return false;
+        }
+    }
+    true
+}
+
+// The lengths of all texts together.
+fn total(s: &[u8]) -> u64 {
+    let texts = text_count(s);
+    let mut sum: u64 = 0;
+    let mut t: u32 = 0;
+    while t < texts {
+        sum += text_length(s, t) as u64;
+        t += 1;
+    }
+    sum
+}
+
+// Nothing of refusal 3, where each text lies within the text bytes `b`.
+fn inside_ok(s: &[u8], b: &[u8]) -> bool
+    requires { ⌜ now b ≡ textBytes (now s) ⌝ }
+    requires { ⌜ allBelow (textCount (now s)) (ascii.inside (now s)) ≡ true ⌝ }
+    ensures { λ r. ⌜ r ≡ textsOk (now (s .entry)) ⌝ }
+{
+    if plain(b) {
+        return true;
+    }
+    if total(s) <= 8 * (byte_count(s) as u64) {
+        return each_ok(s);
+    }
+    marked_ok(s, b)
+}
+
 // Nothing of refusal 3.
 pub fn texts_ok(s: &[u8]) -> bool
     ensures { λ r. ⌜ r ≡ textsOk (now (s .entry)) ⌝ }
 {
-    let mut marks: [u8; BLOCKS] = [0; BLOCKS];
-    keep(part(s, 4 * bytes_at(s), byte_count(s) as usize), &mut marks);
-    all_ok(s, &marks)
+    if all_inside(s) {
+        return inside_ok(s, part(s, 4 * bytes_at(s), byte_count(s) as usize));
+    }
+    false
 }

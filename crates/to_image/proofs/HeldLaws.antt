@@ -11,7 +11,7 @@ use Rattle.totals.specs.Total.{total}
 use Rattle.totals.specs.TotalLaws.{total-emitted}
 use Rattle.emission.specs.Made.{Made, made, nothing, lowered}
 use Rattle.scratch.specs.declared.Layout.{Layout}
-use Rattle.scratch.specs.Places.{clearedIndex}
+use Rattle.local_slots.specs.Pass.{Begins}
 use Rattle.store.specs.declared.State.{State}
 use Rattle.store.specs.States as states
 use Rattle.store.specs.States.{stateOf}
@@ -33,7 +33,7 @@ use Rattle.to_image.proofs.TableLaws.{switches-are, case-section, range
 
 -- the table w before the constants of the Cases, and v with them
 module _ (s : List ℕ) (l : Layout) (xs us ys zs c w v : List ℕ) (r q p : State) (P : Planned s l (length xs) w)
-    (c-is : stateOf c ≡ states.start l) (clears : us ≡ clearedIndex l xs)
+    (c-is : stateOf c ≡ states.start l) (begins : Begins s l xs us)
     (done : Ready s → Tables s w → Placed s w
     → Does s l us (stateOf c) ys r (switchTo s (lowered maxDepth s) (targetsIn w) (entries s) (defaultBlock s) (wantIn w)))
     (added : Ready s → Does s l ys r zs q (casesTo s (casesOf s)))
@@ -56,7 +56,7 @@ module _ (s : List ℕ) (l : Layout) (xs us ys zs c w v : List ℕ) (r q p : Sta
   first =
       let more = cases-rise s (casesOf s) (switched s w) .emitted in
       let e-is = P .ready .emitted in
-      done D (P .tables) (P .placed) .holds nothing (first-holds xs us c (P .ready) (P .nodes) c-is clears) (omega (arith, all))
+      done D (P .tables) (P .placed) .holds nothing (first-holds xs us c (P .ready) (P .nodes) c-is begins) (omega (arith, all))
 
   held : Holds s l zs q (made (lower s .code) (lower s .pools) 1)
   held =

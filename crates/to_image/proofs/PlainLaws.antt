@@ -18,8 +18,8 @@ use Rattle.lowering.specs.Nodes.{Right, Valid, right, root-valid, accepted-size
 use Rattle.totals.specs.TotalLaws.{total-emitted}
 use Rattle.emission.specs.Made.{Made, nothing, lowered}
 use Rattle.scratch.specs.declared.Layout.{Layout}
-use Rattle.scratch.specs.Places.{clearedIndex}
 use Rattle.scratch.proofs.PlaceLaws.{index-fits}
+use Rattle.local_slots.specs.Pass.{Begins}
 use Rattle.store.specs.declared.State.{State}
 use Rattle.store.specs.States as states
 use Rattle.store.specs.States.{stateOf}
@@ -34,14 +34,14 @@ checked-right {s} R = right s (accepted-sizes s (R .accepted)) (accepted-shape s
 
 -- a scratch that is cleared holds nothing
 pub first-holds : {s : List ℕ} {l : Layout} (xs zs c : List ℕ) → Ready s (l .most) (length xs) → l .nodes ≡ nodeCount s
-    → stateOf c ≡ states.start l → zs ≡ clearedIndex l xs → Holds s l zs (stateOf c) nothing
-first-holds {s} {l} xs zs c R nodes c-is clears =
+    → stateOf c ≡ states.start l → Begins s l xs zs → Holds s l zs (stateOf c) nothing
+first-holds {s} {l} xs zs c R nodes c-is begins =
     let space = R .space in
     let few = R .few in
     let small = checked-right R .few in
     let end = index-fits l in
     let fit : Fit s l xs = record { space = omega arith; few = omega arith; nodes = nodes; small = omega arith } in
-    fresh-holds s l xs zs c fit (omega arith) clears c-is
+    fresh-holds s l xs zs c fit (omega arith) begins c-is
 
 lower-plain : (s : List ℕ) → (kind s 0 ≡ switchKind → ⊥) → lower s ≡ plain (expression maxDepth s 0 0 0 noPools)
 unfolding lower
@@ -50,7 +50,7 @@ lower-plain s h = rw (ne-eqb (kind s 0) switchKind h, lower)
 -- the image of an expression
 module _ {s : List ℕ} (h : kind s 0 ≡ switchKind → ⊥) (l : Layout) (xs zs ys img : List ℕ) (q r : State) (len : ℕ)
     (R : Ready s (l .most) (length xs)) (nodes : l .nodes ≡ nodeCount s)
-    (c : List ℕ) (c-is : stateOf c ≡ states.start l) (clears : zs ≡ clearedIndex l xs)
+    (c : List ℕ) (c-is : stateOf c ≡ states.start l) (begins : Begins s l xs zs)
     (done : Right s → Valid s 0 → Does s l zs (stateOf c) ys q (lowered maxDepth s 0)) (r-is : r ≡ q)
     (counted : (a : Made) → Holds s l ys r a → (sw ca ra : ℕ) → len ≡ length (front a sw ca ra) + 0) where
   plain-words : words (lower s) ≡ front (lowered maxDepth s 0 nothing) 0 0 0
@@ -63,7 +63,7 @@ module _ {s : List ℕ} (h : kind s 0 ≡ switchKind → ⊥) (l : Layout) (xs z
       let C = checked-right R in
       let e-is = R .emitted in
       let all = sym (ap (λ p. p .pools .emitted) (lower-plain s h)) ∙ total-emitted s in
-      rw r-is (done C (root-valid s C) .holds nothing (first-holds xs zs c R nodes c-is clears) (omega arith))
+      rw r-is (done C (root-valid s C) .holds nothing (first-holds xs zs c R nodes c-is begins) (omega arith))
 
   len-is : len ≡ length (words (lower s))
   len-is = omega (arith, counted (lowered maxDepth s 0 nothing) plain-holds 0 0 0, ap length plain-words)

@@ -51,14 +51,17 @@ module _ {s w : List ℕ} (P : Placed s w) where
 
   -- where a list l of the heads ls goes, whose number stands in the table
   pub goes-to : {ls : List (List ℕ)} {b places exits : ℕ} (l : List ℕ) (number other fallback : ℕ)
-      → AllIn (λ k. k < blockCount s) ls → Chained s w ls b places exits → numberIn l ls < length ls
+      → AllIn (λ k. k < blockCount s) ls → Chained s (tally maxDepth s) w ls b places exits → numberIn l ls < length ls
       → cell w number ≡ numberIn l ls → cell w other ≡ fallback
-      → targetAt w number exits places other ≡ listTarget s at fallback (chainPlace s ls b (numberIn l ls)) (getD ls (numberIn l ls) [])
+      → targetAt w number exits places other
+      ≡ listTarget s at fallback (chainPlace s (tally maxDepth s) ls b (numberIn l ls)) (getD ls (numberIn l ls) [])
   unfolding listTarget
   goes-to {ls} {b} {places} {exits} l number other fallback named C few n-is f-is =
       let q = numberIn l ls in
       let m = getD ls q [] in
       sym
-      (target-is w number exits places other q (exitOf s m) (chainPlace s ls b q) fallback (sym n-is) (sym (C .exits q few))
+      (target-is w number exits places other q (exitOf s m) (chainPlace s (tally maxDepth s) ls b q) fallback (sym n-is)
+      (sym (C .exits q few))
       (sym (C .places q few)) (sym f-is))
-      ∙ goes-by m (lists-place (λ k. k < blockCount s) ls named q few) (chainPlace s ls b q) fallback (hasTry s m) (endOf s m) refl
+      ∙ goes-by m (lists-place (λ k. k < blockCount s) ls named q few) (chainPlace s (tally maxDepth s) ls b q) fallback (hasTry s m)
+      (endOf s m) refl

@@ -31,9 +31,9 @@ use Rattle.rows.proofs.RowLaws as rows
 use Rattle.image.specs.Front.{front}
 use Rattle.image.specs.Puts.{Puts, puts-as}
 use Rattle.tails.proofs.Tail.{cases-length, ranges-length, words-length, words-are}
+use Rattle.needs.proofs.CountLaws.{total-switch}
 use Rattle.to_image.specs.Making.{Ready, Built}
 use Rattle.to_image.specs.Switched.{Settled}
-use Rattle.to_image.proofs.AnswerLaws.{total-switch}
 use Rattle.to_image.proofs.SwitchLaws.{lower-switch}
 
 -- no more instructions stand than were emitted

@@ -1,31 +1,18 @@
--- The refusals by counts, and the making of an image: what it may take for granted and what it leaves. The answer does not speak of these.
+-- The making of an image: what it may take for granted and what it leaves. The answer does not speak of these.
 use Prim.Native.Nat.{ℕ, _+_, _*_, _≤_, _<_}
 use mathlib.Core.Path.{_≡_}
-use mathlib.Core.Bool.{Bool, true, false}
+use mathlib.Core.Bool.{true, false}
 use mathlib.Core.List.{List, _++_}
 use lib.Dec.{ltb}
 use lib.ListN.{length, drop}
 use Rattle.sheet.specs.Layout.{nodeCount}
 use Rattle.checks.specs.Checked as Checked
-use Rattle.lowering.specs.Limits.{maxEmitted, scratchPerEmitted, scratchPerNode, scratchBesides, evalReached, tooManyEmitted}
-use Rattle.lowering.specs.Limits.{scratchTooShort, imageTooLong}
+use Rattle.lowering.specs.Limits.{maxEmitted, scratchPerEmitted, scratchPerNode, scratchBesides, imageTooLong}
 use Rattle.lowering.specs.Image.{words}
 use Rattle.lowering.specs.Outcome.{lower}
 use Rattle.totals.specs.Total.{total}
 use Rattle.to_image.specs.declared.Answer.{Answer}
 use Rattle.to_image.specs.declared.Answer.the-variants.{Lowered, Refused}
-
--- the refusal by counts: d that an `eval` is reached, e instructions, m words of scratch, n nodes
-unfoldable pub early : Bool → ℕ → ℕ → ℕ → ℕ
-early d e m n =
-    elim d [
-      | true ↦ evalReached
-      | false ↦
-          elim (ltb maxEmitted e) [
-            | true ↦ tooManyEmitted
-            | false ↦ elim (ltb m (scratchPerEmitted * e + scratchPerNode * n + scratchBesides)) [ true ↦ scratchTooShort | false ↦ 0 ]
-          ]
-    ]
 
 -- the answer once n words are made, in an image with room for so many
 unfoldable pub ended : ℕ → ℕ → Answer
@@ -35,7 +22,7 @@ ended room n = elim (ltb room n) [ true ↦ Refused imageTooLong | false ↦ Low
 pub record Ready (s : List ℕ) (e m : ℕ) : Type 0 where
   pub accepted : Checked.numberOf (Checked.checked s) ≡ 0
   pub reached : total s .defeated ≡ false
-  pub emitted : e ≡ total s .emitted
+  pub emitted : total s .emitted ≤ e
   pub few : e ≤ maxEmitted
   pub space : scratchPerEmitted * e + scratchPerNode * nodeCount s + scratchBesides ≤ m
 

@@ -1,4 +1,4 @@
-// What a lowering answers, the refusals by counts, and the image of an expression. Refusals 1 to 11 are found without touching a buffer.
+// What a lowering answers, and the image of an expression. Refusals 1 to 11 are found without touching a buffer.
 ghost use mathlib.Core.Path.{_≡_};
 ghost use lib.ListN.{length};
 ghost use Rattle.checks.specs.Checked as Checked;
@@ -7,7 +7,7 @@ ghost use Rattle.lowering.specs.Kinds.{switchKind};
 ghost use Rattle.zeros.specs.Zeros.{Zeroed};
 ghost use Rattle.to_image.specs.Answer.{Answers};
 ghost use Rattle.to_image.specs.Making as making;
-ghost use Rattle.to_image.specs.Making.{Ready, Built, early};
+ghost use Rattle.to_image.specs.Making.{Ready, Built};
 
 pub mod switched;
 
@@ -16,19 +16,16 @@ use bytecode::effects;
 use checks::check;
 use checks::number;
 use compile::expression;
-use counting::tallies::MAX_EMITTED;
-use counting::tallies::Tally;
-use counting::tally;
 use image::image_len;
 use image::write_front;
-use lowering::EVAL_REACHED;
+use local_slots::begin;
 use lowering::IMAGE_TOO_LONG;
-use lowering::SCRATCH_TOO_SHORT;
-use lowering::TOO_MANY_EMITTED;
-use plan::count;
-use plan::read;
+use needs::SWITCH;
+use needs::plain_counts;
+use needs::refusal;
+use needs::settle;
+use needs::switch_counts;
 use scratch::Layout;
-use scratch::clear_index;
 use sheet::kind;
 use sheet::limits::MAX_DEPTH;
 use sheet::node_count;
@@ -43,32 +40,6 @@ pub enum Answer {
     Refused { number: u32 },
 }
 
-// The kind of a Switch.
-pub const SWITCH: u32 = 19;
-
-// words of scratch for each emitted instruction, for each node, and besides
-pub const PER_EMITTED: u64 = 16;
-
-pub const PER_NODE: u64 = 16;
-
-pub const BESIDES: u64 = 4096;
-
-// Refusal 9, 10 or 11 by counts alone, or 0.
-pub fn refusal(t: Tally, scratch: usize, nodes: u32) -> u32
-    ensures { λ r. ⌜ r ≡ early (t .defeated) (t .emitted) scratch nodes ⌝ }
-{
-    if t.defeated {
-        return EVAL_REACHED;
-    }
-    if MAX_EMITTED < t.emitted {
-        return TOO_MANY_EMITTED;
-    }
-    if (scratch as u64) < PER_EMITTED * t.emitted + PER_NODE * (nodes as u64) + BESIDES {
-        return SCRATCH_TOO_SHORT;
-    }
-    0
-}
-
 // The image of an expression: its word count; its words are written where they fit.
 pub fn build_plain(s: &[u8], image: &mut [u32], x: &mut [u32], most: u32) -> usize
     ensures { λ r. let sheet = now (s .entry) in ⌜ (Ready sheet most (length (now (x .entry))) → (nodes.kind sheet 0 ≡ switchKind → ⊥)
@@ -80,7 +51,7 @@ pub fn build_plain(s: &[u8], image: &mut [u32], x: &mut [u32], most: u32) -> usi
     };
     let t = effects();
     let mut c = start(l);
-    clear_index(x, l);
+    begin(s, x, l);
     expression(MAX_DEPTH, s, &t, &mut c, x, 0);
     let st = state_of(&c);
     let n = image_len(st, 0);
@@ -110,7 +81,7 @@ fn lower_plain(sheet: &[u8], image: &mut [u32], scratch: &mut [u32]) -> Answer
     ensures { λ r. let s = now (sheet .entry) in ⌜ (Checked.numberOf (Checked.checked s) ≡ 0 → (nodes.kind s 0 ≡ switchKind → ⊥)
         → Answers s (now (image .entry)) (now (scratch .entry)) r (now (image .exit)) (now (scratch .exit))) ⌝ }
 {
-    let t = tally(MAX_DEPTH, sheet, 0);
+    let t = plain_counts(sheet, scratch.len());
     let k = refusal(t, scratch.len(), node_count(sheet));
     if k != 0 {
         return Answer::Refused { number: k };
@@ -125,12 +96,12 @@ fn lower_switch(sheet: &[u8], image: &mut [u32], scratch: &mut [u32]) -> Answer
         → Answers s (now (image .entry)) (now (scratch .entry)) r (now (image .exit)) (now (scratch .exit))) ⌝ }
 {
     let mut w = [0u32; SIZE];
-    read(sheet, &mut w[..]);
-    let t = count(sheet, &mut w[..]);
+    let t = switch_counts(sheet, scratch.len(), &mut w[..]);
     let k = refusal(t, scratch.len(), node_count(sheet));
     if k != 0 {
         return Answer::Refused { number: k };
     }
+    settle(sheet, &mut w[..]);
     let n = build_switch(sheet, image, scratch, t.emitted as u32, &mut w[..]);
     ended(scratch, image.len(), n)
 }

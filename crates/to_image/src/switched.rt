@@ -18,8 +18,8 @@ use dispatch::case_consts;
 use dispatch::switch;
 use image::image_len;
 use image::put_front;
+use local_slots::begin;
 use scratch::Layout;
-use scratch::clear_index;
 use scratch::get;
 use sheet::field_b;
 use sheet::node_count;
@@ -41,7 +41,7 @@ fn held(s: &[u8], l: Layout, x: &mut [u32], w: &mut [u32]) -> State
 {
     let t = effects();
     let mut c = start(l);
-    clear_index(x, l);
+    begin(s, x, l);
     switch(s, &t, &mut c, x, &w[..]);
     case_consts(s, &mut c, x, w);
     state_of(&c)

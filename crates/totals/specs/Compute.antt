@@ -5,6 +5,7 @@ use Rattle.lowering.specs.Compute.{checkedNumber, expressionOut, switchProgram}
 use Rattle.cases.specs.Split as Split
 use Rattle.counting.specs.declared.tallies.Tally.{Tally}
 use Rattle.counting.specs.Tally as CountingTally
+use Rattle.counting.specs.Locals as CountingLocals
 use Rattle.counting.specs.Plan as CountingPlan
 use Rattle.counting.specs.Link as CountingLink
 use Rattle.counting.specs.Count as CountingCount
@@ -14,7 +15,7 @@ use Rattle.totals.specs.Total
 
 -- a node
 unfoldable pub nodeTally : ℕ → List ℕ → ℕ → Tally
-unfolding checkedNumber expressionOut CountingTally.instructions CountingTally.nothing CountingTally.evaluation CountingTally.plus CountingTally.takenBack CountingTally.capped CountingPlan.array CountingPlan.interpolated CountingPlan.shortCircuit CountingPlan.makeFnPtr CountingPlan.allArgs CountingPlan.otherArgs CountingPlan.rotates CountingPlan.callBy CountingPlan.fnCallBy CountingPlan.fnCall CountingPlan.planBy CountingPlan.plan CountingLink.linkBy CountingLink.link CountingLink.grade CountingLink.least CountingLink.temporary CountingCount.siblings CountingCount.coalesce CountingCount.walkOn CountingCount.walk CountingCount.chainBy CountingCount.chain CountingCount.follow CountingCount.tally
+unfolding checkedNumber expressionOut CountingTally.instructions CountingTally.nothing CountingTally.evaluation CountingTally.plus CountingTally.takenBack CountingTally.capped CountingLocals.isLocal CountingLocals.variableBy CountingLocals.firstBy CountingLocals.receiverBy CountingPlan.array CountingPlan.interpolated CountingPlan.shortCircuit CountingPlan.makeFnPtr CountingPlan.allArgs CountingPlan.otherArgs CountingPlan.rotates CountingPlan.callBy CountingPlan.fnCallBy CountingPlan.fnCall CountingPlan.planBy CountingPlan.plan CountingLink.linkBy CountingLink.link CountingLink.grade CountingLink.least CountingLink.temporary CountingCount.siblings CountingCount.coalesce CountingCount.walkOn CountingCount.walk CountingCount.chainBy CountingCount.chain CountingCount.follow CountingCount.tallyBy
 nodeTally levels s j = CountingCount.tally levels s j
 
 -- a switch, where t is the tally of a node

@@ -20,7 +20,7 @@ fn from_bytes(a: u8, b: u8, c: u8, d: u8) -> u32
 }
 
 // A word of which the string has all four bytes.
-fn whole(s: &[u8], i: usize) -> u32
+pub fn whole(s: &[u8], i: usize) -> u32
     requires { ⌜ 4 * i + 3 < length (now s) ⌝ }
     ensures { λ r. ⌜ r ≡ word (now (s .entry)) i ⌝ }
 {

@@ -1,14 +1,10 @@
--- `chains::has_step` meets its contract: each arm is the definition's, by the rule that the code answers.
-use mathlib.Core.Path.{ap, sym, _∙_}
-use Rattle.rules.specs.Inverse.{stepRuleFrom, step-is}
+-- `chains::has_step` meets its contract, rule by rule.
+use mathlib.Core.Path.{ap, sym}
+use Rattle.rules.specs.Inverse.{stepRuleFrom}
 use Rattle.lowering.specs.Flatten.{hasStep}
-use Rattle.lowering.specs.Flatten.{stepRule}
 use borrow.Author.Needs.{needs}
 use Rattle.chains.proofs.has_step.Statement.{statement}
 use Rattle.chains.proofs.has_step.Tie as tie
-
-step-rule-requires : tie.Need-step-rule-requires
-step-rule-requires c κs = search needs
 
 enum-told : tie.Need-enum-told
 enum-told c = search needs
@@ -24,42 +20,21 @@ enum-told-4 c = search needs
 
 returns : tie.Need-returns
 unfolding stepRuleFrom hasStep
-returns c =
-    let a = c .before .before .before .before .args in
-    let s = a .s .now in
-    ap hasStep (step-is (stepRule s (a .c)) _ (sym (c .before .before .step-rule .ensures) ∙ c .enum-told .given .1))
+returns c = sym (ap (λ r. hasStep (stepRuleFrom r)) (c .enum-told .given .1))
 
 returns-2 : tie.Need-returns-2
 unfolding stepRuleFrom hasStep
-returns-2 c =
-    let a = c .before .before .before .before .args in
-    let s = a .s .now in
-    ap hasStep (step-is (stepRule s (a .c)) _ (sym (c .before .before .step-rule .ensures) ∙ c .enum-told2 .given .1))
+returns-2 c = sym (ap (λ r. hasStep (stepRuleFrom r)) (c .enum-told2 .given .1))
 
 returns-3 : tie.Need-returns-3
 unfolding stepRuleFrom hasStep
-returns-3 c =
-    let a = c .before .before .before .before .args in
-    let s = a .s .now in
-    ap hasStep (step-is (stepRule s (a .c)) _ (sym (c .before .before .step-rule .ensures) ∙ c .enum-told3 .given .1))
+returns-3 c = sym (ap (λ r. hasStep (stepRuleFrom r)) (c .enum-told3 .given .1))
 
 returns-4 : tie.Need-returns-4
 unfolding stepRuleFrom hasStep
-returns-4 c =
-    let a = c .before .before .before .before .args in
-    let s = a .s .now in
-    ap hasStep (step-is (stepRule s (a .c)) _ (sym (c .before .before .step-rule .ensures) ∙ c .enum-told4 .given .1))
+returns-4 c = sym (ap (λ r. hasStep (stepRuleFrom r)) (c .enum-told4 .given .1))
 
 pub has-step-spec : {M : Type 1} → statement M
 has-step-spec =
     tie.close
-    (tie.spec
-    step-rule-requires
-    enum-told
-    enum-told-2
-    enum-told-3
-    enum-told-4
-    returns
-    returns-2
-    returns-3
-    returns-4)
+    (tie.spec enum-told enum-told-2 enum-told-3 enum-told-4 returns returns-2 returns-3 returns-4)

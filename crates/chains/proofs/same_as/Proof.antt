@@ -15,23 +15,11 @@ same-index-requires c κs = search needs
 enum-told-2 : tie.Need-enum-told-2
 enum-told-2 c = search needs
 
-operand-of-requires : tie.Need-operand-of-requires
-operand-of-requires c κs = search needs
-
-operand-of-requires-2 : tie.Need-operand-of-requires-2
-operand-of-requires-2 c κs = search needs
-
 same-property-requires : tie.Need-same-property-requires
 same-property-requires c κs = search needs
 
 enum-told-3 : tie.Need-enum-told-3
 enum-told-3 c = search needs
-
-operand-of-requires-3 : tie.Need-operand-of-requires-3
-operand-of-requires-3 c κs = search needs
-
-operand-of-requires-4 : tie.Need-operand-of-requires-4
-operand-of-requires-4 c κs = search needs
 
 same-method-requires : tie.Need-same-method-requires
 same-method-requires c κs = search needs
@@ -44,33 +32,33 @@ unfolding stepRuleFrom sameAs
 returns c =
     let a = c .before .before .before .before .args in
     let s = a .s .now in
-    c .same-index .ensures
+    λ e f. c .same-index .ensures e f
     ∙ sym (ap (λ r. sameAs (stepRuleFrom r) s (a .c) (a .d)) (c .before .enum-told .given .1))
 
 returns-2 : tie.Need-returns-2
 unfolding stepRuleFrom sameAs
 returns-2 c =
-    let a = c .before .before .before .before .before .before .args in
+    let a = c .before .before .before .before .args in
     let s = a .s .now in
-    c .same-property .ensures
-    ∙ ap₂ (sameProperty s) (c .before .before .operand-of .ensures) (c .before .operand-of2 .ensures)
-    ∙ sym (ap (λ r. sameAs (stepRuleFrom r) s (a .c) (a .d)) (c .before .before .before .enum-told2 .given .1))
+    λ e f. c .same-property .ensures
+    ∙ ap₂ (sameProperty s) e f
+    ∙ sym (ap (λ r. sameAs (stepRuleFrom r) s (a .c) (a .d)) (c .before .enum-told2 .given .1))
 
 returns-3 : tie.Need-returns-3
 unfolding stepRuleFrom sameAs
 returns-3 c =
-    let a = c .before .before .before .before .before .before .args in
+    let a = c .before .before .before .before .args in
     let s = a .s .now in
-    c .same-method .ensures
-    ∙ ap₂ (sameMethod s) (c .before .before .operand-of3 .ensures) (c .before .operand-of4 .ensures)
-    ∙ sym (ap (λ r. sameAs (stepRuleFrom r) s (a .c) (a .d)) (c .before .before .before .enum-told3 .given .1))
+    λ e f. c .same-method .ensures
+    ∙ ap₂ (sameMethod s) e f
+    ∙ sym (ap (λ r. sameAs (stepRuleFrom r) s (a .c) (a .d)) (c .before .enum-told3 .given .1))
 
 returns-4 : tie.Need-returns-4
 unfolding stepRuleFrom sameAs
 returns-4 c =
     let a = c .before .before .before .args in
     let s = a .s .now in
-    sym (ap (λ r. sameAs (stepRuleFrom r) s (a .c) (a .d)) (c .enum-told4 .given .1))
+    λ e f. sym (ap (λ r. sameAs (stepRuleFrom r) s (a .c) (a .d)) (c .enum-told4 .given .1))
 
 pub same-as-spec : {M : Type 1} → statement M
 same-as-spec =
@@ -79,12 +67,8 @@ same-as-spec =
     enum-told
     same-index-requires
     enum-told-2
-    operand-of-requires
-    operand-of-requires-2
     same-property-requires
     enum-told-3
-    operand-of-requires-3
-    operand-of-requires-4
     same-method-requires
     enum-told-4
     returns

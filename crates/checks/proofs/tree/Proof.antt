@@ -1,4 +1,4 @@
--- `checks::tree` meets its contract: depth law for each answer.
+-- `checks::tree` meets its contract: a law for each answer.
 use Rattle.checks.specs.CheckedLaws.{says-0, says-5, says-6, says-7, says-8}
 use mathlib.Core.Path.{sym, _∙_}
 use borrow.Author.Needs.{needs}
@@ -19,42 +19,40 @@ supported-ok-requires c κs = search needs
 
 returns : tie.Need-returns
 returns c =
-    let s = c .before .before .before .before .before .before .before .before .before .args .s .now in
-    let depth = sym (c .before .before .before .before .before .before .before .depth-ok .ensures) ∙ c .before .before .before .before .before .before .if1 .taken in
-    let entries = sym (c .before .before .before .before .before .entries-ok .ensures) ∙ c .before .before .before .before .if2 .taken in
-    let cases = sym (c .before .before .before .cases-ok .ensures) ∙ c .before .before .if3 .taken in
-    let supported = sym (c .before .supported-ok .ensures) ∙ c .if4 .taken in
-    sym (says-0 s depth entries cases supported)
+    let third = c .before .before in
+    let second = third .before .before in
+    let first = second .before .before in
+    let depth = sym (first .before .depth-ok .ensures) ∙ first .if1 .taken in
+    let entries = sym (second .before .entries-ok .ensures) ∙ second .if2 .taken in
+    let cases = sym (third .before .cases-ok .ensures) ∙ third .if3 .taken in
+    sym (says-0 _ depth entries cases (sym (c .before .supported-ok .ensures) ∙ c .if4 .taken))
 
 returns-2 : tie.Need-returns-2
 returns-2 c =
-    let s = c .before .before .before .before .before .before .before .before .before .args .s .now in
-    let depth = sym (c .before .before .before .before .before .before .before .depth-ok .ensures) ∙ c .before .before .before .before .before .before .if1 .taken in
-    let entries = sym (c .before .before .before .before .before .entries-ok .ensures) ∙ c .before .before .before .before .if2 .taken in
-    let cases = sym (c .before .before .before .cases-ok .ensures) ∙ c .before .before .if3 .taken in
-    let supported = sym (c .before .supported-ok .ensures) ∙ c .if4 .left in
-    sym (says-8 s depth entries cases supported)
+    let third = c .before .before in
+    let second = third .before .before in
+    let first = second .before .before in
+    let depth = sym (first .before .depth-ok .ensures) ∙ first .if1 .taken in
+    let entries = sym (second .before .entries-ok .ensures) ∙ second .if2 .taken in
+    let cases = sym (third .before .cases-ok .ensures) ∙ third .if3 .taken in
+    sym (says-8 _ depth entries cases (sym (c .before .supported-ok .ensures) ∙ c .if4 .left))
 
 returns-3 : tie.Need-returns-3
 returns-3 c =
-    let s = c .before .before .before .before .before .before .before .args .s .now in
-    let depth = sym (c .before .before .before .before .before .depth-ok .ensures) ∙ c .before .before .before .before .if1 .taken in
-    let entries = sym (c .before .before .before .entries-ok .ensures) ∙ c .before .before .if2 .taken in
-    let cases = sym (c .before .cases-ok .ensures) ∙ c .if3 .left in
-    sym (says-7 s depth entries cases)
+    let second = c .before .before in
+    let first = second .before .before in
+    let depth = sym (first .before .depth-ok .ensures) ∙ first .if1 .taken in
+    let entries = sym (second .before .entries-ok .ensures) ∙ second .if2 .taken in
+    sym (says-7 _ depth entries (sym (c .before .cases-ok .ensures) ∙ c .if3 .left))
 
 returns-4 : tie.Need-returns-4
 returns-4 c =
-    let s = c .before .before .before .before .before .args .s .now in
-    let depth = sym (c .before .before .before .depth-ok .ensures) ∙ c .before .before .if1 .taken in
-    let entries = sym (c .before .entries-ok .ensures) ∙ c .if2 .left in
-    sym (says-6 s depth entries)
+    let first = c .before .before in
+    let depth = sym (first .before .depth-ok .ensures) ∙ first .if1 .taken in
+    sym (says-6 _ depth (sym (c .before .entries-ok .ensures) ∙ c .if2 .left))
 
 returns-5 : tie.Need-returns-5
-returns-5 c =
-    let s = c .before .before .before .args .s .now in
-    let depth = sym (c .before .depth-ok .ensures) ∙ c .if1 .left in
-    sym (says-5 s depth)
+returns-5 c = sym (says-5 _ (sym (c .before .depth-ok .ensures) ∙ c .if1 .left))
 
 pub tree-spec : {M : Type 1} → statement M
 tree-spec =

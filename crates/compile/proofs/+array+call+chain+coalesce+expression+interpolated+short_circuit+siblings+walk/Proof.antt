@@ -10,7 +10,7 @@ use Rattle.compile.specs.CycleDoes.{skip-first, skip-more, rows-start, r
 use Rattle.compile.specs.Walking.{Walking}
 use Rattle.compile.specs.Rows.{rows}
 use Rattle.emission.specs.Made.{lowered}
-use Rattle.store.specs.Does.{Does}
+use Rattle.store.specs.Does.{Does, held-slots, does-held}
 use Rattle.compile.specs.Linked.{Linked}
 use Rattle.lowering.specs.Nodes.{Right, Valid, Row}
 use Rattle.sheet.specs.Walk.{skip}
@@ -53,8 +53,7 @@ use Rattle.compile.proofs.+array+call+chain+coalesce+expression+interpo
 use Rattle.compile.proofs.walk.Reads as walk
 use Rattle.compile.proofs.walk.Kinds as walk-kinds
 use Rattle.compile.proofs.+array+call+chain+coalesce+expression+interpolated+short_circuit+siblings+walk.Lts-walk as walk-lts
-use Rattle.chains.proofs.flattens.Reads as flattens-reads
-use Rattle.chains.proofs.lowers.Reads as lowers-reads
+use Rattle.chains.proofs.far_of.Reads as far-of-reads
 use Rattle.compile.proofs.after.after_one.Reads as after-one-reads
 use Rattle.compile.proofs.calls.arg_count.Reads as arg-count-reads
 use Rattle.compile.proofs.calls.close.Reads as close-reads
@@ -68,11 +67,10 @@ use Rattle.compile.proofs.leaves.variable.Reads as variable-reads
 use Rattle.compile.proofs.steps.close_chain.Reads as close-chain-reads
 use Rattle.compile.proofs.steps.root_name.Reads as root-name-reads
 use Rattle.compile.proofs.steps.step_names.Reads as step-names-reads
-use Rattle.counting.proofs.links.link_of.Reads as link-of-reads
+use Rattle.counting.proofs.links.link_with.Reads as link-with-reads
 use Rattle.counting.proofs.links.temporary.Reads as temporary-reads
 use Rattle.counting.proofs.plans.one_less.Reads as one-less-reads
-use Rattle.rules.proofs.chains.goes_on.Reads as goes-on-reads
-use Rattle.rules.proofs.chains.rest_of.Reads as rest-of-reads
+use Rattle.rules.proofs.chains.read_link.Reads as read-link-reads
 use Rattle.rules.proofs.rule.Reads as rule-reads
 use Rattle.sheet.proofs.child.Reads as child-reads
 use Rattle.sheet.proofs.count.Reads as count-reads
@@ -82,6 +80,7 @@ use Rattle.sheet.proofs.position.Reads as position-reads
 use Rattle.sheet.proofs.skip.Reads as skip-reads
 use Rattle.store.proofs.emit.Reads as emit-reads
 use Rattle.store.proofs.residual.Reads as residual-reads
+use Rattle.store.proofs.states.layout_of.Reads as layout-of-reads
 use Rattle.store.proofs.states.take_back.Reads as take-back-reads
 use Rattle.compile.proofs.+array+call+chain+coalesce+expression+interpolated+short_circuit+siblings+walk.{
   statement,
@@ -191,10 +190,10 @@ abbrev array-claims : ℕ → array-lts.Claims
 array-claims t = (count-reads.Asked, count-reads.Learnt, child-reads.Asked, child-reads.Learnt, siblings-below t, siblings.Post, position-reads.Asked, position-reads.Learnt, emit-reads.Asked, emit-reads.Learnt, residual-reads.Asked, residual-reads.Learnt)
 
 abbrev call-claims : ℕ → call-lts.Claims
-call-claims t = (way-of-reads.Asked, way-of-reads.Learnt, open-reads.Asked, open-reads.Learnt, arg-count-reads.Asked, arg-count-reads.Learnt, first-arg-reads.Asked, first-arg-reads.Learnt, siblings-below t, siblings.Post, close-reads.Asked, close-reads.Learnt)
+call-claims t = (layout-of-reads.Asked, layout-of-reads.Learnt, way-of-reads.Asked, way-of-reads.Learnt, open-reads.Asked, open-reads.Learnt, arg-count-reads.Asked, arg-count-reads.Learnt, first-arg-reads.Asked, first-arg-reads.Learnt, siblings-below t, siblings.Post, close-reads.Asked, close-reads.Learnt)
 
 abbrev chain-claims : ℕ → chain-lts.Claims
-chain-claims t = (flattens-reads.Asked, flattens-reads.Learnt, child-reads.Asked, child-reads.Learnt, root-name-reads.Asked, root-name-reads.Learnt, walk-below t, walk.Post, lowers-reads.Asked, lowers-reads.Learnt, temporary-reads.Asked, temporary-reads.Learnt, siblings-below t, siblings.Post, close-chain-reads.Asked, close-chain-reads.Learnt, take-back-reads.Asked, take-back-reads.Learnt, residual-reads.Asked, residual-reads.Learnt)
+chain-claims t = (far-of-reads.Asked, far-of-reads.Learnt, child-reads.Asked, child-reads.Learnt, root-name-reads.Asked, root-name-reads.Learnt, walk-below t, walk.Post, temporary-reads.Asked, temporary-reads.Learnt, siblings-below t, siblings.Post, close-chain-reads.Asked, close-chain-reads.Learnt, take-back-reads.Asked, take-back-reads.Learnt, residual-reads.Asked, residual-reads.Learnt)
 
 abbrev coalesce-claims : ℕ → coalesce-lts.Claims
 coalesce-claims t = (count-reads.Asked, count-reads.Learnt, one-less-reads.Asked, one-less-reads.Learnt, child-reads.Asked, child-reads.Learnt, siblings-below t, siblings.Post, skip-reads.Asked, skip-reads.Learnt, expression-below t, expression.Post)
@@ -212,7 +211,7 @@ abbrev siblings-claims : ℕ → siblings-lts.Claims
 siblings-claims t = (expression-below t, expression.Post, position-reads.Asked, position-reads.Learnt, after-one-reads.Asked, after-one-reads.Learnt, next-reads.Asked, next-reads.Learnt)
 
 abbrev walk-claims : ℕ → walk-lts.Claims
-walk-claims t = (link-of-reads.Asked, link-of-reads.Learnt, siblings-below t, siblings.Post, step-names-reads.Asked, step-names-reads.Learnt, goes-on-reads.Asked, goes-on-reads.Learnt, rest-of-reads.Asked, rest-of-reads.Learnt)
+walk-claims t = (read-link-reads.Asked, read-link-reads.Learnt, link-with-reads.Asked, link-with-reads.Learnt, siblings-below t, siblings.Post, step-names-reads.Asked, step-names-reads.Learnt)
 
 array-count-requires : (t : ℕ) → array-lts.Need-count-requires (array-claims t) (array-at t) array.Post
 array-count-requires t c κs = search needs
@@ -265,6 +264,9 @@ array-returns-2 t c =
     let p6 = p5 .before in
     λ l table C v. array-kept _ _ _ (p6 .count .ensures) (p5 .if1 .left) (p2 .residual .ensures l table _)
 
+call-layout-of-requires : (t : ℕ) → call-lts.Need-layout-of-requires (call-claims t) (call-at t) call.Post
+call-layout-of-requires t c κs = search needs
+
 call-way-of-requires : (t : ℕ) → call-lts.Need-way-of-requires (call-claims t) (call-at t) call.Post
 call-way-of-requires t c κs = search needs
 
@@ -282,7 +284,8 @@ call-siblings-requires t c κs =
     let p4 = c .before .before .before .before in
     let p8 = p4 .before .before .before .before in
     let p12 = p8 .before .before .before .before in
-    (sibling-falls _ (p12 .pre .0), tt)
+    let p15 = p12 .before .before .before in
+    (sibling-falls _ (p15 .pre .0), tt)
 
 call-close-requires : (t : ℕ) → call-lts.Need-close-requires (call-claims t) (call-at t) call.Post
 call-close-requires t c κs = search needs
@@ -306,10 +309,14 @@ call-returns t c =
     let p13 = p9 .before .before .before .before in
     let p14 = p13 .before in
     let p17 = p14 .before .before .before in
-    λ l table C v k. call-by-way _ _ _ _ _ _ C v k (p17 .way-of .ensures) (p9 .arg-count .ensures) (p8 .first-arg .ensures) (p14 .«open» .ensures l table .0) (p14 .«open» .ensures l table .1) (p7 .siblings .ensures l table) (p2 .close .ensures l table)
+    λ l table C v k.
+    does-held (λ a h.
+    call-by-way _ _ _ _ _ _ C v k (p17 .way-of .ensures (held-slots (p17 .before .layout-of .ensures) h)) (p9 .arg-count .ensures)
+    (p8 .first-arg .ensures) (p14 .«open» .ensures l table .0) (p14 .«open» .ensures l table .1) (p7 .siblings .ensures l table)
+    (p2 .close .ensures l table))
 
-chain-flattens-requires : (t : ℕ) → chain-lts.Need-flattens-requires (chain-claims t) (chain-at t) chain.Post
-chain-flattens-requires t c κs = search needs
+chain-far-of-requires : (t : ℕ) → chain-lts.Need-far-of-requires (chain-claims t) (chain-at t) chain.Post
+chain-far-of-requires t c κs = search needs
 
 chain-child-requires : (t : ℕ) → chain-lts.Need-child-requires (chain-claims t) (chain-at t) chain.Post
 chain-child-requires t c κs = search needs
@@ -334,9 +341,6 @@ chain-walk-requires t c κs =
     let p15 = p12 .before .before .before in
     (walk-falls _ (p15 .pre .0), tt)
 
-chain-lowers-requires : (t : ℕ) → chain-lts.Need-lowers-requires (chain-claims t) (chain-at t) chain.Post
-chain-lowers-requires t c κs = search needs
-
 chain-temporary-requires : (t : ℕ) → chain-lts.Need-temporary-requires (chain-claims t) (chain-at t) chain.Post
 chain-temporary-requires t c κs = search needs
 
@@ -347,8 +351,8 @@ chain-siblings-requires t c κs =
     let p12 = p8 .before .before .before .before in
     let p16 = p12 .before .before .before .before in
     let p20 = p16 .before .before .before .before in
-    let p23 = p20 .before .before .before in
-    (root-falls _ (p23 .pre .0), tt)
+    let p22 = p20 .before .before in
+    (root-falls _ (p22 .pre .0), tt)
 
 chain-close-chain-requires : (t : ℕ) → chain-lts.Need-close-chain-requires (chain-claims t) (chain-at t) chain.Post
 chain-close-chain-requires t c κs = search needs
@@ -359,10 +363,10 @@ chain-same-length t c =
     let p6 = p2 .before .before .before .before in
     let p7 = p6 .before in
     let p11 = p7 .before .before .before .before in
-    let p15 = p11 .before .before .before .before in
-    let p19 = p15 .before .before .before .before in
-    let p20 = p19 .before in
-    p2 .close-chain .kept .1 .1 .1 .0 ∙ p7 .siblings .kept .1 .1 .1 .1 .0 ∙ p15 .walk .kept .1 .1 .1 .1 .0 ∙ p20 .root-name .kept .1 .1 .0
+    let p14 = p11 .before .before .before in
+    let p18 = p14 .before .before .before .before in
+    let p19 = p18 .before in
+    p2 .close-chain .kept .1 .1 .1 .0 ∙ p7 .siblings .kept .1 .1 .1 .1 .0 ∙ p14 .walk .kept .1 .1 .1 .1 .0 ∙ p19 .root-name .kept .1 .1 .0
 
 chain-returns : (t : ℕ) → chain-lts.Need-returns (chain-claims t) (chain-at t) chain.Post
 chain-returns t c =
@@ -371,13 +375,15 @@ chain-returns t c =
     let p7 = p6 .before in
     let p8 = p7 .before in
     let p11 = p8 .before .before .before in
-    let p12 = p11 .before in
-    let p15 = p12 .before .before .before in
-    let p19 = p15 .before .before .before .before in
-    let p20 = p19 .before in
-    let p24 = p20 .before .before .before .before in
-    let p26 = p24 .before .before in
-    λ l table C L. chain-does _ _ _ _ C L (p26 .child .ensures) (p8 .temporary .ensures) (sym (p12 .lowers .ensures) ∙ p11 .if2 .taken) (p20 .root-name .ensures l) (p15 .walk .ensures l table) (p7 .siblings .ensures l table) (p2 .close-chain .ensures l table)
+    let p14 = p11 .before .before .before in
+    let p18 = p14 .before .before .before .before in
+    let p19 = p18 .before in
+    let p23 = p19 .before .before .before .before in
+    let p25 = p23 .before .before in
+    let far = p25 .before .before .far-of .ensures in
+    λ l table C L. chain-does _ _ _ _ C L (p25 .child .ensures) (p8 .temporary .ensures) (sym (far .lowers-is) ∙ p11 .if2 .taken)
+    (p19 .root-name .ensures l) (p14 .walk .ensures l table) (p7 .siblings .ensures l table)
+    (p2 .close-chain .ensures l (far .operands-are) table)
 
 chain-take-back-requires : (t : ℕ) → chain-lts.Need-take-back-requires (chain-claims t) (chain-at t) chain.Post
 chain-take-back-requires t c κs = search needs
@@ -390,26 +396,27 @@ chain-same-length-2 t c =
     let p2 = c .before .before in
     let p6 = p2 .before .before .before .before in
     let p10 = p6 .before .before .before .before in
-    let p11 = p10 .before in
-    let p15 = p11 .before .before .before .before in
-    let p16 = p15 .before in
-    p2 .residual .kept .1 .1 .0 ∙ p11 .walk .kept .1 .1 .1 .1 .0 ∙ p16 .root-name .kept .1 .1 .0
+    let p14 = p10 .before .before .before .before in
+    let p15 = p14 .before in
+    p2 .residual .kept .1 .1 .0 ∙ p10 .walk .kept .1 .1 .1 .1 .0 ∙ p15 .root-name .kept .1 .1 .0
 
 chain-returns-2 : (t : ℕ) → chain-lts.Need-returns-2 (chain-claims t) (chain-at t) chain.Post
 chain-returns-2 t c =
     let p2 = c .before .before in
     let p5 = p2 .before .before .before in
     let p7 = p5 .before .before in
-    let p8 = p7 .before in
-    let p11 = p8 .before .before .before in
-    let p15 = p11 .before .before .before .before in
-    let p16 = p15 .before in
-    let p20 = p16 .before .before .before .before in
-    let p22 = p20 .before .before in
+    let p10 = p7 .before .before .before in
+    let p14 = p10 .before .before .before .before in
+    let p15 = p14 .before in
+    let p19 = p15 .before .before .before .before in
+    let p21 = p19 .before .before in
+    let p22 = p21 .before in
     let p23 = p22 .before in
-    let p24 = p23 .before in
-    let start = p24 .before .before .before in
-    λ l table C L. chain-back (p11 .walk .last .1 .1 .1 .0) _ _ _ C L (p22 .child .ensures) (sym (p24 .flattens .ensures) ∙ p23 .if1 .taken) (sym (p8 .lowers .ensures) ∙ p7 .if2 .left) (p16 .root-name .ensures l) (p11 .walk .ensures l table) (λ full. p5 .take-back .ensures full (stateOf (start .args .c .now)) refl refl refl) (p2 .residual .ensures l table _)
+    let start = p23 .before .before .before in
+    let far = p23 .far-of .ensures in
+    λ l table C L. chain-back (p10 .walk .last .1 .1 .1 .0) _ _ _ C L (p21 .child .ensures) (sym (far .flattens-is) ∙ p22 .if1 .taken)
+    (sym (far .lowers-is) ∙ p7 .if2 .left) (p15 .root-name .ensures l) (p10 .walk .ensures l table)
+    (λ full. p5 .take-back .ensures full (stateOf (start .args .c .now)) refl refl refl) (p2 .residual .ensures l table _)
 
 chain-residual-requires-2 : (t : ℕ) → chain-lts.Need-residual-requires-2 (chain-claims t) (chain-at t) chain.Post
 chain-residual-requires-2 t c κs = search needs
@@ -424,7 +431,7 @@ chain-returns-3 t c =
     let p2 = c .before .before in
     let p5 = p2 .before .before .before in
     let p6 = p5 .before in
-    λ l table C L. chain-kept _ _ (sym (p6 .flattens .ensures) ∙ p5 .if1 .left) (p2 .residual2 .ensures l table _)
+    λ l table C L. chain-kept _ _ (sym (p6 .far-of .ensures .flattens-is) ∙ p5 .if1 .left) (p2 .residual2 .ensures l table _)
 
 coalesce-count-requires : (t : ℕ) → coalesce-lts.Need-count-requires (coalesce-claims t) (coalesce-at t) coalesce.Post
 coalesce-count-requires t c κs = search needs
@@ -966,8 +973,11 @@ walk-μ-loop levels s t c₀ x₀ j left₀ at₀ c x left at = left
 walk-loop-holds : (t : ℕ) → walk-lts.Need-loop-holds (walk-claims t) (walk-at t) walk.Post walk-Inv-loop walk-μ-loop
 walk-loop-holds t c = (omega arith, refl, λ l table C L. walk-starts _ _ _ _ L)
 
-walk-link-of-requires : (t : ℕ) → walk-lts.Need-link-of-requires (walk-claims t) (walk-at t) walk.Post walk-Inv-loop walk-μ-loop
-walk-link-of-requires t c κs = search needs
+walk-read-link-requires : (t : ℕ) → walk-lts.Need-read-link-requires (walk-claims t) (walk-at t) walk.Post walk-Inv-loop walk-μ-loop
+walk-read-link-requires t c κs = search needs
+
+walk-link-with-requires : (t : ℕ) → walk-lts.Need-link-with-requires (walk-claims t) (walk-at t) walk.Post walk-Inv-loop walk-μ-loop
+walk-link-with-requires t c κs = search needs
 
 walk-enum-known-k : (t : ℕ) → walk-lts.Need-enum-known-k (walk-claims t) (walk-at t) walk.Post walk-Inv-loop walk-μ-loop
 walk-enum-known-k t c = search needs
@@ -976,17 +986,11 @@ walk-siblings-requires : (t : ℕ) → walk-lts.Need-siblings-requires (walk-cla
 walk-siblings-requires t c κs =
     let p4 = c .before .before .before .before in
     let p8 = p4 .before .before .before .before in
-    let p10 = p8 .before .before in
-    (sibling-falls _ (p10 .pre .0), tt)
+    let p11 = p8 .before .before .before in
+    (sibling-falls _ (p11 .pre .0), tt)
 
 walk-step-names-requires : (t : ℕ) → walk-lts.Need-step-names-requires (walk-claims t) (walk-at t) walk.Post walk-Inv-loop walk-μ-loop
 walk-step-names-requires t c κs = search needs
-
-walk-goes-on-requires : (t : ℕ) → walk-lts.Need-goes-on-requires (walk-claims t) (walk-at t) walk.Post walk-Inv-loop walk-μ-loop
-walk-goes-on-requires t c κs = search needs
-
-walk-rest-of-requires : (t : ℕ) → walk-lts.Need-rest-of-requires (walk-claims t) (walk-at t) walk.Post walk-Inv-loop walk-μ-loop
-walk-rest-of-requires t c κs = search needs
 
 walk-sub-left : (t : ℕ) → walk-lts.Need-sub-left (walk-claims t) (walk-at t) walk.Post walk-Inv-loop walk-μ-loop
 walk-sub-left t c = omega arith
@@ -996,37 +1000,47 @@ walk-loop-less t c = omega arith
 
 walk-loop-again : (t : ℕ) → walk-lts.Need-loop-again (walk-claims t) (walk-at t) walk.Post walk-Inv-loop walk-μ-loop
 walk-loop-again t c =
-    let p1 = c .before in
-    let p2 = p1 .before in
-    let p5 = p2 .before .before .before in
-    let p9 = p5 .before .before .before .before in
-    let p10 = p9 .before in
-    let p14 = p10 .before .before .before .before in
-    let p16 = p14 .before .before in
+    let p3 = c .before .before .before in
+    let p7 = p3 .before .before .before .before in
+    let p8 = p7 .before in
+    let p12 = p8 .before .before .before .before in
+    let p14 = p12 .before .before in
+    let p15 = p14 .before in
+    let p16 = p15 .before in
     let p17 = p16 .before in
-    let p18 = p17 .before in
-    (omega arith, p5 .step-names .kept .1 .1 .0 ∙ p10 .siblings .kept .1 .1 .1 .1 .0 ∙ p18 .loop .inv .1, λ l table C L. walk-on _ _ _ _ _ _ C (p18 .loop .inv .2 l table C L) (sym (p16 .link-of .ensures) ∙ p14 .k .given .1) (p10 .siblings .ensures l table) (p5 .step-names .ensures l) _ (c .rest-of .ensures) (p17 .loop-test .taken) (sym (p2 .goes-on .ensures) ∙ p1 .if1 .taken))
+    let says = p15 .read-link .ensures in (
+      omega arith,
+      p3 .step-names .kept .1 .1 .0 ∙ p8 .siblings .kept .1 .1 .1 .1 .0 ∙ p17 .loop .inv .1,
+      λ l table C L. walk-on _ _ _ _ _ _ C (p17 .loop .inv .2 l table C L)
+          (sym (p14 .link-with .ensures (p17 .loop .at) says) ∙ p12 .k .given .1)
+          (p8 .siblings .ensures l table) (p3 .step-names .ensures l says) _ (says .rest-is) (p16 .loop-test .taken)
+          (sym (says .on-is) ∙ c .if1 .taken),
+    )
 
 walk-same-length : (t : ℕ) → walk-lts.Need-same-length (walk-claims t) (walk-at t) walk.Post walk-Inv-loop walk-μ-loop
 walk-same-length t c =
-    let p4 = c .before .before .before .before in
-    let p8 = p4 .before .before .before .before in
-    let p9 = p8 .before in
-    let p13 = p9 .before .before .before .before in
-    let p17 = p13 .before .before .before .before in
-    p4 .step-names .kept .1 .1 .0 ∙ p9 .siblings .kept .1 .1 .1 .1 .0 ∙ p17 .loop .inv .1
+    let p3 = c .before .before .before in
+    let p7 = p3 .before .before .before .before in
+    let p8 = p7 .before in
+    let p12 = p8 .before .before .before .before in
+    let p16 = p12 .before .before .before .before in
+    let p17 = p16 .before in
+    p3 .step-names .kept .1 .1 .0 ∙ p8 .siblings .kept .1 .1 .1 .1 .0 ∙ p17 .loop .inv .1
 
 walk-returns : (t : ℕ) → walk-lts.Need-returns (walk-claims t) (walk-at t) walk.Post walk-Inv-loop walk-μ-loop
 walk-returns t c =
-    let p1 = c .before in
-    let p4 = p1 .before .before .before in
-    let p8 = p4 .before .before .before .before in
-    let p9 = p8 .before in
-    let p13 = p9 .before .before .before .before in
-    let p15 = p13 .before .before in
+    let p3 = c .before .before .before in
+    let p7 = p3 .before .before .before .before in
+    let p8 = p7 .before in
+    let p12 = p8 .before .before .before .before in
+    let p14 = p12 .before .before in
+    let p15 = p14 .before in
     let p16 = p15 .before in
     let p17 = p16 .before in
-    λ l table C L. walk-ends _ _ _ _ _ _ C (p17 .loop .inv .2 l table C L) (sym (p15 .link-of .ensures) ∙ p13 .k .given .1) (p9 .siblings .ensures l table) (p4 .step-names .ensures l) (p16 .loop-test .taken) (sym (p1 .goes-on .ensures) ∙ c .if1 .left)
+    let says = p15 .read-link .ensures in
+    λ l table C L. walk-ends _ _ _ _ _ _ C (p17 .loop .inv .2 l table C L)
+    (sym (p14 .link-with .ensures (p17 .loop .at) says) ∙ p12 .k .given .1) (p8 .siblings .ensures l table)
+    (p3 .step-names .ensures l says) (p16 .loop-test .taken) (sym (says .on-is) ∙ c .if1 .left)
 
 walk-enum-told : (t : ℕ) → walk-lts.Need-enum-told (walk-claims t) (walk-at t) walk.Post walk-Inv-loop walk-μ-loop
 walk-enum-told t c = search needs
@@ -1034,14 +1048,16 @@ walk-enum-told t c = search needs
 walk-same-length-2 : (t : ℕ) → walk-lts.Need-same-length-2 (walk-claims t) (walk-at t) walk.Post walk-Inv-loop walk-μ-loop
 walk-same-length-2 t c =
     let p4 = c .before .before .before .before in
-    p4 .loop .inv .1
+    p4 .before .loop .inv .1
 
 walk-returns-2 : (t : ℕ) → walk-lts.Need-returns-2 (walk-claims t) (walk-at t) walk.Post walk-Inv-loop walk-μ-loop
 walk-returns-2 t c =
     let p2 = c .before .before in
-    let p3 = p2 .before in
-    let p4 = p3 .before in
-    λ l table C L. walk-fails _ _ _ _ (p4 .loop .inv .2 l table C L) (p3 .loop-test .taken) (link-fails _ _ (sym (p2 .link-of .ensures) ∙ c .enum-told .given .1))
+    let p4 = p2 .before .before in
+    let p5 = p4 .before in
+    let linked = p2 .link-with .ensures (p5 .loop .at) (p2 .before .read-link .ensures) in
+    λ l table C L. walk-fails _ _ _ _ (p5 .loop .inv .2 l table C L) (p4 .loop-test .taken)
+    (link-fails _ _ (sym linked ∙ c .enum-told .given .1))
 
 walk-enum-told-2 : (t : ℕ) → walk-lts.Need-enum-told-2 (walk-claims t) (walk-at t) walk.Post walk-Inv-loop walk-μ-loop
 walk-enum-told-2 t c = search needs
@@ -1049,14 +1065,16 @@ walk-enum-told-2 t c = search needs
 walk-same-length-3 : (t : ℕ) → walk-lts.Need-same-length-3 (walk-claims t) (walk-at t) walk.Post walk-Inv-loop walk-μ-loop
 walk-same-length-3 t c =
     let p4 = c .before .before .before .before in
-    p4 .loop .inv .1
+    p4 .before .loop .inv .1
 
 walk-returns-3 : (t : ℕ) → walk-lts.Need-returns-3 (walk-claims t) (walk-at t) walk.Post walk-Inv-loop walk-μ-loop
 walk-returns-3 t c =
     let p2 = c .before .before in
-    let p3 = p2 .before in
-    let p4 = p3 .before in
-    λ l table C L. walk-fails _ _ _ _ (p4 .loop .inv .2 l table C L) (p3 .loop-test .taken) (link-nowhere _ _ (sym (p2 .link-of .ensures) ∙ c .enum-told2 .given .1))
+    let p4 = p2 .before .before in
+    let p5 = p4 .before in
+    let linked = p2 .link-with .ensures (p5 .loop .at) (p2 .before .read-link .ensures) in
+    λ l table C L. walk-fails _ _ _ _ (p5 .loop .inv .2 l table C L) (p4 .loop-test .taken)
+    (link-nowhere _ _ (sym linked ∙ c .enum-told2 .given .1))
 
 walk-same-length-4 : (t : ℕ) → walk-lts.Need-same-length-4 (walk-claims t) (walk-at t) walk.Post walk-Inv-loop walk-μ-loop
 walk-same-length-4 t c =
@@ -1097,6 +1115,7 @@ pub +array+call+chain+coalesce+expression+interpolated+short-circuit+siblings+wa
     (λ t. call-lts.spec (call-claims t)
     (call-at t)
     call.Post
+    (call-layout-of-requires t)
     (call-way-of-requires t)
     (call-open-requires t)
     (call-arg-count-requires t)
@@ -1108,14 +1127,13 @@ pub +array+call+chain+coalesce+expression+interpolated+short-circuit+siblings+wa
     (λ t. chain-lts.spec (chain-claims t)
     (chain-at t)
     chain.Post
-    (chain-flattens-requires t)
+    (chain-far-of-requires t)
     (chain-child-requires t)
     (chain-element-copy-out-code t)
     (chain-element-copy-out-depth t)
     (chain-element-copy-out-deepest t)
     (chain-root-name-requires t)
     (chain-walk-requires t)
-    (chain-lowers-requires t)
     (chain-temporary-requires t)
     (chain-siblings-requires t)
     (chain-close-chain-requires t)
@@ -1253,12 +1271,11 @@ pub +array+call+chain+coalesce+expression+interpolated+short-circuit+siblings+wa
     walk-Inv-loop
     walk-μ-loop
     (walk-loop-holds t)
-    (walk-link-of-requires t)
+    (walk-read-link-requires t)
+    (walk-link-with-requires t)
     (walk-enum-known-k t)
     (walk-siblings-requires t)
     (walk-step-names-requires t)
-    (walk-goes-on-requires t)
-    (walk-rest-of-requires t)
     (walk-sub-left t)
     (walk-loop-less t)
     (walk-loop-again t)

@@ -1,9 +1,15 @@
--- The cycle of calls of the count. The measure: four for each level left, and a step for each member between a node and its operands. Invariant of both loops: what is passed and what is left make the whole, cut off.
+-- The cycle of calls of the count. The measure: four for each level left, and a step for each member between a node and its operands.
+-- Invariant of both loops: what is passed and what is left make the whole, cut off.
 use Prim.Native.Nat.{_+_, _*_, _-_}
-use mathlib.Core.Path.{sym, ap, _∙_}
+use mathlib.Core.Path.{refl, sym, ap, _∙_}
+use Rattle.counting.specs.Locals.{answer}
 use Rattle.counting.specs.Plan.{isLeaf}
 use Rattle.counting.specs.CodeLaws.{sum-none, leaf-tally, tally-none, tally-coalesce, tally-chain}
-use Rattle.counting.specs.AnswerLaws.{chain-plain, SumLeft, sum-begins, sum-passes, sum-goes, sum-ends, WalkLeft, walk-begins, walk-goes, walk-stops, walk-failed, walk-lost, walk-ends, chain-stayed, chain-failed, chain-lowered, coalesce-counted, tally-parted}
+use Rattle.counting.specs.AnswerLaws.{chain-plain, SumLeft, sum-begins, sum-passes}
+use Rattle.counting.specs.AnswerLaws.{sum-goes, sum-ends, coalesce-counted, tally-parted}
+use Rattle.counting.specs.AnswerLaws.{WalkLeft, walk-begins, walk-goes, walk-stops, walk-failed, walk-lost, walk-ends}
+use Rattle.counting.specs.AnswerLaws.{ReachLeft, lowers-two, reach-begins, reach-goes, reach-stops, reach-lost, reach-ends}
+use Rattle.counting.specs.AnswerLaws.{chain-stayed, chain-failed, chain-lowered}
 use borrow.Author.Needs.{needs}
 use native.Mathlib.Omega.{arith}
 use Rattle.counting.specs.Count as counts
@@ -25,8 +31,8 @@ use Rattle.counting.proofs.+chain+coalesce+siblings+tally+walk.Lts-tall
 use Rattle.counting.proofs.walk.Reads as walk
 use Rattle.counting.proofs.walk.Kinds as walk-kinds
 use Rattle.counting.proofs.+chain+coalesce+siblings+tally+walk.Lts-walk as walk-lts
-use Rattle.counting.proofs.links.link_of.Reads as link-of-reads
 use Rattle.counting.proofs.links.is_plain.Reads as is-plain-reads
+use Rattle.counting.proofs.links.link_of.Reads as link-of-reads
 use Rattle.counting.proofs.links.reach.Reads as reach-reads
 use Rattle.counting.proofs.links.temporary.Reads as temporary-reads
 use Rattle.counting.proofs.plans.is_leaf.Reads as is-leaf-reads
@@ -47,55 +53,72 @@ use Rattle.sheet.proofs.skip.Reads as skip-reads
 use Rattle.counting.proofs.+chain+coalesce+siblings+tally+walk.{statement}
 use Rattle.counting.proofs.+chain+coalesce+siblings+tally+walk.Tie.{close}
 
-abbrev μ-chain : Measures 1 chain-kinds.ps ℕ
+abbrev μ-chain : Measures 2 chain-kinds.ps ℕ
 μ-chain κs a = 4 * a .0 + 3
 
-abbrev μ-coalesce : Measures 1 coalesce-kinds.ps ℕ
+abbrev μ-coalesce : Measures 2 coalesce-kinds.ps ℕ
 μ-coalesce κs a = 4 * a .0 + 2
 
-abbrev μ-siblings : Measures 1 siblings-kinds.ps ℕ
+abbrev μ-siblings : Measures 2 siblings-kinds.ps ℕ
 μ-siblings κs a = 4 * a .0 + 1
 
-abbrev μ-tally : Measures 1 tally-kinds.ps ℕ
+abbrev μ-tally : Measures 2 tally-kinds.ps ℕ
 μ-tally κs a = 4 * a .0
 
-abbrev μ-walk : Measures 1 walk-kinds.ps ℕ
+abbrev μ-walk : Measures 2 walk-kinds.ps ℕ
 μ-walk κs a = 4 * a .0 + 2
 
-abbrev chain-at : ℕ → In 1 chain-kinds.ps
-chain-at t = and 1 chain-kinds.ps (is 1 chain-kinds.ps μ-chain t) chain.Pre
+abbrev chain-at : ℕ → In 2 chain-kinds.ps
+chain-at t = and 2 chain-kinds.ps (is 2 chain-kinds.ps μ-chain t) chain.Pre
 
-abbrev chain-below : ℕ → In 1 chain-kinds.ps
-chain-below t = and 1 chain-kinds.ps (falls 1 chain-kinds.ps _<_ μ-chain t) chain.Pre
+abbrev chain-below : ℕ → In 2 chain-kinds.ps
+chain-below t = and 2 chain-kinds.ps (falls 2 chain-kinds.ps _<_ μ-chain t) chain.Pre
 
-abbrev coalesce-at : ℕ → In 1 coalesce-kinds.ps
-coalesce-at t = and 1 coalesce-kinds.ps (is 1 coalesce-kinds.ps μ-coalesce t) coalesce.Pre
+abbrev coalesce-at : ℕ → In 2 coalesce-kinds.ps
+coalesce-at t = and 2 coalesce-kinds.ps (is 2 coalesce-kinds.ps μ-coalesce t) coalesce.Pre
 
-abbrev coalesce-below : ℕ → In 1 coalesce-kinds.ps
+abbrev coalesce-below : ℕ → In 2 coalesce-kinds.ps
 coalesce-below t =
-    and 1 coalesce-kinds.ps (falls 1 coalesce-kinds.ps _<_ μ-coalesce t) coalesce.Pre
+    and 2 coalesce-kinds.ps (falls 2 coalesce-kinds.ps _<_ μ-coalesce t) coalesce.Pre
 
-abbrev siblings-at : ℕ → In 1 siblings-kinds.ps
-siblings-at t = and 1 siblings-kinds.ps (is 1 siblings-kinds.ps μ-siblings t) siblings.Pre
+abbrev siblings-at : ℕ → In 2 siblings-kinds.ps
+siblings-at t = and 2 siblings-kinds.ps (is 2 siblings-kinds.ps μ-siblings t) siblings.Pre
 
-abbrev siblings-below : ℕ → In 1 siblings-kinds.ps
+abbrev siblings-below : ℕ → In 2 siblings-kinds.ps
 siblings-below t =
-    and 1 siblings-kinds.ps (falls 1 siblings-kinds.ps _<_ μ-siblings t) siblings.Pre
+    and 2 siblings-kinds.ps (falls 2 siblings-kinds.ps _<_ μ-siblings t) siblings.Pre
 
-abbrev tally-at : ℕ → In 1 tally-kinds.ps
-tally-at t = and 1 tally-kinds.ps (is 1 tally-kinds.ps μ-tally t) tally.Pre
+abbrev tally-at : ℕ → In 2 tally-kinds.ps
+tally-at t = and 2 tally-kinds.ps (is 2 tally-kinds.ps μ-tally t) tally.Pre
 
-abbrev tally-below : ℕ → In 1 tally-kinds.ps
-tally-below t = and 1 tally-kinds.ps (falls 1 tally-kinds.ps _<_ μ-tally t) tally.Pre
+abbrev tally-below : ℕ → In 2 tally-kinds.ps
+tally-below t = and 2 tally-kinds.ps (falls 2 tally-kinds.ps _<_ μ-tally t) tally.Pre
 
-abbrev walk-at : ℕ → In 1 walk-kinds.ps
-walk-at t = and 1 walk-kinds.ps (is 1 walk-kinds.ps μ-walk t) walk.Pre
+abbrev walk-at : ℕ → In 2 walk-kinds.ps
+walk-at t = and 2 walk-kinds.ps (is 2 walk-kinds.ps μ-walk t) walk.Pre
 
-abbrev walk-below : ℕ → In 1 walk-kinds.ps
-walk-below t = and 1 walk-kinds.ps (falls 1 walk-kinds.ps _<_ μ-walk t) walk.Pre
+abbrev walk-below : ℕ → In 2 walk-kinds.ps
+walk-below t = and 2 walk-kinds.ps (falls 2 walk-kinds.ps _<_ μ-walk t) walk.Pre
 
 abbrev chain-claims : ℕ → chain-lts.Claims
-chain-claims t = (is-plain-reads.Asked, is-plain-reads.Learnt, instructions-reads.Asked, instructions-reads.Learnt, reach-reads.Asked, reach-reads.Learnt, walk-below t, walk.Post, taken-back-reads.Asked, taken-back-reads.Learnt, plus-reads.Asked, plus-reads.Learnt, child-reads.Asked, child-reads.Learnt, temporary-reads.Asked, temporary-reads.Learnt, siblings-below t, siblings.Post)
+chain-claims t = (
+  is-plain-reads.Asked,
+  is-plain-reads.Learnt,
+  instructions-reads.Asked,
+  instructions-reads.Learnt,
+  walk-below t,
+  walk.Post,
+  taken-back-reads.Asked,
+  taken-back-reads.Learnt,
+  plus-reads.Asked,
+  plus-reads.Learnt,
+  child-reads.Asked,
+  child-reads.Learnt,
+  temporary-reads.Asked,
+  temporary-reads.Learnt,
+  siblings-below t,
+  siblings.Post,
+)
 
 abbrev coalesce-claims : ℕ → coalesce-lts.Claims
 coalesce-claims t = (count-reads.Asked, count-reads.Learnt, one-less-reads.Asked, one-less-reads.Learnt, child-reads.Asked, child-reads.Learnt, siblings-below t, siblings.Post, skip-reads.Asked, skip-reads.Learnt, tally-below t, tally.Post, plus-reads.Asked, plus-reads.Learnt)
@@ -107,7 +130,22 @@ abbrev tally-claims : ℕ → tally-lts.Claims
 tally-claims t = (instructions-reads.Asked, instructions-reads.Learnt, plan-of-reads.Asked, plan-of-reads.Learnt, siblings-below t, siblings.Post, plus-reads.Asked, plus-reads.Learnt, coalesce-below t, coalesce.Post, chain-below t, chain.Post)
 
 abbrev walk-claims : ℕ → walk-lts.Claims
-walk-claims t = (nothing-reads.Asked, nothing-reads.Learnt, link-of-reads.Asked, link-of-reads.Learnt, siblings-below t, siblings.Post, plus-reads.Asked, plus-reads.Learnt, goes-on-reads.Asked, goes-on-reads.Learnt, rest-of-reads.Asked, rest-of-reads.Learnt)
+walk-claims t = (
+  nothing-reads.Asked,
+  nothing-reads.Learnt,
+  link-of-reads.Asked,
+  link-of-reads.Learnt,
+  siblings-below t,
+  siblings.Post,
+  plus-reads.Asked,
+  plus-reads.Learnt,
+  goes-on-reads.Asked,
+  goes-on-reads.Learnt,
+  rest-of-reads.Asked,
+  rest-of-reads.Learnt,
+  reach-reads.Asked,
+  reach-reads.Learnt,
+)
 
 chain-is-plain-requires : (t : ℕ) → chain-lts.Need-is-plain-requires (chain-claims t) (chain-at t) chain.Post
 chain-is-plain-requires t c κs = search needs
@@ -119,23 +157,24 @@ chain-returns : (t : ℕ) → chain-lts.Need-returns (chain-claims t) (chain-at 
 chain-returns t c =
     let test = c .before in
     let asked = test .before in
-    let a = asked .before .before .args in
-    chain-plain (a .s .now) (counts.tally (a .levels) (a .s .now)) (a .j) (asked .is-plain .ensures) (test .if1 .taken)
+    let a = asked .before .before .before .args in
+    chain-plain (a .s .now) (counts.tallyBy (answer (a .told .now) (a .s .now)) (a .levels) (a .s .now)) (a .j) (asked .is-plain .ensures)
+    (test .if1 .taken)
     (c .instructions .ensures)
 
-chain-reach-requires : (t : ℕ) → chain-lts.Need-reach-requires (chain-claims t) (chain-at t) chain.Post
-chain-reach-requires t c κs = search needs
+chain-walk-requires : (t : ℕ) → chain-lts.Need-walk-requires (chain-claims t) (chain-at t) chain.Post
+chain-walk-requires t c κs = omega arith
 
 chain-instructions-requires-2 : (t : ℕ) → chain-lts.Need-instructions-requires-2 (chain-claims t) (chain-at t) chain.Post
 chain-instructions-requires-2 t c κs = search needs
 
 chain-returns-2 : (t : ℕ) → chain-lts.Need-returns-2 (chain-claims t) (chain-at t) chain.Post
 chain-returns-2 t c =
-    let a = c .before .before .before .before .before .before .args in
-    chain-stayed (a .s .now) (counts.tally (a .levels) (a .s .now)) (a .j) (c .before .before .reach .ensures) (c .before .if2 .taken) (c .instructions2 .ensures)
-
-chain-walk-requires : (t : ℕ) → chain-lts.Need-walk-requires (chain-claims t) (chain-at t) chain.Post
-chain-walk-requires t c κs = omega arith
+    let known = c .before .before in
+    let walked = known .before .before in
+    let a = walked .before .before .before .before .before .args in
+    chain-stayed (a .s .now) (counts.tallyBy (answer (a .told .now) (a .s .now)) (a .levels) (a .s .now)) (a .j)
+    (walked .walk .ensures .1) (c .before .if2 .taken) (c .instructions2 .ensures)
 
 chain-taken-back-requires : (t : ℕ) → chain-lts.Need-taken-back-requires (chain-claims t) (chain-at t) chain.Post
 chain-taken-back-requires t c κs = search needs
@@ -148,9 +187,14 @@ chain-plus-requires t c κs = search needs
 
 chain-returns-3 : (t : ℕ) → chain-lts.Need-returns-3 (chain-claims t) (chain-at t) chain.Post
 chain-returns-3 t c =
-    let a = c .before .before .before .before .before .before .before .before .before .before .args in
-    chain-failed (a .s .now) (counts.tally (a .levels) (a .s .now)) (a .j) (c .before .before .before .before .before .before .reach .ensures) (c .before .before .before .if3 .taken)
-    (c .before .before .before .before .walk .ensures) (c .before .before .taken-back .ensures) (c .before .instructions3 .ensures) (c .plus .ensures)
+    let back = c .before .before in
+    let test = back .before in
+    let known = test .before .before .before in
+    let walked = known .before .before in
+    let a = walked .before .before .before .before .before .args in
+    chain-failed (a .s .now) (counts.tallyBy (answer (a .told .now) (a .s .now)) (a .levels) (a .s .now)) (a .j)
+    (walked .walk .ensures .1) (test .if3 .taken)
+    (walked .walk .ensures .0) (back .taken-back .ensures) (c .before .instructions3 .ensures) (c .plus .ensures)
 
 chain-child-requires : (t : ℕ) → chain-lts.Need-child-requires (chain-claims t) (chain-at t) chain.Post
 chain-child-requires t c κs = search needs
@@ -172,9 +216,15 @@ chain-plus-requires-3 t c κs = search needs
 
 chain-returns-4 : (t : ℕ) → chain-lts.Need-returns-4 (chain-claims t) (chain-at t) chain.Post
 chain-returns-4 t c =
-    let a = c .before .before .before .before .before .before .before .before .before .before .before .before .before .args in
-    chain-lowered (a .s .now) (counts.tally (a .levels) (a .s .now)) (a .j) (c .before .before .before .before .before .before .before .before .before .reach .ensures) (c .before .before .before .before .before .before .before .before .if2 .left) (c .before .before .before .before .before .before .if3 .left)
-    (c .before .before .before .before .before .before .before .walk .ensures) (c .before .before .before .before .before .child .ensures) (c .before .before .before .before .temporary .ensures) (c .before .before .before .siblings .ensures)
+    let lowered = c .before .before .before in
+    let root = lowered .before .before in
+    let test = root .before in
+    let known = test .before .before .before in
+    let walked = known .before .before in
+    let a = walked .before .before .before .before .before .args in
+    chain-lowered (a .s .now) (counts.tallyBy (answer (a .told .now) (a .s .now)) (a .levels) (a .s .now)) (a .j)
+    (walked .walk .ensures .1) (test .before .before .if2 .left) (test .if3 .left)
+    (walked .walk .ensures .0) (root .child .ensures) (lowered .before .temporary .ensures) (lowered .siblings .ensures)
     (c .before .before .plus2 .ensures) (c .before .instructions4 .ensures) (c .plus3 .ensures)
 
 coalesce-count-requires : (t : ℕ) → coalesce-lts.Need-count-requires (coalesce-claims t) (coalesce-at t) coalesce.Post
@@ -200,23 +250,25 @@ coalesce-plus-requires t c κs = search needs
 
 coalesce-returns : (t : ℕ) → coalesce-lts.Need-returns (coalesce-claims t) (coalesce-at t) coalesce.Post
 coalesce-returns t c =
-    let a = c .before .before .before .before .before .before .before .before .args in
-    coalesce-counted (a .s .now) (counts.tally (a .levels) (a .s .now)) (a .j) (c .before .before .before .before .before .before .count .ensures) (c .before .before .before .before .before .one-less .ensures)
+    let a = c .before .before .before .before .before .before .before .before .before .args in
+    coalesce-counted (a .s .now) (counts.tallyBy (answer (a .told .now) (a .s .now)) (a .levels) (a .s .now)) (a .j)
+    (c .before .before .before .before .before .before .count .ensures) (c .before .before .before .before .before .one-less .ensures)
     (c .before .before .before .before .child .ensures) (c .before .before .before .siblings .ensures) (c .before .before .skip .ensures) (c .before .tally .ensures) (c .plus .ensures)
 
 abbrev siblings-Inv-loop : siblings-lts.InvT-loop
-siblings-Inv-loop levels s gap n from sum₀ leaves₀ i₀ j₀ sum leaves i j = SumLeft s (counts.tally levels s) gap n from sum leaves i j
+siblings-Inv-loop levels s told gap n from sum₀ leaves₀ i₀ j₀ sum leaves i j = SumLeft s
+    (counts.tallyBy (answer told s) levels s) gap n from sum leaves i j
 
 abbrev siblings-μ-loop : siblings-lts.MeasureT-loop
-siblings-μ-loop levels s gap n from sum₀ leaves₀ i₀ j₀ sum leaves i j = n - i
+siblings-μ-loop levels s told gap n from sum₀ leaves₀ i₀ j₀ sum leaves i j = n - i
 
 siblings-nothing-requires : (t : ℕ) → siblings-lts.Need-nothing-requires (siblings-claims t) (siblings-at t) siblings.Post siblings-Inv-loop siblings-μ-loop
 siblings-nothing-requires t c κs = search needs
 
 siblings-returns : (t : ℕ) → siblings-lts.Need-returns (siblings-claims t) (siblings-at t) siblings.Post siblings-Inv-loop siblings-μ-loop
 siblings-returns t c =
-    let a = c .before .before .before .args in
-    sum-none (a .s .now) (counts.tally (a .levels) (a .s .now)) (a .gap) (a .n) (a .from)
+    let a = c .before .before .before .before .args in
+    sum-none (a .s .now) (counts.tallyBy (answer (a .told .now) (a .s .now)) (a .levels) (a .s .now)) (a .gap) (a .n) (a .from)
     (c .before .if1 .taken) (c .nothing .ensures)
 
 siblings-nothing-requires-2 : (t : ℕ) → siblings-lts.Need-nothing-requires-2 (siblings-claims t) (siblings-at t) siblings.Post siblings-Inv-loop siblings-μ-loop
@@ -224,8 +276,9 @@ siblings-nothing-requires-2 t c κs = search needs
 
 siblings-loop-holds : (t : ℕ) → siblings-lts.Need-loop-holds (siblings-claims t) (siblings-at t) siblings.Post siblings-Inv-loop siblings-μ-loop
 siblings-loop-holds t c =
-    let a = c .before .before .before .args in
-    sum-begins (a .s .now) (counts.tally (a .levels) (a .s .now)) (a .gap) (a .n) (a .from) (c .nothing2 .ensures)
+    let a = c .before .before .before .before .args in
+    sum-begins (a .s .now) (counts.tallyBy (answer (a .told .now) (a .s .now)) (a .levels) (a .s .now)) (a .gap) (a .n) (a .from)
+    (c .nothing2 .ensures)
 
 siblings-kind-requires : (t : ℕ) → siblings-lts.Need-kind-requires (siblings-claims t) (siblings-at t) siblings.Post siblings-Inv-loop siblings-μ-loop
 siblings-kind-requires t c κs = search needs
@@ -252,12 +305,13 @@ siblings-loop-again t c =
     let test = c .before .before .before .before in
     let l = test .before .loop in
     let begun = test .before .before .before in
-    let a = begun .before .before .args in
+    let a = begun .before .before .before .args in
     let s = a .s .now in
     let asked = c .before .before in
     let leaf = sym (asked .is-leaf .ensures ∙ ap isLeaf (asked .before .kind .ensures)) ∙ c .before .if2 .taken in
-    sum-passes s (counts.tally (a .levels) s) (a .gap) (a .n) (a .from) (l .leaves) (l .i) (l .j) (l .sum) (l .inv)
-    (test .loop-test .taken) (leaf-tally (a .levels) s (l .j) leaf) (c .next .ensures)
+    sum-passes s (counts.tallyBy (answer (a .told .now) s) (a .levels) s) (a .gap) (a .n) (a .from) (l .leaves) (l .i) (l .j) (l .sum)
+    (l .inv)
+    (test .loop-test .taken) (leaf-tally (answer (a .told .now) s) (a .levels) s (l .j) leaf) (c .next .ensures)
 
 siblings-tally-requires : (t : ℕ) → siblings-lts.Need-tally-requires (siblings-claims t) (siblings-at t) siblings.Post siblings-Inv-loop siblings-μ-loop
 siblings-tally-requires t c κs = omega arith
@@ -279,8 +333,9 @@ siblings-loop-again-2 t c =
     let test = c .before .before .before .before .before .before in
     let l = test .before .loop in
     let begun = test .before .before .before in
-    let a = begun .before .before .args in
-    sum-goes (a .s .now) (counts.tally (a .levels) (a .s .now)) (a .gap) (a .n) (a .from) (l .leaves) (l .i) (l .j) (l .sum) (l .inv)
+    let a = begun .before .before .before .args in
+    sum-goes (a .s .now) (counts.tallyBy (answer (a .told .now) (a .s .now)) (a .levels) (a .s .now)) (a .gap) (a .n) (a .from)
+    (l .leaves) (l .i) (l .j) (l .sum) (l .inv)
     (test .loop-test .taken) (c .before .before .tally .ensures) (c .before .plus .ensures) (c .next2 .ensures)
 
 siblings-spaced-requires : (t : ℕ) → siblings-lts.Need-spaced-requires (siblings-claims t) (siblings-at t) siblings.Post siblings-Inv-loop siblings-μ-loop
@@ -294,15 +349,18 @@ siblings-returns-2 t c =
     let test = c .before .before in
     let l = test .before .loop in
     let begun = test .before .before .before in
-    let a = begun .before .before .args in
-    sum-ends (a .s .now) (counts.tally (a .levels) (a .s .now)) (a .gap) (a .n) (a .from) (l .leaves) (l .i) (l .j) (l .sum) (l .inv)
+    let a = begun .before .before .before .args in
+    sum-ends (a .s .now) (counts.tallyBy (answer (a .told .now) (a .s .now)) (a .levels) (a .s .now)) (a .gap) (a .n) (a .from)
+    (l .leaves) (l .i) (l .j) (l .sum) (l .inv)
     (test .loop-test .left) (c .before .spaced .ensures) (c .plus2 .ensures)
 
 tally-instructions-requires : (t : ℕ) → tally-lts.Need-instructions-requires (tally-claims t) (tally-at t) tally.Post
 tally-instructions-requires t c κs = search needs
 
 tally-returns : (t : ℕ) → tally-lts.Need-returns (tally-claims t) (tally-at t) tally.Post
-tally-returns t c = let a = c .before .before .before .args in c .instructions .ensures ∙ tally-none (a .levels) (a .s .now) (a .j) (c .before .if1 .taken)
+tally-returns t c =
+    let a = c .before .before .before .before .args in
+    c .instructions .ensures ∙ tally-none (answer (a .told .now) (a .s .now)) (a .levels) (a .s .now) (a .j) (c .before .if1 .taken)
 
 tally-plan-of-requires : (t : ℕ) → tally-lts.Need-plan-of-requires (tally-claims t) (tally-at t) tally.Post
 tally-plan-of-requires t c κs = search needs
@@ -339,35 +397,43 @@ tally-chain-requires t c κs = omega arith
 
 tally-returns-2 : (t : ℕ) → tally-lts.Need-returns-2 (tally-claims t) (tally-at t) tally.Post
 tally-returns-2 t c =
-    let a = c .before .before .before .before .before .before .before .before .args in
-    tally-parted (a .levels) (a .s .now) (a .j) (c .before .before .before .before .before .before .if1 .left) (c .before .before .before .before .before .plan-of .ensures) (c .before .before .before .by .given .1)
+    let a = c .before .before .before .before .before .before .before .before .before .args in
+    tally-parted (answer (a .told .now) (a .s .now)) (a .levels) (a .s .now) (a .j)
+    (c .before .before .before .before .before .before .if1 .left) (c .before .before .before .before .before .plan-of .ensures)
+    (c .before .before .before .by .given .1)
     (c .before .siblings .ensures) (c .plus .ensures)
 
 tally-returns-3 : (t : ℕ) → tally-lts.Need-returns-3 (tally-claims t) (tally-at t) tally.Post
 tally-returns-3 t c =
-    let a = c .before .before .before .before .before .before .args in
+    let a = c .before .before .before .before .before .before .before .args in
     let told = sym (c .before .before .before .plan-of .ensures) ∙ c .before .enum-told .given .1 in
-    c .coalesce .ensures ∙ tally-coalesce (a .levels) (a .s .now) (a .j) (c .before .before .before .before .if1 .left) told
+    c .coalesce .ensures ∙ tally-coalesce (answer (a .told .now) (a .s .now)) (a .levels) (a .s .now) (a .j)
+    (c .before .before .before .before .if1 .left) told
 
 tally-returns-4 : (t : ℕ) → tally-lts.Need-returns-4 (tally-claims t) (tally-at t) tally.Post
 tally-returns-4 t c =
-    let a = c .before .before .before .before .before .before .args in
+    let a = c .before .before .before .before .before .before .before .args in
     let told = sym (c .before .before .before .plan-of .ensures) ∙ c .before .enum-told2 .given .1 in
-    c .chain .ensures ∙ tally-chain (a .levels) (a .s .now) (a .j) (c .before .before .before .before .if1 .left) told
+    c .chain .ensures ∙ tally-chain (answer (a .told .now) (a .s .now)) (a .levels) (a .s .now) (a .j)
+    (c .before .before .before .before .if1 .left) told
 
 abbrev walk-Inv-loop : walk-lts.InvT-loop
-walk-Inv-loop levels s j sum₀ left₀ c₀ sum left c = WalkLeft s (counts.tally levels s) j sum left c
+walk-Inv-loop levels s told j sum₀ left₀ c₀ sum left c =
+    WalkLeft s (counts.tallyBy (answer told s) levels s) j sum left c × ReachLeft s j 2 left c
 
 abbrev walk-μ-loop : walk-lts.MeasureT-loop
-walk-μ-loop levels s j sum₀ left₀ c₀ sum left c = left
+walk-μ-loop levels s told j sum₀ left₀ c₀ sum left c = left
 
 walk-nothing-requires : (t : ℕ) → walk-lts.Need-nothing-requires (walk-claims t) (walk-at t) walk.Post walk-Inv-loop walk-μ-loop
 walk-nothing-requires t c κs = search needs
 
 walk-loop-holds : (t : ℕ) → walk-lts.Need-loop-holds (walk-claims t) (walk-at t) walk.Post walk-Inv-loop walk-μ-loop
 walk-loop-holds t c =
-    let a = c .before .before .args in
-    walk-begins (a .s .now) (counts.tally (a .levels) (a .s .now)) (a .j) (c .nothing .ensures)
+    let a = c .before .before .before .args in (
+      walk-begins (a .s .now) (counts.tallyBy (answer (a .told .now) (a .s .now)) (a .levels) (a .s .now)) (a .j)
+          (c .nothing .ensures),
+      reach-begins (a .s .now) (a .j),
+    )
 
 walk-link-of-requires : (t : ℕ) → walk-lts.Need-link-of-requires (walk-claims t) (walk-at t) walk.Post walk-Inv-loop walk-μ-loop
 walk-link-of-requires t c κs = search needs
@@ -395,45 +461,75 @@ walk-loop-less t c = search needs
 
 walk-loop-again : (t : ℕ) → walk-lts.Need-loop-again (walk-claims t) (walk-at t) walk.Post walk-Inv-loop walk-μ-loop
 walk-loop-again t c =
-    let a = c .before .before .before .before .before .before .before .before .before .before .before .before .before .args in
-    let l = c .before .before .before .before .before .before .before .before .before .before .loop in
-    walk-goes (a .s .now) (counts.tally (a .levels) (a .s .now)) (a .j) (l .sum) (l .left) (l .c) (l .inv) (c .before .before .before .before .before .before .before .before .before .loop-test .taken)
-    (c .before .before .before .before .before .before .before .before .link-of .ensures) (c .before .before .before .before .before .before .l .given .1) (c .before .before .before .before .siblings .ensures) (c .before .before .before .plus .ensures)
-    (c .before .before .goes-on .ensures) (c .before .if1 .taken) (c .rest-of .ensures)
+    let summed = c .before .before .before in
+    let linked = summed .before .before .before .before .before in
+    let l = linked .before .before .loop in
+    let a = linked .before .before .before .before .before .before .args in
+    let test = linked .before .loop-test .taken in
+    let told = summed .before .before .before .l .given .1 in
+    let on = c .before .before .goes-on .ensures in (
+      walk-goes (a .s .now) (counts.tallyBy (answer (a .told .now) (a .s .now)) (a .levels) (a .s .now)) (a .j) (l .sum) (l .left) (l .c)
+          (l .inv .0) test (linked .link-of .ensures) told
+          (summed .before .siblings .ensures) (summed .plus .ensures) on (c .before .if1 .taken) (c .rest-of .ensures),
+      reach-goes (a .s .now) (a .j) 2 (l .left) (l .c) (l .inv .1) test (linked .link-of .ensures) (lowers-two told) refl on
+          (c .before .if1 .taken) (c .rest-of .ensures),
+    )
 
 walk-returns : (t : ℕ) → walk-lts.Need-returns (walk-claims t) (walk-at t) walk.Post walk-Inv-loop walk-μ-loop
 walk-returns t c =
-    let a = c .before .before .before .before .before .before .before .before .before .before .before .before .args in
-    let l = c .before .before .before .before .before .before .before .before .before .loop in
-    walk-stops (a .s .now) (counts.tally (a .levels) (a .s .now)) (a .j) (l .sum) (l .left) (l .c) (l .inv) (c .before .before .before .before .before .before .before .before .loop-test .taken)
-    (c .before .before .before .before .before .before .before .link-of .ensures) (c .before .before .before .before .before .l .given .1) (c .before .before .before .siblings .ensures) (c .before .before .plus .ensures)
-    (c .before .goes-on .ensures) (c .if1 .left)
+    let summed = c .before .before in
+    let linked = summed .before .before .before .before .before in
+    let l = linked .before .before .loop in
+    let a = linked .before .before .before .before .before .before .args in
+    let test = linked .before .loop-test .taken in
+    let told = summed .before .before .before .l .given .1 in
+    let on = c .before .goes-on .ensures in (
+      walk-stops (a .s .now) (counts.tallyBy (answer (a .told .now) (a .s .now)) (a .levels) (a .s .now)) (a .j) (l .sum) (l .left) (l .c)
+          (l .inv .0) test (linked .link-of .ensures) told
+          (summed .before .siblings .ensures) (summed .plus .ensures) on (c .if1 .left),
+      reach-stops (a .s .now) (a .j) 2 (l .left) (l .c) (l .inv .1) test (linked .link-of .ensures) (lowers-two told) refl on
+          (c .if1 .left),
+    )
 
 walk-enum-told : (t : ℕ) → walk-lts.Need-enum-told (walk-claims t) (walk-at t) walk.Post walk-Inv-loop walk-μ-loop
 walk-enum-told t c = search needs
 
+walk-reach-requires : (t : ℕ) → walk-lts.Need-reach-requires (walk-claims t) (walk-at t) walk.Post walk-Inv-loop walk-μ-loop
+walk-reach-requires t c κs = search needs
+
 walk-returns-2 : (t : ℕ) → walk-lts.Need-returns-2 (walk-claims t) (walk-at t) walk.Post walk-Inv-loop walk-μ-loop
 walk-returns-2 t c =
-    let a = c .before .before .before .before .before .before .before .args in
-    let l = c .before .before .before .before .loop in
-    walk-failed (a .s .now) (counts.tally (a .levels) (a .s .now)) (a .j) (l .sum) (l .left) (l .c) (l .inv) (c .before .before .before .loop-test .taken)
-    (c .before .before .link-of .ensures) (c .enum-told .given .1)
+    let linked = c .before .before .before in
+    let l = linked .before .before .loop in
+    let a = linked .before .before .before .before .before .before .args in (
+      walk-failed (a .s .now) (counts.tallyBy (answer (a .told .now) (a .s .now)) (a .levels) (a .s .now)) (a .j) (l .sum) (l .left)
+          (l .c) (l .inv .0) (linked .before .loop-test .taken)
+          (linked .link-of .ensures) (c .before .enum-told .given .1),
+      c .reach .ensures,
+    )
 
 walk-enum-told-2 : (t : ℕ) → walk-lts.Need-enum-told-2 (walk-claims t) (walk-at t) walk.Post walk-Inv-loop walk-μ-loop
 walk-enum-told-2 t c = search needs
 
 walk-returns-3 : (t : ℕ) → walk-lts.Need-returns-3 (walk-claims t) (walk-at t) walk.Post walk-Inv-loop walk-μ-loop
 walk-returns-3 t c =
-    let a = c .before .before .before .before .before .before .before .args in
-    let l = c .before .before .before .before .loop in
-    walk-lost (a .s .now) (counts.tally (a .levels) (a .s .now)) (a .j) (l .sum) (l .left) (l .c) (l .inv) (c .before .before .before .loop-test .taken)
-    (c .before .before .link-of .ensures) (c .enum-told2 .given .1)
+    let linked = c .before .before in
+    let l = linked .before .before .loop in
+    let a = linked .before .before .before .before .before .before .args in
+    let test = linked .before .loop-test .taken in (
+      walk-lost (a .s .now) (counts.tallyBy (answer (a .told .now) (a .s .now)) (a .levels) (a .s .now)) (a .j) (l .sum) (l .left) (l .c)
+          (l .inv .0) test (linked .link-of .ensures) (c .enum-told2 .given .1),
+      reach-lost (a .s .now) (a .j) 2 (l .left) (l .c) (l .inv .1) test (linked .link-of .ensures) (c .enum-told2 .given .1),
+    )
 
 walk-returns-4 : (t : ℕ) → walk-lts.Need-returns-4 (walk-claims t) (walk-at t) walk.Post walk-Inv-loop walk-μ-loop
 walk-returns-4 t c =
-    let a = c .before .before .before .before .args in
     let l = c .before .loop in
-    walk-ends (a .s .now) (counts.tally (a .levels) (a .s .now)) (a .j) (l .sum) (l .left) (l .c) (l .inv) (c .loop-test .left)
+    let a = c .before .before .before .before .before .args in (
+      walk-ends (a .s .now) (counts.tallyBy (answer (a .told .now) (a .s .now)) (a .levels) (a .s .now)) (a .j) (l .sum) (l .left) (l .c)
+          (l .inv .0) (c .loop-test .left),
+      reach-ends (a .s .now) (a .j) 2 (l .left) (l .c) (l .inv .1) (c .loop-test .left),
+    )
 
 pub +chain+coalesce+siblings+tally+walk-spec : {M : Type 1} → statement M
 +chain+coalesce+siblings+tally+walk-spec =
@@ -443,10 +539,9 @@ pub +chain+coalesce+siblings+tally+walk-spec : {M : Type 1} → statement M
     (chain-is-plain-requires t)
     (chain-instructions-requires t)
     (chain-returns t)
-    (chain-reach-requires t)
+    (chain-walk-requires t)
     (chain-instructions-requires-2 t)
     (chain-returns-2 t)
-    (chain-walk-requires t)
     (chain-taken-back-requires t)
     (chain-instructions-requires-3 t)
     (chain-plus-requires t)
@@ -531,6 +626,7 @@ pub +chain+coalesce+siblings+tally+walk-spec : {M : Type 1} → statement M
     (walk-loop-again t)
     (walk-returns t)
     (walk-enum-told t)
+    (walk-reach-requires t)
     (walk-returns-2 t)
     (walk-enum-told-2 t)
     (walk-returns-3 t)

@@ -1,7 +1,7 @@
 -- `index::head` meets its contract: the product of two words fits 64 bits.
 use native.Mathlib.Omega.{arith}
+use Rattle.folds.proofs.PowerLaws.{product-fits}
 use Rattle.index.specs.Table.{bucketOf}
-use Rattle.index.proofs.TableLaws.{product-fits}
 use borrow.Author.Needs.{needs}
 use Rattle.index.proofs.head.Statement.{statement}
 use Rattle.index.proofs.head.Tie as tie

@@ -1,4 +1,7 @@
 -- `index::index_hash` meets its contract.
+use mathlib.Core.Path.{ap, ap₂, _∙_}
+use Rattle.sheet.specs.Start.{startOf}
+use Rattle.folds.specs.Hash.{step}
 use Rattle.index.specs.Chains.{indexHash}
 use borrow.Author.Needs.{needs}
 use Rattle.index.proofs.index_hash.Statement.{statement}
@@ -13,9 +16,6 @@ position-requires c κs = search needs
 more-requires-2 : tie.Need-more-requires-2
 more-requires-2 c κs = search needs
 
-operand-of-requires : tie.Need-operand-of-requires
-operand-of-requires c κs = search needs
-
 start-of-requires : tie.Need-start-of-requires
 start-of-requires c κs = search needs
 
@@ -24,7 +24,13 @@ more-requires-3 c κs = search needs
 
 returns : tie.Need-returns
 unfolding indexHash
-returns c = cc
+returns c =
+    let placed = c .before .before in
+    let pos = placed .before in
+    let s = pos .before .before .before .args .s .now in
+    λ e. c .more3 .ensures
+    ∙ ap₂ step (placed .more2 .ensures ∙ ap₂ step (pos .before .more .ensures) (pos .position .ensures))
+    (c .before .start-of .ensures ∙ ap (startOf s) e)
 
 pub index-hash-spec : {M : Type 1} → statement M
 index-hash-spec =
@@ -33,7 +39,6 @@ index-hash-spec =
     more-requires
     position-requires
     more-requires-2
-    operand-of-requires
     start-of-requires
     more-requires-3
     returns)

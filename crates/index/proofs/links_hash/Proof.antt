@@ -16,14 +16,11 @@ loop-holds c =
     let a = c .before .before .args in
     walk-starts (a .s .now) (a .l) (a .n) (a .x .now) (a .j)
 
+read-link-requires : tie.Need-read-link-requires Inv-loop μ-loop
+read-link-requires c κs = search needs
+
 link-hash-requires : tie.Need-link-hash-requires Inv-loop μ-loop
 link-hash-requires c κs = search needs
-
-goes-on-requires : tie.Need-goes-on-requires Inv-loop μ-loop
-goes-on-requires c κs = search needs
-
-rest-of-requires : tie.Need-rest-of-requires Inv-loop μ-loop
-rest-of-requires c κs = search needs
 
 sub-left : tie.Need-sub-left Inv-loop μ-loop
 sub-left c = omega arith
@@ -33,19 +30,23 @@ loop-less c = omega arith
 
 loop-again : tie.Need-loop-again Inv-loop μ-loop
 loop-again c =
-    let linked = c .before .before .before in
-    let w = linked .before .before .loop in
-    let a = linked .before .before .before .before .before .args in
-    walk-goes (a .s .now) (a .l) (a .n) (a .x .now) (a .j) (w .left) (w .h) (w .c) (w .inv) (linked .before .loop-test .taken)
-    (linked .link-hash .ensures) (c .before .before .goes-on .ensures) (c .before .if1 .taken) (c .rest-of .ensures)
+    let linked = c .before in
+    let read = linked .before in
+    let w = read .before .before .loop in
+    let a = read .before .before .before .before .before .args in
+    let says = read .read-link .ensures in
+    walk-goes (a .s .now) (a .l) (a .n) (a .x .now) (a .j) (w .left) (w .h) (w .c) (w .inv) (read .before .loop-test .taken)
+    (linked .link-hash .ensures says) (says .on-is) (c .if1 .taken) (says .rest-is)
 
 returns : tie.Need-returns Inv-loop μ-loop
 returns c =
-    let linked = c .before .before in
-    let w = linked .before .before .loop in
-    let a = linked .before .before .before .before .before .args in
-    walk-stops (a .s .now) (a .l) (a .n) (a .x .now) (a .j) (w .left) (w .h) (w .c) (w .inv) (linked .before .loop-test .taken)
-    (linked .link-hash .ensures) (c .before .goes-on .ensures) (c .if1 .left)
+    let linked = c .before in
+    let read = linked .before in
+    let w = read .before .before .loop in
+    let a = read .before .before .before .before .before .args in
+    let says = read .read-link .ensures in
+    walk-stops (a .s .now) (a .l) (a .n) (a .x .now) (a .j) (w .left) (w .h) (w .c) (w .inv) (read .before .loop-test .taken)
+    (linked .link-hash .ensures says) (says .on-is) (c .if1 .left)
 
 returns-2 : tie.Need-returns-2 Inv-loop μ-loop
 returns-2 c =
@@ -60,9 +61,8 @@ links-hash-spec =
     Inv-loop
     μ-loop
     loop-holds
+    read-link-requires
     link-hash-requires
-    goes-on-requires
-    rest-of-requires
     sub-left
     loop-less
     loop-again

@@ -1,5 +1,5 @@
 -- `index::number_hash` meets its contract.
-use Rattle.index.specs.Hash.{mix}
+use Rattle.folds.specs.Hash.{mix}
 use borrow.Author.Needs.{needs}
 use Rattle.index.proofs.number_hash.Statement.{statement}
 use Rattle.index.proofs.number_hash.Tie as tie

@@ -5,6 +5,9 @@ use mathlib.Core.List.{_++_}
 use native.Mathlib.Omega.{arith}
 use Rattle.lowering.specs.SwitchSheet.{blockCount, defaultBlock}
 use Rattle.totals.specs.Total.{caseLists, splitLists}
+use Rattle.sheet.specs.Limits.{maxDepth}
+use Rattle.counting.specs.Locals.{answer}
+use Rattle.counting.specs.Count.{tallyBy}
 use Rattle.tables.specs.Planned.{entries}
 use Rattle.plan.proofs.KeptLaws.{tables-kept}
 use Rattle.plan.proofs.CountLaws.{default-in, most, second-most, head-of, exits-of, second-in, second-by, wanted-by, bodies-of}
@@ -76,7 +79,7 @@ same-length c =
     let x = r .before .before .before .before in
     let h = x .before .before .before .before in
     let d = h .before .before .before .before .before .before .before .before in
-    f .finish .kept .0 ∙ b .bodies .kept .1 .0 ∙ r .run-chains .kept .0 ∙ x .second .kept .0 ∙ h .case-chains .kept .1 .0
+    f .finish .kept .0 ∙ b .bodies .kept .1 .1 .0 ∙ r .run-chains .kept .0 ∙ x .second .kept .0 ∙ h .case-chains .kept .1 .0
     ∙ d .want-default .kept .0
 
 returns : tie.Need-returns
@@ -89,7 +92,9 @@ returns c l₀ ok k t₀ =
     let q = h .before .before in
     let d = q .before .before .before .before .before .before in
     let def = d .before .before in
-    let s = def .before .before .before .before .before .args .s .now in
+    let a = def .before .before .before .before .before .before .args in
+    let s = a .s .now in
+    let t = tallyBy (answer (a .told .now) s) maxDepth s in
     let n : def .before .capped .result ≡ blockCount s =
     omega (arith, def .before .capped .ensures, def .before .before .field-a .ensures, t₀ .few-blocks) in
     let few : def .before .capped .result ≤ 64 = omega (arith, n, t₀ .few-blocks) in
@@ -100,22 +105,22 @@ returns c l₀ ok k t₀ =
     let p₁ = d .want-default .ensures l₀ few in
     let t₁ = tables-kept t₀ (p₁ .1) (omega arith) in
     let head =
-    head-of s (q .before .before .before .child .ensures) (q .before .before .tally .ensures) (q .before .instructions .ensures)
+    head-of t (q .before .before .before .child .ensures) (q .before .before .tally .ensures) (q .before .instructions .ensures)
     (q .plus .ensures) in
-    let p₂ = h .case-chains .ensures (d .want-default .kept .0 ∙ l₀) ok k t₁ (most _ head .0) (most _ head .1) in
+    let p₂ = h .case-chains .ensures t (d .want-default .kept .0 ∙ l₀) ok k t₁ (most _ head .0) (most _ head .1) in
     let t₂ = tables-kept t₁ (p₂ .1) (omega arith) in
     let m₂ = most _ (p₂ .0 .sum) in
     let p₃ = second-by t₂ (x .second .ensures s (caseLists s) (exits-of t₂ (p₂ .0)) (m₂ .0)) in
     let t₃ = tables-kept t₂ (second-in p₃) (omega arith) in
     let m₃ = second-most p₃ m₂ in
-    let p₄ = r .run-chains .ensures s l₃ ok k t₃ (m₃ .0) (m₃ .1) in
+    let p₄ = r .run-chains .ensures s t l₃ ok k t₃ (m₃ .0) (m₃ .1) in
     let t₄ = tables-kept t₃ (p₄ .1) (omega arith) in
     let m₄ = most _ (p₄ .0 .sum) in
     let wanted = wanted-by n few d-is (p₁ .0) (p₂ .0) (second-in p₃) (p₄ .0) in
     let p₅ =
     bodies-of n t₄ (b .bodies .ensures (caseLists s ++ splitLists (entries s)) (defaultBlock s) l₄ few (m₄ .0) (m₄ .1)) wanted in
     counted (default-in s ok k) d-is head (p₂ .0) p₃ l₂ p₄ wanted p₅ (tables-kept t₄ (p₅ .1) (omega arith)) (f .finish .ensures .0)
-    (f .finish .ensures .1 (b .bodies .kept .1 .0 ∙ l₄)) (c .before .before .closing .ensures) (c .before .instructions2 .ensures)
+    (f .finish .ensures .1 (b .bodies .kept .1 .1 .0 ∙ l₄)) (c .before .before .closing .ensures) (c .before .instructions2 .ensures)
     (c .plus2 .ensures)
 
 pub count-spec : {M : Type 1} → statement M

@@ -34,6 +34,9 @@ loop-holds c =
           (a .out .now),
     )
 
+read-link-requires : tie.Need-read-link-requires Inv-loop μ-loop
+read-link-requires c κs = search needs
+
 step-at-requires : tie.Need-step-at-requires Inv-loop μ-loop
 step-at-requires c κs = search needs
 
@@ -45,13 +48,11 @@ step-words-requires c κs = search needs
 
 put-six-requires : tie.Need-put-six-requires Inv-loop μ-loop
 put-six-requires c κs =
-    let a = c .before .before .before .before .before .before .before .before .args in
+    let read = c .before .before .before in
+    let l = read .before .before .loop in
+    let a = read .before .before .before .before .before .before .args in
     let ns = namesHeld (a .s .now) (a .l) (a .n) (a .x .now) in
-    let l = c .before .before .before .before .loop in
-    omega (
-      arith,
-      left-within (a .s .now) ns (a .j) (l .i) (l .k) (l .left) (l .c) (c .before .before .before .loop-test .taken) (l .inv .2),
-    )
+    omega (arith, left-within (a .s .now) ns (a .j) (l .i) (l .k) (l .left) (l .c) (read .before .loop-test .taken) (l .inv .2))
 
 add-i : tie.Need-add-i Inv-loop μ-loop
 add-i c = search needs
@@ -61,17 +62,11 @@ width-requires c κs = search needs
 
 add-k : tie.Need-add-k Inv-loop μ-loop
 add-k c =
-    omega (
-      arith,
-      width-few (c .before .before .before .before .before .before .before .before .before .before .before .before .args .s .now)
-          (c .before .before .before .before .before .before .before .before .loop .c),
-    )
-
-goes-on-requires : tie.Need-goes-on-requires Inv-loop μ-loop
-goes-on-requires c κs = search needs
-
-rest-of-requires : tie.Need-rest-of-requires Inv-loop μ-loop
-rest-of-requires c κs = search needs
+    let put = c .before .before .before in
+    let read = put .before .before .before .before in
+    let l = read .before .before .loop in
+    let a = read .before .before .before .before .before .before .args in
+    omega (arith, width-few (a .s .now) (l .c), c .width .ensures (l .c) (read .read-link .ensures))
 
 sub-left : tie.Need-sub-left Inv-loop μ-loop
 sub-left c = search needs
@@ -81,42 +76,48 @@ loop-less c = search needs
 
 loop-again : tie.Need-loop-again Inv-loop μ-loop
 loop-again c =
-    let put = c .before .before .before .before .before .before in
+    let put = c .before .before .before .before in
     let at = put .before .before .before in
-    let l = at .before .before .loop in
-    let h = at .before .loop-test .taken in
-    let start = at .before .before .before .before .before .before in
+    let read = at .before in
+    let l = read .before .before .loop in
+    let h = read .before .loop-test .taken in
+    let start = read .before .before .before .before .before .before in
     let a = start .args in
     let s = a .s .now in
     let ns = namesHeld s (a .l) (a .n) (a .x .now) in
-    let g = sym (c .before .before .goes-on .ensures) ∙ c .before .if1 .taken in
+    let says = read .read-link .ensures in
+    let width-is = c .before .width .ensures (l .c) says in
+    let g = sym (says .on-is) ∙ c .if1 .taken in
     let w : NamesHold s (a .l) (a .n) (a .x .now) → Written _ _ _ = λ h′.
-    step-next s ns (a .j) (l .i) (l .k) (l .left) (l .c) _ _ (start .pre) h (l .inv .2) (at .step-at .ensures h′)
+    step-next s ns (a .j) (l .i) (l .k) (l .left) (l .c) _ _ (start .pre) h (l .inv .2) (at .step-at .ensures says h′)
     (put .before .step-words .ensures) (put .put-six .ensures) (l .inv .4 h′) in (
       omega arith,
-      omega (arith, width-few s (l .c)),
-      left-more s ns (a .j) (l .i) (l .k) (l .left) (l .c) _ _ h g (c .before .before .before .width .ensures) (c .rest-of .ensures)
-          (l .inv .2),
+      omega (arith, width-few s (l .c), width-is),
+      left-more s ns (a .j) (l .i) (l .k) (l .left) (l .c) _ _ h g width-is (says .rest-is) (l .inv .2),
       put .put-six .kept .0 ∙ l .inv .3,
       w,
     )
 
 same-length : tie.Need-same-length Inv-loop μ-loop
-same-length c = c .before .before .before .before .before .put-six .kept .0 ∙ c .before .before .before .before .before .before .before .before .before .before .loop .inv .3
+same-length c =
+    let put = c .before .before .before .before in
+    put .put-six .kept .0 ∙ put .before .before .before .before .before .before .loop .inv .3
 
 returns : tie.Need-returns Inv-loop μ-loop
 returns c =
-    let put = c .before .before .before .before .before in
+    let put = c .before .before .before .before in
     let at = put .before .before .before in
-    let l = at .before .before .loop in
-    let h = at .before .loop-test .taken in
-    let start = at .before .before .before .before .before .before in
+    let read = at .before in
+    let l = read .before .before .loop in
+    let h = read .before .loop-test .taken in
+    let start = read .before .before .before .before .before .before in
     let a = start .args in
     let s = a .s .now in
     let ns = namesHeld s (a .l) (a .n) (a .x .now) in
-    let g = sym (c .before .goes-on .ensures) ∙ c .if1 .left in
+    let says = read .read-link .ensures in
+    let g = sym (says .on-is) ∙ c .if1 .left in
     let w : NamesHold s (a .l) (a .n) (a .x .now) → Written _ _ _ = λ h′.
-    step-next s ns (a .j) (l .i) (l .k) (l .left) (l .c) _ _ (start .pre) h (l .inv .2) (at .step-at .ensures h′)
+    step-next s ns (a .j) (l .i) (l .k) (l .left) (l .c) _ _ (start .pre) h (l .inv .2) (at .step-at .ensures says h′)
     (put .before .step-words .ensures) (put .put-six .ensures) (l .inv .4 h′) in
     λ h′. step-last s ns (a .j) (l .i) (l .k) (l .left) (l .c) (start .pre) h g (l .inv .2) (w h′)
 
@@ -139,6 +140,7 @@ chain-steps-spec =
     Inv-loop
     μ-loop
     loop-holds
+    read-link-requires
     step-at-requires
     mul-put-six
     step-words-requires
@@ -146,8 +148,6 @@ chain-steps-spec =
     add-i
     width-requires
     add-k
-    goes-on-requires
-    rest-of-requires
     sub-left
     loop-less
     loop-again

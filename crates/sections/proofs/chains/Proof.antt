@@ -44,18 +44,19 @@ chain-words-requires c κs = search needs
 put-six-requires : tie.Need-put-six-requires Inv-loop μ-loop
 put-six-requires c κs = search needs
 
-link-count-requires : tie.Need-link-count-requires Inv-loop μ-loop
-link-count-requires c κs = search needs
-
 add-first : tie.Need-add-first Inv-loop μ-loop
 add-first c =
-    let a = c .before .before .before .before .before .before .before .before .before .before .before .before .before .before .args in
-    let i = c .before .before .before .before .before .before .before .before .before .loop .i in
+    let put = c .before .before .before in
+    let at = put .before .before .before in
+    let test = at .before .before in
+    let l = test .before .loop in
+    let start = test .before .before .before .before .before .before in
+    let a = start .args in
     omega (
       arith,
-      count-more (a .s .now) (a .js .now) i (c .before .before .before .before .before .before .before .before .loop-test .taken),
-      count-part (a .s .now) (a .js .now) (i + 1),
-      c .link-count .ensures,
+      count-more (a .s .now) (a .js .now) (l .i) (test .loop-test .taken),
+      count-part (a .s .now) (a .js .now) (l .i + 1),
+      at .chain-at .ensures .0,
     )
 
 add-i : tie.Need-add-i Inv-loop μ-loop
@@ -66,23 +67,21 @@ loop-less c = search needs
 
 loop-again : tie.Need-loop-again Inv-loop μ-loop
 loop-again c =
-    let a = c .before .before .before .before .before .before .before .before .before .before .before .before .before .before .args in
+    let put = c .before .before .before in
+    let at = put .before .before .before in
+    let test = at .before .before in
+    let l = test .before .loop in
+    let start = test .before .before .before .before .before .before in
+    let a = start .args in
     let ns = namesHeld (a .s .now) (a .l) (a .n) (a .x .now) in
-    let i = c .before .before .before .before .before .before .before .before .before .loop .i in
     let w : NamesHold (a .s .now) (a .l) (a .n) (a .x .now) → Written _ _ _ = λ h.
-    chain-next (a .s .now) ns (a .js .now) i (c .before .before .before .before .before .before .before .before .before .loop .first)
-    (c .before .before .before .before .before .before .chain-at .result) (c .before .before .before .before .chain-words .result)
-    (c .before .before .before .before .before .before .before .before .before .before .before .before .before .before .pre .0)
-    (c .before .before .before .before .before .before .before .before .loop-test .taken)
-    (c .before .before .before .before .before .before .before .before .before .loop .inv .1)
-    (c .before .before .before .before .before .before .chain-at .ensures h) (c .before .before .before .before .chain-words .ensures)
-    (c .before .before .before .put-six .ensures)
-    (c .before .before .before .before .before .before .before .before .before .loop .inv .3 h) in (
+    chain-next (a .s .now) ns (a .js .now) (l .i) (l .first) (at .chain-at .result) (put .before .chain-words .result) (start .pre .0)
+    (test .loop-test .taken) (l .inv .1) (at .chain-at .ensures .1 h) (put .before .chain-words .ensures) (put .put-six .ensures)
+    (l .inv .3 h) in (
       omega arith,
-      ap₂ _+_ (c .before .before .before .before .before .before .before .before .before .loop .inv .1) (c .link-count .ensures)
-          ∙ sym (count-more (a .s .now) (a .js .now) i
-          (c .before .before .before .before .before .before .before .before .loop-test .taken)),
-      c .before .before .before .put-six .kept .0 ∙ c .before .before .before .before .before .before .before .before .before .loop .inv .2,
+      ap₂ _+_ (l .inv .1) (at .chain-at .ensures .0)
+          ∙ sym (count-more (a .s .now) (a .js .now) (l .i) (test .loop-test .taken)),
+      put .put-six .kept .0 ∙ l .inv .2,
       w,
     )
 
@@ -109,7 +108,6 @@ chains-spec =
     mul-put-six
     chain-words-requires
     put-six-requires
-    link-count-requires
     add-first
     add-i
     loop-less

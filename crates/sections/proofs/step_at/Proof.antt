@@ -1,21 +1,14 @@
 -- `sections::step_at` meets its contract: each arm looks for the names that its step has.
 use borrow.Author.Needs.{needs}
-use mathlib.Core.Path.{sym, _∙_}
+use mathlib.Core.Path.{sym}
 use Rattle.index.specs.Held.{namesHeld}
 use Rattle.sheet.specs.Node.{fieldA, fieldB, fieldC}
-use Rattle.lowering.specs.Flatten.{stepRule}
-use Rattle.rules.specs.declared.chains.StepRule.the-variants.{Index, Method, Nothing}
-use Rattle.rules.specs.Inverse.{stepRuleFrom, step-is}
+use Rattle.rules.specs.Inverse.{stepRuleFrom}
+use Rattle.rules.specs.Reads.{rule-told}
 use Rattle.sections.specs.ChainRows.{placed}
 use Rattle.sections.specs.StepRows.{named-by, step-index, step-none, step-method, step-property}
 use Rattle.sections.proofs.step_at.Statement.{statement}
 use Rattle.sections.proofs.step_at.Tie as tie
-
-step-rule-requires : tie.Need-step-rule-requires
-step-rule-requires c κs = search needs
-
-operand-of-requires : tie.Need-operand-of-requires
-operand-of-requires c κs = search needs
 
 enum-told : tie.Need-enum-told
 enum-told c = search needs
@@ -68,56 +61,53 @@ step-of-requires-4 c κs = search needs
 returns : tie.Need-returns
 unfolding stepRuleFrom
 returns c =
-    let a = c .before .before .before .before .before .before .before .args in
+    let told = c .before in
+    let a = told .before .before .before .before .args in
     let s = a .s .now in
     let ns = namesHeld s (a .l) (a .n) (a .x .now) in
-    let r = sym (step-is (stepRule s (a .c)) Index (sym
-    (c .before .before .before .before .step-rule .ensures) ∙ c .before .enum-told .given .1)) in
-    λ _. step-index s ns (a .c) (a .k) 0 0 0 r (c .step-of .ensures)
+    λ p _. step-index s ns (a .c) (a .k) 0 0 0 (sym (rule-told p (told .enum-told .given .1))) (c .step-of .ensures p)
 
 returns-2 : tie.Need-returns-2
 returns-2 c =
-    let a = c .before .before .before .before .before .before .before .before .before .before .before .before .before .args in
+    let third = c .before in
+    let second = third .before .before in
+    let first = second .before .before in
+    let told = first .before .before in
+    let a = told .before .before .before .before .args in
     let s = a .s .now in
     let ns = namesHeld s (a .l) (a .n) (a .x .now) in
-    let o = c .before .before .before .before .before .before .before .before .before .operand-of .ensures in
-    λ h.
-    let first = named-by s ns (a .c) (fieldA s) o (c .before .before .before .before .before .before .field-a .ensures) (placed
-    (c .before .before .before .before .before .text-place .ensures) h) in
-    let second = named-by s ns (a .c) (fieldB s) o (c .before .before .before .before .field-b .ensures) (placed
-    (c .before .before .before .text-place2 .ensures) h) in
-    let third = named-by s ns (a .c) (fieldC s) o (c .before .before .field-c .ensures) (placed (c .before .text-place3 .ensures) h) in
-    step-property s ns (a .c) (a .k) _ _ _ first second third (c .step-of2 .ensures)
+    λ p h.
+    let name = named-by s ns (a .c) (fieldA s) (p .with-is) (first .before .field-a .ensures) (placed (first .text-place .ensures) h) in
+    let getter = named-by s ns (a .c) (fieldB s) (p .with-is) (second .before .field-b .ensures)
+    (placed (second .text-place2 .ensures) h) in
+    let setter = named-by s ns (a .c) (fieldC s) (p .with-is) (third .before .field-c .ensures) (placed (third .text-place3 .ensures) h) in
+    step-property s ns (a .c) (a .k) _ _ _ name getter setter (c .step-of2 .ensures p)
 
 returns-3 : tie.Need-returns-3
 unfolding stepRuleFrom
 returns-3 c =
-    let a = c .before .before .before .before .before .before .before .before .before .args in
+    let first = c .before in
+    let told = first .before .before in
+    let a = told .before .before .before .before .args in
     let s = a .s .now in
     let ns = namesHeld s (a .l) (a .n) (a .x .now) in
-    let r = sym (step-is (stepRule s (a .c)) Method (sym
-    (c .before .before .before .before .before .before .step-rule .ensures) ∙ c .before .before .before .enum-told3 .given .1)) in
-    λ h.
-    let first = named-by s ns (a .c) (fieldA s) (c .before .before .before .before .before .operand-of .ensures)
-    (c .before .before .field-a2 .ensures) (placed (c .before .text-place4 .ensures) h) in
-    step-method s ns (a .c) (a .k) _ 0 0 r first (c .step-of3 .ensures)
+    λ p h.
+    let name = named-by s ns (a .c) (fieldA s) (p .with-is) (first .before .field-a2 .ensures) (placed (first .text-place4 .ensures) h) in
+    step-method s ns (a .c) (a .k) _ 0 0 (sym (rule-told p (told .enum-told3 .given .1))) name (c .step-of3 .ensures p)
 
 returns-4 : tie.Need-returns-4
 unfolding stepRuleFrom
 returns-4 c =
-    let a = c .before .before .before .before .before .before .before .args in
+    let told = c .before in
+    let a = told .before .before .before .before .args in
     let s = a .s .now in
     let ns = namesHeld s (a .l) (a .n) (a .x .now) in
-    let r = sym (step-is (stepRule s (a .c)) Nothing (sym
-    (c .before .before .before .before .step-rule .ensures) ∙ c .before .enum-told4 .given .1)) in
-    λ _. step-none s ns (a .c) (a .k) 0 0 0 r (c .step-of4 .ensures)
+    λ p _. step-none s ns (a .c) (a .k) 0 0 0 (sym (rule-told p (told .enum-told4 .given .1))) (c .step-of4 .ensures p)
 
 pub step-at-spec : {M : Type 1} → statement M
 step-at-spec =
     tie.close
     (tie.spec
-    step-rule-requires
-    operand-of-requires
     enum-told
     step-of-requires
     enum-told-2

@@ -35,11 +35,11 @@ returns c =
     let found = c .before in
     let hashed = found .before .before in
     let local = hashed .before .before .before in
-    let lay = local .before .before in
+    let lay = local .before .before .before in
     let start = lay .before .before .before .before in
     chain-any (lay .layout-of .ensures)
     (chain-adds-old (start .args .s .now) (lay .layout-of .result) (start .args .x .now) (start .args .c .now) (start .args .j) _ _
-    (local .root-local .result) (local .root-local .ensures) (hashed .chain-hash .ensures (local .root-local .ensures))
+    (local .root-local .result) (local .root-local .ensures) (hashed .chain-hash .ensures)
     (found .find-chain .ensures) (c .if1 .taken))
 
 chain-place-requires : tie.Need-chain-place-requires
@@ -91,12 +91,12 @@ returns-2 c =
     let found = test .before in
     let hashed = found .before .before in
     let local = hashed .before .before .before in
-    let lay = local .before .before in
+    let lay = local .before .before .before in
     let start = lay .before .before .before .before in
     let cells = start .args .c .now in
     chain-any (lay .layout-of .ensures)
     (chain-adds-new (start .args .s .now) (lay .layout-of .result) (start .args .x .now) cells (start .args .j) _ _
-    (local .root-local .result) (local .root-local .ensures) (hashed .chain-hash .ensures (local .root-local .ensures))
+    (local .root-local .result) (local .root-local .ensures) (hashed .chain-hash .ensures)
     (found .find-chain .ensures) _ (test .if1 .left) (at .chain-place .ensures) (put .put .ensures) (index .chain-index .ensures)
     (linked .link .ensures) (noted .note .ensures)
     (λ full. chain-of cells full _ _ _ (count .wrapping-add-u32 .ensures)

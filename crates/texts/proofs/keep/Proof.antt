@@ -1,60 +1,55 @@
--- `texts::keep` meets its contract. The loop's invariant: the marks kept so far are true. Assumes nothing.
+-- `texts::keep` meets its contract. The loop's invariant: the marks from block j on are true. Assumes nothing.
 use Prim.Native.Nat.{_≤_, _-_}
-use borrow.Author.Needs.{needs}
 use native.Mathlib.Omega.{arith}
-use lib.ListN.{length}
-use Rattle.texts.specs.Marks.{Marks}
-use Rattle.texts.specs.MarkLaws.{mark-set}
+use Rattle.texts.specs.Marks.{blocks, Run, Marks}
+use Rattle.texts.specs.MarkLaws.{mark-none, mark-set, mark-all}
+use borrow.Author.Needs.{needs}
 use Rattle.texts.proofs.keep.Statement.{statement}
 use Rattle.texts.proofs.keep.Tie as tie
 
 abbrev Inv-loop : tie.InvT-loop
-Inv-loop b marks₀ n i₀ marks i = (i ≤ length b) × Marks b marks
+Inv-loop b base marks₀ f₀ j₀ marks f j = (j ≤ blocks) × Run b (f .0) (f .1) × Marks b base j marks
 
 abbrev μ-loop : tie.MeasureT-loop
-μ-loop b marks₀ n i₀ marks i = n - i
+μ-loop b base marks₀ f₀ j₀ marks f j = j
 
 loop-holds : tie.Need-loop-holds Inv-loop μ-loop
-loop-holds c = (omega arith, c .before .pre)
+loop-holds c = (omega arith, c .before .pre .1, mark-none _ _ (c .before .pre .0 .1))
 
-returns : tie.Need-returns Inv-loop μ-loop
-returns c = c .before .before .loop .inv .1
+mul-e : tie.Need-mul-e Inv-loop μ-loop
+mul-e c = omega arith
 
-edge-requires : tie.Need-edge-requires Inv-loop μ-loop
-edge-requires c κs = search needs
+add-e : tie.Need-add-e Inv-loop μ-loop
+add-e c = omega arith
 
-run-requires : tie.Need-run-requires Inv-loop μ-loop
-run-requires c κs = search needs
+far-from-requires : tie.Need-far-from-requires Inv-loop μ-loop
+far-from-requires c κs = c .before .loop .inv .1
+
+sub-j : tie.Need-sub-j Inv-loop μ-loop
+sub-j c = omega arith
 
 mark-requires : tie.Need-mark-requires Inv-loop μ-loop
 mark-requires c κs = search needs
 
-element-write-marks : tie.Need-element-write-marks Inv-loop μ-loop
-element-write-marks c = search needs
+mul-marks : tie.Need-mul-marks Inv-loop μ-loop
+mul-marks c = search needs
 
-restart-requires : tie.Need-restart-requires Inv-loop μ-loop
-restart-requires c κs = search needs
+element-write-marks : tie.Need-element-write-marks Inv-loop μ-loop
+element-write-marks c = omega arith
 
 loop-less : tie.Need-loop-less Inv-loop μ-loop
-loop-less c = search needs
+loop-less c = omega arith
 
 loop-again : tie.Need-loop-again Inv-loop μ-loop
 loop-again c =
-    let m = c .before .before in
-    let l = m .before .before .before .before .before in
-    (omega arith, mark-set (l .loop .inv .1) (m .before .run .ensures) (m .mark .ensures) (omega arith))
+    let l = c .before .before .before in
+    let f = c .before .far-from .ensures in
+    (omega arith, f, mark-set (l .loop .j) _ (l .loop .inv .2) (omega arith) (omega arith) (omega arith) f (c .mark .ensures))
 
-loop-less-2 : tie.Need-loop-less-2 Inv-loop μ-loop
-loop-less-2 c = search needs
-
-loop-again-2 : tie.Need-loop-again-2 Inv-loop μ-loop
-loop-again-2 c =
-    let m = c .before in
-    let l = m .before .before .before .before .before in
-    (omega arith, mark-set (l .loop .inv .1) (m .before .run .ensures) (m .mark .ensures) (omega arith))
-
-returns-2 : tie.Need-returns-2 Inv-loop μ-loop
-returns-2 c = c .before .loop .inv .1
+returns : tie.Need-returns Inv-loop μ-loop
+returns c =
+    let inv = c .before .loop .inv in
+    (inv .1, mark-all (inv .2) (omega arith))
 
 pub keep-spec : {M : Type 1} → statement M
 keep-spec =
@@ -63,14 +58,13 @@ keep-spec =
     Inv-loop
     μ-loop
     loop-holds
-    returns
-    edge-requires
-    run-requires
+    mul-e
+    add-e
+    far-from-requires
+    sub-j
     mark-requires
+    mul-marks
     element-write-marks
-    restart-requires
     loop-less
     loop-again
-    loop-less-2
-    loop-again-2
-    returns-2)
+    returns)

@@ -43,7 +43,8 @@ char-len-requires c κs = search needs
 returns : tie.Need-returns Inv-loop μ-loop
 returns c =
     let inv = c .before .before .before .before .before .loop .inv in
-    record { least = inv .0; most = inv .1; good = inv .2; stuck = λ h. sym (c .before .char-len .ensures) ∙ c .if2 .taken }
+    let none = sym (c .before .char-len .ensures) ∙ c .if2 .taken in
+    record { passed = record { least = inv .0; most = inv .1; good = inv .2 }; stuck = λ h. none }
 
 -- the character lies within the bytes
 fits :
@@ -69,7 +70,7 @@ loop-again-2 c =
 returns-2 : tie.Need-returns-2 Inv-loop μ-loop
 returns-2 c =
     let inv = c .before .loop .inv in
-    record { least = inv .0; most = inv .1; good = inv .2; stuck = λ h. absurd (omega arith) }
+    record { passed = record { least = inv .0; most = inv .1; good = inv .2 }; stuck = λ h. absurd (omega arith) }
 
 pub run-spec : {M : Type 1} → statement M
 run-spec =

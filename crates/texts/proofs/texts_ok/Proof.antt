@@ -1,10 +1,12 @@
--- `texts::texts_ok` meets its contract: the marks that `keep` keeps of the text bytes are true, and `all_ok` goes by them. Assumes
--- nothing.
-use Rattle.texts.specs.MarkLaws.{mark-none}
-use Rattle.texts.specs.TextsLaws.{bytes-marks}
+-- `texts::texts_ok` meets its contract: texts that do not all lie within the text bytes are not all right. Assumes nothing.
+use mathlib.Core.Path.{sym, _∙_}
+use Rattle.texts.specs.TextsLaws.{text-bytes, outside-fails}
 use borrow.Author.Needs.{needs}
 use Rattle.texts.proofs.texts_ok.Statement.{statement}
 use Rattle.texts.proofs.texts_ok.Tie as tie
+
+all-inside-requires : tie.Need-all-inside-requires
+all-inside-requires c κs = search needs
 
 bytes-at-requires : tie.Need-bytes-at-requires
 bytes-at-requires c κs = search needs
@@ -21,29 +23,31 @@ cast-part c = search needs
 part-requires : tie.Need-part-requires
 part-requires c κs = search needs
 
-keep-requires : tie.Need-keep-requires
-keep-requires c κs = mark-none _
-
-all-ok-requires : tie.Need-all-ok-requires
-all-ok-requires c κs =
-    let k = c .before in
-    let p = k .before .before in
-    let n = p .before in
-    let a = n .before .before .before .args in
-    bytes-marks (a .s .now) _ _ _ (n .before .bytes-at .ensures .0) _ (n .byte-count .ensures) (p .part .ensures) (k .keep .ensures)
+inside-ok-requires : tie.Need-inside-ok-requires
+inside-ok-requires c κs =
+    let n = c .before in
+    let test = n .before .before in
+    let s = test .before .before .before .args .s .now in (
+      text-bytes s _ _ _ (n .byte-count .ensures) (n .before .bytes-at .ensures .0) (c .part .ensures),
+      sym (test .before .all-inside .ensures) ∙ test .if1 .taken,
+    )
 
 returns : tie.Need-returns
 returns c = search needs
+
+returns-2 : tie.Need-returns-2
+returns-2 c = sym (outside-fails _ (sym (c .before .all-inside .ensures) ∙ c .if1 .left))
 
 pub texts-ok-spec : {M : Type 1} → statement M
 texts-ok-spec =
     tie.close
     (tie.spec
+    all-inside-requires
     bytes-at-requires
     mul-part
     byte-count-requires
     cast-part
     part-requires
-    keep-requires
-    all-ok-requires
-    returns)
+    inside-ok-requires
+    returns
+    returns-2)

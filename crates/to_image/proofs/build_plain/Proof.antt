@@ -14,8 +14,8 @@ effects-requires c κs = search needs
 start-requires : tie.Need-start-requires
 start-requires c κs = search needs
 
-clear-index-requires : tie.Need-clear-index-requires
-clear-index-requires c κs = search needs
+begin-requires : tie.Need-begin-requires
+begin-requires c κs = search needs
 
 expression-requires : tie.Need-expression-requires
 expression-requires c κs = search needs
@@ -37,7 +37,7 @@ returns c =
     let begun = cleared .before .before in
     let table = begun .before in
     λ R h. plain-long h _ _ _ _ _ _ _ _ R (table .before .node-count .ensures) (begun .start .result) (begun .start .ensures)
-    (cleared .clear-index .ensures) (emitted .expression .ensures _ (table .effects .ensures)) (counted .before .state-of .ensures)
+    (cleared .begin .ensures) (emitted .expression .ensures _ (table .effects .ensures)) (counted .before .state-of .ensures)
     (λ a g. counted .image-len .ensures _ _ _ a g) (omega arith)
 
 write-front-requires : tie.Need-write-front-requires
@@ -58,7 +58,7 @@ returns-2 c =
     let begun = cleared .before .before in
     let table = begun .before in
     λ R h. plain-built h _ _ _ _ _ _ _ _ R (table .before .node-count .ensures) (begun .start .result) (begun .start .ensures)
-    (cleared .clear-index .ensures) (emitted .expression .ensures _ (table .effects .ensures)) (counted .before .state-of .ensures)
+    (cleared .begin .ensures) (emitted .expression .ensures _ (table .effects .ensures)) (counted .before .state-of .ensures)
     (λ a g. counted .image-len .ensures _ _ _ a g) (omega (arith, wrote .before .before .before .if1 .left))
     (λ a g k. wrote .write-front .ensures _ a g k)
 
@@ -69,7 +69,7 @@ build-plain-spec =
     node-count-requires
     effects-requires
     start-requires
-    clear-index-requires
+    begin-requires
     expression-requires
     state-of-requires
     image-len-requires

@@ -1,5 +1,6 @@
 -- `to_image::lower` meets its contract: refused by the check, or lowered by the kind of node 0.
-use Rattle.to_image.proofs.AnswerLaws.{number-is, check-stays}
+use Rattle.needs.proofs.NeedLaws.{number-is}
+use Rattle.to_image.proofs.AnswerLaws.{check-stays}
 use mathlib.Core.Path.{sym, _∙_}
 use borrow.Author.Needs.{needs}
 use Rattle.to_image.proofs.lower.Statement.{statement}

@@ -1,11 +1,12 @@
 -- `to_image::lower_plain` meets its contract: refused by its counts, or built and ended.
-use Rattle.to_image.proofs.AnswerLaws.{refused-early, early-told, few-emitted, answered, plain-counted}
+use Rattle.needs.proofs.CountLaws.{early-told, few-emitted}
+use Rattle.to_image.proofs.AnswerLaws.{refused-early, answered}
 use borrow.Author.Needs.{needs}
 use Rattle.to_image.proofs.lower_plain.Statement.{statement}
 use Rattle.to_image.proofs.lower_plain.Tie as tie
 
-tally-requires : tie.Need-tally-requires
-tally-requires c κs = search needs
+plain-counts-requires : tie.Need-plain-counts-requires
+plain-counts-requires c κs = search needs
 
 node-count-requires : tie.Need-node-count-requires
 node-count-requires c κs = search needs
@@ -16,7 +17,7 @@ refusal-requires c κs = search needs
 returns : tie.Need-returns
 returns c =
     let counted = c .before .before .before in
-    λ ok h. refused-early _ _ _ _ _ _ ok (plain-counted _ _ h (counted .tally .ensures)) (c .before .before .node-count .ensures)
+    λ ok h. refused-early _ _ _ _ _ _ ok (counted .plain-counts .ensures h) (c .before .before .node-count .ensures)
     (c .before .refusal .ensures) (c .if1 .taken)
 
 cast-build-plain : tie.Need-cast-build-plain
@@ -44,7 +45,7 @@ returns-2 c =
     let test = built .before .before .before .before in
     let refused = test .before in
     let counted = refused .before .before in
-    λ ok h. answered _ _ _ _ _ _ ok (plain-counted _ _ h (counted .tally .ensures)) (refused .before .node-count .ensures)
+    λ ok h. answered _ _ _ _ _ _ ok (counted .plain-counts .ensures h) (refused .before .node-count .ensures)
     (refused .refusal .ensures) (test .if1 .left) _ _ _ _ _ (λ R. built .build-plain .ensures R h) (end .ended .ensures .1)
     (built .build-plain .kept .1 .1 .0) (built .build-plain .kept .1 .0) (end .ended .ensures .0)
 
@@ -52,7 +53,7 @@ pub lower-plain-spec : {M : Type 1} → statement M
 lower-plain-spec =
     tie.close
     (tie.spec
-    tally-requires
+    plain-counts-requires
     node-count-requires
     refusal-requires
     returns

@@ -4,10 +4,6 @@ use Rattle.compile.specs.WaySays.{way-make, way-pointer, way-lowerable, 
 use borrow.Author.Needs.{needs}
 use Rattle.compile.proofs.calls.way_of.Statement.{statement}
 use Rattle.compile.proofs.calls.way_of.Tie as tie
-use Rattle.compile.proofs.calls.way_of.Reads as reads
-use Rattle.compile.proofs.calls.way_of.Lts as lts
-use Rattle.compile.proofs.calls.way_first.Reads as way-first-reads
-use Rattle.rules.proofs.calls.call_rule.Reads as call-rule-reads
 
 call-rule-requires : tie.Need-call-rule-requires
 call-rule-requires c κs = search needs
@@ -31,19 +27,21 @@ enum-told-5 : tie.Need-enum-told-5
 enum-told-5 c = search needs
 
 returns : tie.Need-returns
-returns c = way-make _ _ _ (c .before .before .call-rule .ensures) (c .enum-told .given .1)
+returns c = λ _. way-make _ _ _ (c .before .before .call-rule .ensures) (c .enum-told .given .1)
 
 returns-2 : tie.Need-returns-2
-returns-2 c = way-pointer _ _ _ (c .before .before .call-rule .ensures) (c .enum-told2 .given .1)
+returns-2 c = λ _. way-pointer _ _ _ (c .before .before .call-rule .ensures) (c .enum-told2 .given .1)
 
 returns-3 : tie.Need-returns-3
-returns-3 c = c .way-first .ensures ∙ way-lowerable _ _ _ (c .before .before .before .call-rule .ensures) (c .before .enum-told3 .given .1)
+returns-3 c = λ h.
+    c .way-first .ensures h
+    ∙ way-lowerable _ _ _ (c .before .before .before .call-rule .ensures) (c .before .enum-told3 .given .1)
 
 returns-4 : tie.Need-returns-4
-returns-4 c = way-eval _ _ _ (c .before .before .call-rule .ensures) (c .enum-told4 .given .1)
+returns-4 c = λ _. way-eval _ _ _ (c .before .before .call-rule .ensures) (c .enum-told4 .given .1)
 
 returns-5 : tie.Need-returns-5
-returns-5 c = way-kept _ _ _ (c .before .before .call-rule .ensures) (c .enum-told5 .given .1)
+returns-5 c = λ _. way-kept _ _ _ (c .before .before .call-rule .ensures) (c .enum-told5 .given .1)
 
 pub way-of-spec : {M : Type 1} → statement M
 way-of-spec =

@@ -5,13 +5,13 @@ use borrow.Author.Needs.{needs}
 use Rattle.compile.proofs.ends.end_of.Statement.{statement}
 use Rattle.compile.proofs.ends.end_of.Tie as tie
 
-tally-requires : tie.Need-tally-requires
-tally-requires c κs = search needs
+exact-requires : tie.Need-exact-requires
+exact-requires c κs = search needs
 
 add-e : tie.Need-add-e
 add-e c =
     let p1 = c .before in
-    omega (arith, capped-len _ _ (p1 .tally .ensures))
+    omega (arith, capped-len _ _ (p1 .exact .ensures))
 
 cast-result : tie.Need-cast-result
 cast-result c = search needs
@@ -20,7 +20,7 @@ returns : tie.Need-returns
 returns c =
     let p1 = c .before in
     let p3 = p1 .before .before in
-    end-is (p3 .args .code) _ _ (p1 .tally .ensures)
+    end-is (p3 .args .code) _ _ (p1 .exact .ensures)
 
 pub end-of-spec : {M : Type 1} → statement M
-end-of-spec = tie.close (tie.spec tally-requires add-e cast-result returns)
+end-of-spec = tie.close (tie.spec exact-requires add-e cast-result returns)

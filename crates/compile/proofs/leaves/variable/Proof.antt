@@ -1,23 +1,15 @@
 -- A variable: a local, or a name.
-use Prim.Native.Nat.{ℕ}
-use mathlib.Core.List.{List}
-use mathlib.Core.Path.{ap, _∙_}
-use Rattle.sheet.specs.Text.{text}
-use Rattle.lowering.specs.Slots.{resolve}
-use Rattle.slots.specs.Found.{found}
-use Rattle.compile.specs.LeafDoes.{constant-does, load-named-does, variable-local, variable-named}
+use Rattle.store.specs.Does.{held-slots, does-held}
+use Rattle.compile.specs.LeafDoes.{variable-local, variable-named}
 use borrow.Author.Needs.{needs}
 use Rattle.compile.proofs.leaves.variable.Statement.{statement}
 use Rattle.compile.proofs.leaves.variable.Tie as tie
 
-field-a-requires : tie.Need-field-a-requires
-field-a-requires c κs = search needs
+layout-of-requires : tie.Need-layout-of-requires
+layout-of-requires c κs = search needs
 
-text-requires : tie.Need-text-requires
-text-requires c κs = search needs
-
-resolve-requires : tie.Need-resolve-requires
-resolve-requires c κs = search needs
+local-of-requires : tie.Need-local-of-requires
+local-of-requires c κs = search needs
 
 enum-known-found : tie.Need-enum-known-found
 enum-known-found c = search needs
@@ -39,12 +31,10 @@ returns c = λ l table.
     let p2 = c .before .before in
     let p6 = p2 .before .before .before .before in
     let p8 = p6 .before .before in
-    let p9 = p8 .before in
-    let p10 = p9 .before in
-    let p13 = p10 .before .before .before in
-    let s = p13 .args .s .now in
-    let is = p8 .resolve .ensures ∙ ap (λ (b : List ℕ). found (resolve s b)) (p9 .text .ensures ∙ ap (text s) (p10 .field-a .ensures)) in
-    λ p v. variable-local _ _ _ is (p6 .found .given .1) (p2 .emit .ensures l table _ tt)
+    λ p v.
+    does-held (λ a h.
+    variable-local _ _ _ (p8 .local-of .ensures (held-slots (p8 .before .layout-of .ensures) h)) (p6 .found .given .1)
+    (p2 .emit .ensures l table _ tt))
 
 same-length-2 : tie.Need-same-length-2
 same-length-2 c = search needs
@@ -54,20 +44,17 @@ returns-2 c = λ l table.
     let p2 = c .before .before in
     let p5 = p2 .before .before .before in
     let p7 = p5 .before .before in
-    let p8 = p7 .before in
-    let p9 = p8 .before in
-    let p12 = p9 .before .before .before in
-    let s = p12 .args .s .now in
-    let is = p7 .resolve .ensures ∙ ap (λ (b : List ℕ). found (resolve s b)) (p8 .text .ensures ∙ ap (text s) (p9 .field-a .ensures)) in
-    λ p v. variable-named _ _ is (p5 .enum-told .given .1) (p2 .load-named .ensures l table p v)
+    λ p v.
+    does-held (λ a h.
+    variable-named _ _ (p7 .local-of .ensures (held-slots (p7 .before .layout-of .ensures) h)) (p5 .enum-told .given .1)
+    (p2 .load-named .ensures l table p v))
 
 pub variable-spec : {M : Type 1} → statement M
 variable-spec =
     tie.close
     (tie.spec
-    field-a-requires
-    text-requires
-    resolve-requires
+    layout-of-requires
+    local-of-requires
     enum-known-found
     emit-requires
     enum-told

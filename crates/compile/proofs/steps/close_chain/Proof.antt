@@ -20,13 +20,13 @@ same-length : tie.Need-same-length
 same-length c = search needs
 
 returns : tie.Need-returns
-returns c = λ l table.
+returns c = λ l takes table.
     let p2 = c .before .before in
     let p3 = p2 .before in
     let p4 = p3 .before in
     let p8 = p4 .before .before .before .before in
     let p9 = p8 .before in
-    λ v a p h room. close-does _ _ _ _ a (p4 .position .ensures) (p3 .popped .ensures) (p9 .add-chain .ensures l .place a h p)
+    λ v a p h room. close-does _ _ _ _ a (p4 .position .ensures) (p3 .popped .ensures takes) (p9 .add-chain .ensures l .place a h p)
     (p9 .add-chain .ensures l .holds v a h p) (p2 .emit .ensures l table _ tt) room
 
 pub close-chain-spec : {M : Type 1} → statement M

@@ -1,17 +1,9 @@
 -- A chain has few operands, so the sum does not wrap.
-use native.Mathlib.Omega.{arith}
-use Rattle.compile.specs.StepDoes.{operands-few, temporary-few, popped-is}
+use mathlib.Core.Path.{_∙_}
+use Rattle.compile.specs.StepDoes.{popped-is}
 use borrow.Author.Needs.{needs}
 use Rattle.compile.proofs.steps.popped.Statement.{statement}
 use Rattle.compile.proofs.steps.popped.Tie as tie
-use Rattle.compile.proofs.steps.popped.Reads as reads
-use Rattle.compile.proofs.steps.popped.Lts as lts
-use Rattle.chains.proofs.operands.Reads as operands-reads
-use Rattle.counting.proofs.links.temporary.Reads as temporary-reads
-use Rattle.sheet.proofs.child.Reads as child-reads
-
-operands-requires : tie.Need-operands-requires
-operands-requires c κs = search needs
 
 child-requires : tie.Need-child-requires
 child-requires c κs = search needs
@@ -19,12 +11,15 @@ child-requires c κs = search needs
 temporary-requires : tie.Need-temporary-requires
 temporary-requires c κs = search needs
 
-add-result : tie.Need-add-result
-add-result c = omega (arith, c .before .before .operands .ensures, c .temporary .ensures, operands-few (c .before .before .before .before .args .s .now) (c .before .before .before .before .args .j), temporary-few (c .before .before .before .before .args .s .now) (c .before .child .result))
+wrapping-add-u32-requires : tie.Need-wrapping-add-u32-requires
+wrapping-add-u32-requires c κs = search needs
 
 returns : tie.Need-returns
-returns c = popped-is (c .before .before .before .before .args .s .now) (c .before .before .before .before .args .j) _ _ (c .before .child .result) (c .before .before .operands .ensures) (c .temporary .ensures) (c .before .child .ensures)
+returns c =
+    let root = c .before .before in
+    let a = root .before .before .args in
+    λ e. c .wrapping-add-u32 .ensures
+    ∙ popped-is (a .s .now) (a .j) (a .n) _ (root .child .result) e (c .before .temporary .ensures) (root .child .ensures)
 
 pub popped-spec : {M : Type 1} → statement M
-popped-spec =
-    tie.close (tie.spec operands-requires child-requires temporary-requires add-result returns)
+popped-spec = tie.close (tie.spec child-requires temporary-requires wrapping-add-u32-requires returns)

@@ -4,13 +4,14 @@ use native.Mathlib.Omega.{arith}
 use Prim.Native.Nat.{_+_, _-_}
 use Rattle.rules.specs.Inverse.{firstFrom}
 use Rattle.counting.specs.PlanLaws.{call-at, rotates-least}
+use Rattle.counting.specs.Locals.{answer}
 use Rattle.counting.specs.Plan.{otherArgs, rotates, callBy}
 use borrow.Author.Needs.{needs}
 use Rattle.counting.proofs.plans.call.Statement.{statement}
 use Rattle.counting.proofs.plans.call.Tie as tie
 
-receiver-requires : tie.Need-receiver-requires
-receiver-requires c κs = search needs
+receiver-by-requires : tie.Need-receiver-by-requires
+receiver-by-requires c κs = search needs
 
 enum-told : tie.Need-enum-told
 enum-told c = search needs
@@ -50,31 +51,42 @@ all-args-requires c κs = search needs
 
 returns : tie.Need-returns
 unfolding callBy firstFrom
-returns c = let a = c .before .before .before .before .before .args in c .other-args .ensures ∙ call-at (a .s .now) (a .j) _ (sym (c .before .before .before .receiver .ensures) ∙ c .before .enum-told .given .1)
+returns c =
+    let a = c .before .before .before .before .before .before .args in
+    c .other-args .ensures ∙ call-at (a .s .now) (a .j) (answer (a .told .now) (a .s .now)) _
+    (sym (c .before .before .before .receiver-by .ensures) ∙ c .before .enum-told .given .1)
 
 returns-2 : tie.Need-returns-2
 unfolding callBy firstFrom
 returns-2 c =
-    let a = c .before .before .before .before .before .before .before .before .args in
+    let a = c .before .before .before .before .before .before .before .before .before .args in
     let s = a .s .now in
     let others-is = c .before .before .one-less .ensures ∙ ap (λ n. n - 1) (c .before .before .before .count .ensures) in
     c .other-args2 .ensures
     ∙ ap (λ n. otherArgs s (a .j) (2 + n)) (c .before .rotates .ensures ∙ ap rotates others-is)
-    ∙ call-at s (a .j) _ (sym (c .before .before .before .before .before .before .receiver .ensures) ∙ c .before .before .before .before .enum-told2 .given .1)
+    ∙ call-at s (a .j) (answer (a .told .now) s) _
+    (sym (c .before .before .before .before .before .before .receiver-by .ensures)
+    ∙ c .before .before .before .before .enum-told2 .given .1)
 
 returns-3 : tie.Need-returns-3
 unfolding callBy firstFrom
-returns-3 c = let a = c .before .before .before .before .before .args in c .other-args3 .ensures ∙ call-at (a .s .now) (a .j) _ (sym (c .before .before .before .receiver .ensures) ∙ c .before .enum-told3 .given .1)
+returns-3 c =
+    let a = c .before .before .before .before .before .before .args in
+    c .other-args3 .ensures ∙ call-at (a .s .now) (a .j) (answer (a .told .now) (a .s .now)) _
+    (sym (c .before .before .before .receiver-by .ensures) ∙ c .before .enum-told3 .given .1)
 
 returns-4 : tie.Need-returns-4
 unfolding callBy firstFrom
-returns-4 c = let a = c .before .before .before .before .before .args in c .all-args .ensures ∙ call-at (a .s .now) (a .j) _ (sym (c .before .before .before .receiver .ensures) ∙ c .before .enum-told4 .given .1)
+returns-4 c =
+    let a = c .before .before .before .before .before .before .args in
+    c .all-args .ensures ∙ call-at (a .s .now) (a .j) (answer (a .told .now) (a .s .now)) _
+    (sym (c .before .before .before .receiver-by .ensures) ∙ c .before .enum-told4 .given .1)
 
 pub call-spec : {M : Type 1} → statement M
 call-spec =
     tie.close
     (tie.spec
-    receiver-requires
+    receiver-by-requires
     enum-told
     other-args-requires
     enum-told-2

@@ -2,6 +2,7 @@
 use mathlib.Core.Path.{ap, sym, _∙_}
 use Rattle.rules.specs.Inverse.{callRuleFrom}
 use Rattle.counting.specs.PlanLaws.{fn-call-at}
+use Rattle.counting.specs.Locals.{answer}
 use Rattle.counting.specs.Plan.{alone, fnCallBy}
 use borrow.Author.Needs.{needs}
 use Rattle.counting.proofs.plans.fn_call.Statement.{statement}
@@ -45,23 +46,38 @@ one-requires c κs = search needs
 
 returns : tie.Need-returns
 unfolding fnCallBy callRuleFrom
-returns c = let a = c .before .before .before .before .before .args in c .make-fn-ptr .ensures ∙ fn-call-at (a .s .now) (a .j) _ (sym (c .before .before .before .call-rule .ensures) ∙ c .before .enum-told .given .1)
+returns c =
+    let a = c .before .before .before .before .before .before .args in
+    c .make-fn-ptr .ensures ∙ fn-call-at (a .s .now) (a .j) (answer (a .told .now) (a .s .now)) _
+    (sym (c .before .before .before .call-rule .ensures) ∙ c .before .enum-told .given .1)
 
 returns-2 : tie.Need-returns-2
 unfolding fnCallBy callRuleFrom
-returns-2 c = let a = c .before .before .before .before .before .args in c .all-args .ensures ∙ fn-call-at (a .s .now) (a .j) _ (sym (c .before .before .before .call-rule .ensures) ∙ c .before .enum-told2 .given .1)
+returns-2 c =
+    let a = c .before .before .before .before .before .before .args in
+    c .all-args .ensures ∙ fn-call-at (a .s .now) (a .j) (answer (a .told .now) (a .s .now)) _
+    (sym (c .before .before .before .call-rule .ensures) ∙ c .before .enum-told2 .given .1)
 
 returns-3 : tie.Need-returns-3
 unfolding fnCallBy callRuleFrom
-returns-3 c = let a = c .before .before .before .before .before .args in c .call .ensures ∙ fn-call-at (a .s .now) (a .j) _ (sym (c .before .before .before .call-rule .ensures) ∙ c .before .enum-told3 .given .1)
+returns-3 c =
+    let a = c .before .before .before .before .before .before .args in
+    c .call .ensures ∙ fn-call-at (a .s .now) (a .j) (answer (a .told .now) (a .s .now)) _
+    (sym (c .before .before .before .call-rule .ensures) ∙ c .before .enum-told3 .given .1)
 
 returns-4 : tie.Need-returns-4
 unfolding fnCallBy callRuleFrom
-returns-4 c = let a = c .before .before .before .before .before .before .args in c .alone .ensures ∙ ap alone (c .before .evaluation .ensures) ∙ fn-call-at (a .s .now) (a .j) _ (sym (c .before .before .before .before .call-rule .ensures) ∙ c .before .before .enum-told4 .given .1)
+returns-4 c =
+    let a = c .before .before .before .before .before .before .before .args in
+    c .alone .ensures ∙ ap alone (c .before .evaluation .ensures) ∙ fn-call-at (a .s .now) (a .j) (answer (a .told .now) (a .s .now)) _
+    (sym (c .before .before .before .before .call-rule .ensures) ∙ c .before .before .enum-told4 .given .1)
 
 returns-5 : tie.Need-returns-5
 unfolding fnCallBy callRuleFrom
-returns-5 c = let a = c .before .before .before .before .before .args in c .one .ensures ∙ fn-call-at (a .s .now) (a .j) _ (sym (c .before .before .before .call-rule .ensures) ∙ c .before .enum-told5 .given .1)
+returns-5 c =
+    let a = c .before .before .before .before .before .before .args in
+    c .one .ensures ∙ fn-call-at (a .s .now) (a .j) (answer (a .told .now) (a .s .now)) _
+    (sym (c .before .before .before .call-rule .ensures) ∙ c .before .enum-told5 .given .1)
 
 pub fn-call-spec : {M : Type 1} → statement M
 fn-call-spec =

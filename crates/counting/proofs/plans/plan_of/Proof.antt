@@ -2,6 +2,7 @@
 use mathlib.Core.Path.{sym, _∙_}
 use Rattle.rules.specs.Inverse.{ruleFrom}
 use Rattle.counting.specs.PlanLaws.{plan-at}
+use Rattle.counting.specs.Locals.{answer}
 use Rattle.counting.specs.Plan.{planBy}
 use borrow.Author.Needs.{needs}
 use Rattle.counting.proofs.plans.plan_of.Statement.{statement}
@@ -84,55 +85,92 @@ one-requires-6 c κs = search needs
 
 returns : tie.Need-returns
 unfolding planBy ruleFrom
-returns c = let a = c .before .before .before .before .before .args in c .one .ensures ∙ plan-at (a .s .now) (a .j) _ (sym (c .before .before .before .rule .ensures) ∙ c .before .enum-told .given .1)
+returns c =
+    let a = c .before .before .before .before .before .before .args in
+    c .one .ensures ∙ plan-at (a .s .now) (a .j) (answer (a .told .now) (a .s .now)) _
+    (sym (c .before .before .before .rule .ensures) ∙ c .before .enum-told .given .1)
 
 returns-2 : tie.Need-returns-2
 unfolding planBy ruleFrom
-returns-2 c = let a = c .before .before .before .before .before .args in c .one2 .ensures ∙ plan-at (a .s .now) (a .j) _ (sym (c .before .before .before .rule .ensures) ∙ c .before .enum-told2 .given .1)
+returns-2 c =
+    let a = c .before .before .before .before .before .before .args in
+    c .one2 .ensures ∙ plan-at (a .s .now) (a .j) (answer (a .told .now) (a .s .now)) _
+    (sym (c .before .before .before .rule .ensures) ∙ c .before .enum-told2 .given .1)
 
 returns-3 : tie.Need-returns-3
 unfolding planBy ruleFrom
-returns-3 c = let a = c .before .before .before .before .before .args in c .one3 .ensures ∙ plan-at (a .s .now) (a .j) _ (sym (c .before .before .before .rule .ensures) ∙ c .before .enum-told3 .given .1)
+returns-3 c =
+    let a = c .before .before .before .before .before .before .args in
+    c .one3 .ensures ∙ plan-at (a .s .now) (a .j) (answer (a .told .now) (a .s .now)) _
+    (sym (c .before .before .before .rule .ensures) ∙ c .before .enum-told3 .given .1)
 
 returns-4 : tie.Need-returns-4
 unfolding planBy ruleFrom
-returns-4 c = let a = c .before .before .before .before .before .args in c .interpolated .ensures ∙ plan-at (a .s .now) (a .j) _ (sym (c .before .before .before .rule .ensures) ∙ c .before .enum-told4 .given .1)
+returns-4 c =
+    let a = c .before .before .before .before .before .before .args in
+    c .interpolated .ensures ∙ plan-at (a .s .now) (a .j) (answer (a .told .now) (a .s .now)) _
+    (sym (c .before .before .before .rule .ensures) ∙ c .before .enum-told4 .given .1)
 
 returns-5 : tie.Need-returns-5
 unfolding planBy ruleFrom
-returns-5 c = let a = c .before .before .before .before .before .args in c .array .ensures ∙ plan-at (a .s .now) (a .j) _ (sym (c .before .before .before .rule .ensures) ∙ c .before .enum-told5 .given .1)
+returns-5 c =
+    let a = c .before .before .before .before .before .before .args in
+    c .array .ensures ∙ plan-at (a .s .now) (a .j) (answer (a .told .now) (a .s .now)) _
+    (sym (c .before .before .before .rule .ensures) ∙ c .before .enum-told5 .given .1)
 
 returns-6 : tie.Need-returns-6
 unfolding planBy ruleFrom
-returns-6 c = let a = c .before .before .before .before .before .args in c .one4 .ensures ∙ plan-at (a .s .now) (a .j) _ (sym (c .before .before .before .rule .ensures) ∙ c .before .enum-told6 .given .1)
+returns-6 c =
+    let a = c .before .before .before .before .before .before .args in
+    c .one4 .ensures ∙ plan-at (a .s .now) (a .j) (answer (a .told .now) (a .s .now)) _
+    (sym (c .before .before .before .rule .ensures) ∙ c .before .enum-told6 .given .1)
 
 returns-7 : tie.Need-returns-7
 unfolding planBy ruleFrom
-returns-7 c = let a = c .before .before .before .before .before .args in c .one5 .ensures ∙ plan-at (a .s .now) (a .j) _ (sym (c .before .before .before .rule .ensures) ∙ c .before .enum-told7 .given .1)
+returns-7 c =
+    let a = c .before .before .before .before .before .before .args in
+    c .one5 .ensures ∙ plan-at (a .s .now) (a .j) (answer (a .told .now) (a .s .now)) _
+    (sym (c .before .before .before .rule .ensures) ∙ c .before .enum-told7 .given .1)
 
 returns-8 : tie.Need-returns-8
 unfolding planBy ruleFrom
-returns-8 c = let a = c .before .before .before .before .before .args in c .fn-call .ensures ∙ plan-at (a .s .now) (a .j) _ (sym (c .before .before .before .rule .ensures) ∙ c .before .enum-told8 .given .1)
+returns-8 c =
+    let a = c .before .before .before .before .before .before .args in
+    c .fn-call .ensures ∙ plan-at (a .s .now) (a .j) (answer (a .told .now) (a .s .now)) _
+    (sym (c .before .before .before .rule .ensures) ∙ c .before .enum-told8 .given .1)
 
 returns-9 : tie.Need-returns-9
 unfolding planBy ruleFrom
-returns-9 c = let a = c .before .before .before .before .args in plan-at (a .s .now) (a .j) _ (sym (c .before .before .rule .ensures) ∙ c .enum-told9 .given .1)
+returns-9 c =
+    let a = c .before .before .before .before .before .args in
+    plan-at (a .s .now) (a .j) (answer (a .told .now) (a .s .now)) _ (sym (c .before .before .rule .ensures) ∙ c .enum-told9 .given .1)
 
 returns-10 : tie.Need-returns-10
 unfolding planBy ruleFrom
-returns-10 c = let a = c .before .before .before .before .before .args in c .short-circuit .ensures ∙ plan-at (a .s .now) (a .j) _ (sym (c .before .before .before .rule .ensures) ∙ c .before .enum-told10 .given .1)
+returns-10 c =
+    let a = c .before .before .before .before .before .before .args in
+    c .short-circuit .ensures ∙ plan-at (a .s .now) (a .j) (answer (a .told .now) (a .s .now)) _
+    (sym (c .before .before .before .rule .ensures) ∙ c .before .enum-told10 .given .1)
 
 returns-11 : tie.Need-returns-11
 unfolding planBy ruleFrom
-returns-11 c = let a = c .before .before .before .before .before .args in c .short-circuit2 .ensures ∙ plan-at (a .s .now) (a .j) _ (sym (c .before .before .before .rule .ensures) ∙ c .before .enum-told11 .given .1)
+returns-11 c =
+    let a = c .before .before .before .before .before .before .args in
+    c .short-circuit2 .ensures ∙ plan-at (a .s .now) (a .j) (answer (a .told .now) (a .s .now)) _
+    (sym (c .before .before .before .rule .ensures) ∙ c .before .enum-told11 .given .1)
 
 returns-12 : tie.Need-returns-12
 unfolding planBy ruleFrom
-returns-12 c = let a = c .before .before .before .before .args in plan-at (a .s .now) (a .j) _ (sym (c .before .before .rule .ensures) ∙ c .enum-told12 .given .1)
+returns-12 c =
+    let a = c .before .before .before .before .before .args in
+    plan-at (a .s .now) (a .j) (answer (a .told .now) (a .s .now)) _ (sym (c .before .before .rule .ensures) ∙ c .enum-told12 .given .1)
 
 returns-13 : tie.Need-returns-13
 unfolding planBy ruleFrom
-returns-13 c = let a = c .before .before .before .before .before .args in c .one6 .ensures ∙ plan-at (a .s .now) (a .j) _ (sym (c .before .before .before .rule .ensures) ∙ c .before .enum-told13 .given .1)
+returns-13 c =
+    let a = c .before .before .before .before .before .before .args in
+    c .one6 .ensures ∙ plan-at (a .s .now) (a .j) (answer (a .told .now) (a .s .now)) _
+    (sym (c .before .before .before .rule .ensures) ∙ c .before .enum-told13 .given .1)
 
 pub plan-of-spec : {M : Type 1} → statement M
 plan-of-spec =

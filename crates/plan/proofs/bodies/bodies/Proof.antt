@@ -5,8 +5,11 @@ use mathlib.Core.List.{List}
 use native.Mathlib.Omega.{arith}
 use lib.ListN.{length}
 use Rattle.counting.specs.Limits.{cap}
+use Rattle.sheet.specs.Limits.{maxDepth}
+use Rattle.counting.specs.Locals.{answer}
+use Rattle.counting.specs.Count.{tallyBy}
 use Rattle.tables.specs.Columns.{size}
-use Rattle.tables.specs.Table.{Guards}
+use Rattle.tables.specs.Table.{GuardsBy}
 use Rattle.tables.specs.Planned.{wantIn, wantedBy}
 use Rattle.plan.proofs.BodyLaws.{Placing, placing-start, placing-on, placing-end}
 use borrow.Author.Needs.{needs}
@@ -14,19 +17,20 @@ use Rattle.plan.proofs.bodies.bodies.Statement.{statement}
 use Rattle.plan.proofs.bodies.bodies.Tie as tie
 
 abbrev Inv-loop : tie.InvT-loop
-Inv-loop s w₀ n sum₀ k₀ w sum k =
+Inv-loop s told w₀ n sum₀ k₀ w sum k =
     (k ≤ n) × (length w ≡ length w₀) × ((ls : List (List ℕ)) (def : ℕ) → length w₀ ≡ size → n ≤ 64
-    → sum₀ .len ≤ cap → sum₀ .emitted ≤ cap → Guards s w₀ n → ((i : ℕ) → i < n → wantIn w₀ i ≡ wantedBy s def ls i)
-    → Placing s ls def n sum₀ w₀ w sum k)
+    → sum₀ .len ≤ cap → sum₀ .emitted ≤ cap → GuardsBy s (tallyBy (answer told s) maxDepth s) w₀ n
+    → ((i : ℕ) → i < n → wantIn w₀ i ≡ wantedBy s def ls i)
+    → Placing s (tallyBy (answer told s) maxDepth s) ls def n sum₀ w₀ w sum k)
 
 abbrev μ-loop : tie.MeasureT-loop
-μ-loop s w₀ n sum₀ k₀ w sum k = n - k
+μ-loop s told w₀ n sum₀ k₀ w sum k = n - k
 
 loop-holds : tie.Need-loop-holds Inv-loop μ-loop
 loop-holds c = (zero-le, refl, λ ls def z few l m g want. placing-start _ l m)
 
 body-requires : tie.Need-body-requires Inv-loop μ-loop
-body-requires c κs = let test = c .before in omega (arith, test .loop-test .taken, test .before .before .before .before .pre)
+body-requires c κs = let test = c .before in omega (arith, test .loop-test .taken, test .before .before .before .before .before .pre)
 
 add-k : tie.Need-add-k Inv-loop μ-loop
 add-k c = search needs
@@ -41,7 +45,7 @@ loop-again c =
     let v = test .before .loop .inv in
     let h = test .loop-test .taken in (
       omega (arith, h),
-      step .body .kept .1 .0 ∙ v .1,
+      step .body .kept .1 .1 .0 ∙ v .1,
       λ ls def z few l m g want. placing-on (v .2 ls def z few l m g want) (v .1 ∙ z) h few g want (step .body .ensures),
     )
 

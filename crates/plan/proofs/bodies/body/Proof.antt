@@ -49,8 +49,8 @@ returns c =
     let node = sum .before .before in
     let put = node .before .before .before .before in
     let test = put .before .before .before in
-    let w = test .before .before .before .before .before .args .w .now in
-    body-yes _ w _ _ _ _ _ _ _ _ _ _ _ (test .before .get .ensures) (test .if1 .taken) (put .before .word .ensures) (put .put .ensures)
+    let w = test .before .before .before .before .before .before .args .w .now in
+    body-yes _ _ w _ _ _ _ _ _ _ _ _ _ _ (test .before .get .ensures) (test .if1 .taken) (put .before .word .ensures) (put .put .ensures)
     (node .get2 .ensures) (sum .before .next .ensures) (sum .tally .ensures) (c .before .before .instructions .ensures)
     (c .before .plus .ensures) (c .plus2 .ensures)
 
@@ -67,8 +67,8 @@ returns-2 : tie.Need-returns-2
 returns-2 c =
     let put = c .before .before in
     let test = put .before .before in
-    let w = test .before .before .before .before .before .args .w .now in
-    body-no _ w _ _ _ _ (test .before .get .ensures) (test .if1 .left) (put .put2 .ensures)
+    let w = test .before .before .before .before .before .before .args .w .now in
+    body-no _ _ w _ _ _ _ (test .before .get .ensures) (test .if1 .left) (put .put2 .ensures)
 
 pub body-spec : {M : Type 1} → statement M
 body-spec =

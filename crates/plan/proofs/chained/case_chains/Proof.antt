@@ -4,6 +4,7 @@ use mathlib.Core.Path.{_≡_, refl, _∙_}
 use native.Mathlib.Omega.{arith}
 use lib.ListN.{length}
 use Rattle.totals.specs.Total.{caseLists}
+use Rattle.counting.specs.Count.{Rec}
 use Rattle.tables.specs.Columns.{caseHeadsAt, headNodeAt, wantedAt, casePlaceAt, caseExitAt, bodyAt}
 use Rattle.tables.specs.Heads.{caseKey}
 use Rattle.plan.proofs.KeptLaws.{case-count}
@@ -15,7 +16,7 @@ use Rattle.plan.proofs.chained.case_chains.Tie as tie
 abbrev Inv-loop : tie.InvT-loop
 Inv-loop s w₀ n a₀ sum₀ q₀ w a sum q =
     (q ≤ n) × (length w ≡ length w₀) × (n ≤ 64) × (length a ≡ 64)
-    × LaidTo s (caseLists s) casePlaceAt caseExitAt wantedAt bodyAt sum₀ w₀ w sum q
+    × ((t : Rec) → LaidTo s t (caseLists s) casePlaceAt caseExitAt wantedAt bodyAt sum₀ w₀ w sum q)
 
 abbrev μ-loop : tie.MeasureT-loop
 μ-loop s w₀ n a₀ sum₀ q₀ w a sum q = n - q
@@ -31,7 +32,7 @@ capped-requires c κs = search needs
 
 loop-holds : tie.Need-loop-holds Inv-loop μ-loop
 loop-holds c =
-    (zero-le, refl, omega (arith, c .capped .ensures), search needs, λ z ok k T l m. laying-start _ l m)
+    (zero-le, refl, omega (arith, c .capped .ensures), search needs, λ t z ok k T l m. laying-start _ l m)
 
 add-get : tie.Need-add-get Inv-loop μ-loop
 add-get c = record { fits = omega (arith, c .before .loop-test .taken, c .before .before .loop .inv .2) }
@@ -79,8 +80,8 @@ loop-again c =
       step .laid .kept .0 ∙ v .1,
       v .2,
       made .list-of-case .kept .1 .1 .0 ∙ v .3,
-      λ z ok k T l m. head-on (caseKey _) headNodeAt caseHeadsAt (T .case-heads) (omega arith) (omega arith) case-columns
-          (case-named _ ok k) T (v .1 ∙ z) (v .4 z ok k T l m) h (count .capped .ensures) (count .before .get .ensures)
+      λ t z ok k T l m. head-on (caseKey _) headNodeAt caseHeadsAt (T .case-heads) (omega arith) (omega arith) case-columns
+          (case-named _ ok k) T (v .1 ∙ z) (v .4 t z ok k T l m) h (count .capped .ensures) (count .before .get .ensures)
           (made .before .before .get2 .ensures) (made .list-of-case .ensures .1 (omega (arith, v .3))) (step .laid .ensures),
     )
 
@@ -90,7 +91,7 @@ same-length c = c .before .loop .inv .1
 returns : tie.Need-returns Inv-loop μ-loop
 returns c =
     let count = c .before .before in
-    λ z ok k T l m. laying-end (c .before .loop .inv .4 z ok k T l m)
+    λ t z ok k T l m. laying-end (c .before .loop .inv .4 t z ok k T l m)
     (omega (arith, c .loop-test .left, count .capped .ensures, count .before .get .ensures, case-count T, T .few-heads))
 
 pub case-chains-spec : {M : Type 1} → statement M

@@ -5,6 +5,7 @@ use mathlib.Core.List.{List}
 use native.Mathlib.Omega.{arith}
 use lib.ListN.{length, drop}
 use Rattle.plan.specs.Chain.{Reads}
+use Rattle.counting.specs.Count.{Rec}
 use Rattle.plan.proofs.ChainLaws.{Chaining, chaining-start, chain-never, chain-always, chain-tried, chain-end}
 use borrow.Author.Needs.{needs}
 use Rattle.plan.proofs.chained.chain_of.Statement.{statement}
@@ -12,7 +13,7 @@ use Rattle.plan.proofs.chained.chain_of.Tie as tie
 
 abbrev Inv-loop : tie.InvT-loop
 Inv-loop w₀ a n sum₀ tried₀ i₀ w sum tried i =
-    (i ≤ n) × (length w ≡ length w₀) × ((s l : List ℕ) → Reads s w₀ a n l → Chaining s l w₀ w sum tried (drop i l))
+    (i ≤ n) × (length w ≡ length w₀) × ((s : List ℕ) (t : Rec) (l : List ℕ) → Reads s t w₀ a n l → Chaining s t l w₀ w sum tried (drop i l))
 
 abbrev μ-loop : tie.MeasureT-loop
 μ-loop w₀ a n sum₀ tried₀ i₀ w sum tried i = n - i
@@ -21,7 +22,7 @@ nothing-requires : tie.Need-nothing-requires Inv-loop μ-loop
 nothing-requires c κs = search needs
 
 loop-holds : tie.Need-loop-holds Inv-loop μ-loop
-loop-holds c = (zero-le, refl, λ s l R. chaining-start s l _ _ (c .nothing .ensures))
+loop-holds c = (zero-le, refl, λ s t l R. chaining-start s t l _ _ (c .nothing .ensures))
 
 get-requires : tie.Need-get-requires Inv-loop μ-loop
 get-requires c κs = search needs
@@ -49,7 +50,7 @@ loop-again c =
     let h = test .loop-test .taken in (
       omega (arith, h),
       v .1,
-      λ s l R. chain-never s l _ _ _ R _ _ _ _ (v .2 s l R) _ _ h (read .get .ensures) (c .before .get2 .ensures) (c .if1 .taken),
+      λ s t l R. chain-never s t l _ _ _ R _ _ _ _ (v .2 s t l R) _ _ h (read .get .ensures) (c .before .get2 .ensures) (c .if1 .taken),
     )
 
 add-put : tie.Need-add-put Inv-loop μ-loop
@@ -76,7 +77,7 @@ returns c =
     let kind = put .before .before .before in
     let test = kind .before .before .before in
     let v = test .before .loop .inv in
-    λ s l R. chain-always s l _ _ _ R _ _ _ _ (v .2 s l R) _ _ (test .loop-test .taken) (kind .before .before .get .ensures)
+    λ s t l R. chain-always s t l _ _ _ R _ _ _ _ (v .2 s t l R) _ _ (test .loop-test .taken) (kind .before .before .get .ensures)
     (kind .get2 .ensures) (v .1) _ (put .put .ensures) _ _ _ (if2 .if2 .taken) (c .ended .ensures .0) (c .ended .ensures .1)
     (c .before .body-of .ensures)
 
@@ -102,7 +103,8 @@ loop-again-2 c =
     let h = test .loop-test .taken in (
       omega (arith, h),
       put .put .kept .0 ∙ v .1,
-      λ s l R. chain-tried s l _ _ _ R _ _ _ _ (v .2 s l R) _ _ h (if1 .before .before .before .get .ensures) (if1 .before .get2 .ensures)
+      λ s t l R. chain-tried s t l _ _ _ R _ _ _ _ (v .2 s t l R) _ _ h (if1 .before .before .before .get .ensures)
+          (if1 .before .get2 .ensures)
           (v .1) _ (put .put .ensures) _ _ (if1 .if1 .left) (if2 .if2 .left) (c .before .added .ensures) (c .plus .ensures),
     )
 
@@ -115,7 +117,7 @@ same-length-2 c = c .before .before .loop .inv .1
 returns-2 : tie.Need-returns-2 Inv-loop μ-loop
 returns-2 c =
     let test = c .before in
-    λ s l R. chain-end s l _ _ _ R _ _ _ _ (test .before .loop .inv .2 s l R) _ _ (test .loop-test .left) (c .ended2 .ensures .0)
+    λ s t l R. chain-end s t l _ _ _ R _ _ _ _ (test .before .loop .inv .2 s t l R) _ _ (test .loop-test .left) (c .ended2 .ensures .0)
     (c .ended2 .ensures .1)
 
 pub chain-of-spec : {M : Type 1} → statement M

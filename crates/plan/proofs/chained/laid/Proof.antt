@@ -27,7 +27,7 @@ returns c =
     let exit = c .before .before .before in
     let place = exit .before .before .before .before in
     let chain = place .before .before .before .before .before in
-    λ s l R C small. laid-one R C small (chain .chain-of .ensures s l R) (chain .chain-of .kept .0) (place .put .ensures)
+    λ s t l R C small. laid-one R C small (chain .chain-of .ensures s t l R) (chain .chain-of .kept .0) (place .put .ensures)
     (place .before .word .ensures) (exit .put2 .ensures) (c .plus .ensures)
 
 pub laid-spec : {M : Type 1} → statement M

@@ -5,6 +5,7 @@ use mathlib.Core.List.{List}
 use native.Mathlib.Omega.{arith}
 use lib.ListN.{length}
 use Rattle.totals.specs.Total.{splitLists}
+use Rattle.counting.specs.Count.{Rec}
 use Rattle.tables.specs.Columns.{runHeadsAt, runHeadAt, runPlaceAt, runExitAt, casePlaceAt}
 use Rattle.tables.specs.Table.{pieceIn}
 use Rattle.tables.specs.Planned.{entries}
@@ -17,7 +18,7 @@ use Rattle.plan.proofs.chained.run_chains.Tie as tie
 abbrev Inv-loop : tie.InvT-loop
 Inv-loop w₀ n a₀ sum₀ q₀ w a sum q =
     (q ≤ n) × (length w ≡ length w₀) × (n ≤ 255) × (length a ≡ 64)
-    × ((s : List ℕ) → LaidTo s (splitLists (entries s)) runPlaceAt runExitAt runPlaceAt casePlaceAt sum₀ w₀ w sum q)
+    × ((s : List ℕ) (t : Rec) → LaidTo s t (splitLists (entries s)) runPlaceAt runExitAt runPlaceAt casePlaceAt sum₀ w₀ w sum q)
 
 abbrev μ-loop : tie.MeasureT-loop
 μ-loop w₀ n a₀ sum₀ q₀ w a sum q = n - q
@@ -33,7 +34,7 @@ capped-runs-requires c κs = search needs
 
 loop-holds : tie.Need-loop-holds Inv-loop μ-loop
 loop-holds c =
-    (zero-le, refl, omega (arith, c .capped-runs .ensures), search needs, λ s z ok k T l m. laying-start _ l m)
+    (zero-le, refl, omega (arith, c .capped-runs .ensures), search needs, λ s t z ok k T l m. laying-start _ l m)
 
 add-get : tie.Need-add-get Inv-loop μ-loop
 add-get c = record { fits = omega (arith, c .before .loop-test .taken, c .before .before .loop .inv .2) }
@@ -81,8 +82,8 @@ loop-again c =
       step .laid .kept .0 ∙ v .1,
       v .2,
       made .list-of-piece .kept .1 .1 .0 ∙ v .3,
-      λ s z ok k T l m.
-          let c′ = v .4 s z ok k T l m in
+      λ s t z ok k T l m.
+          let c′ = v .4 s t z ok k T l m in
           head-on (pieceIn _) runHeadAt runHeadsAt (T .run-heads) (omega arith) (omega arith) run-columns (run-named s ok k) T (v .1 ∙ z) c′
           h (count .capped-runs .ensures) (count .before .get .ensures) (made .before .before .get2 .ensures)
           (piece-listed _ T (c′ .within) (omega arith) (λ few. made .list-of-piece .ensures .1 few (omega (arith, v .3))))
@@ -95,7 +96,7 @@ same-length c = c .before .loop .inv .1
 returns : tie.Need-returns Inv-loop μ-loop
 returns c =
     let count = c .before .before in
-    λ s z ok k T l m. laying-end (c .before .loop .inv .4 s z ok k T l m)
+    λ s t z ok k T l m. laying-end (c .before .loop .inv .4 s t z ok k T l m)
     (omega (arith, c .loop-test .left, count .capped-runs .ensures, count .before .get .ensures, run-count T, T .few-run-heads))
 
 pub run-chains-spec : {M : Type 1} → statement M

@@ -9,10 +9,10 @@ field-a-requires : tie.Need-field-a-requires
 field-a-requires c κs = search needs
 
 returns : tie.Need-returns
-returns c = known-never _ _ (sym (c .before .field-a .ensures) ∙ c .if1 .taken)
+returns c = λ t. known-never _ t _ (sym (c .before .field-a .ensures) ∙ c .if1 .taken)
 
 returns-2 : tie.Need-returns-2
-returns-2 c = known-always _ _ (λ e. c .if1 .left (c .before .field-a .ensures ∙ e))
+returns-2 c = λ t. known-always _ t _ (λ e. c .if1 .left (c .before .field-a .ensures ∙ e))
 
 pub constant-spec : {M : Type 1} → statement M
 constant-spec = tie.close (tie.spec field-a-requires returns returns-2)

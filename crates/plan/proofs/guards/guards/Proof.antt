@@ -4,6 +4,9 @@ use mathlib.Core.Path.{_≡_, refl, subst, _∙_}
 use native.Mathlib.Omega.{arith}
 use lib.ListN.{length}
 use Rattle.lowering.specs.SwitchSheet.{guardOf}
+use Rattle.sheet.specs.Limits.{maxDepth}
+use Rattle.counting.specs.Locals.{answer}
+use Rattle.counting.specs.Count.{tallyBy}
 use Rattle.tables.specs.Columns.{size}
 use Rattle.plan.proofs.GuardLaws.{Filled, filled-none, filled-on, first-guard, next-guard, behind-guards}
 use borrow.Author.Needs.{needs}
@@ -11,11 +14,11 @@ use Rattle.plan.proofs.guards.guards.Statement.{statement}
 use Rattle.plan.proofs.guards.guards.Tie as tie
 
 abbrev Inv-loop : tie.InvT-loop
-Inv-loop s w₀ n j₀ k₀ w j k =
-    (k ≤ n) × (j ≡ guardOf s k) × (length w ≡ length w₀) × (length w₀ ≡ size → Filled s w₀ w k)
+Inv-loop s told w₀ n j₀ k₀ w j k =
+    (k ≤ n) × (j ≡ guardOf s k) × (length w ≡ length w₀) × (length w₀ ≡ size → Filled s (tallyBy (answer told s) maxDepth s) w₀ w k)
 
 abbrev μ-loop : tie.MeasureT-loop
-μ-loop s w₀ n j₀ k₀ w j k = n - k
+μ-loop s told w₀ n j₀ k₀ w j k = n - k
 
 field-a-requires : tie.Need-field-a-requires Inv-loop μ-loop
 field-a-requires c κs = search needs
@@ -34,7 +37,7 @@ next-requires c κs = search needs
 
 loop-holds : tie.Need-loop-holds Inv-loop μ-loop
 loop-holds c =
-    (zero-le, first-guard _ (c .before .child .ensures) (c .next .ensures), refl, λ z. filled-none _ _)
+    (zero-le, first-guard _ (c .before .child .ensures) (c .next .ensures), refl, λ z. filled-none _ _ _)
 
 put-guard-requires : tie.Need-put-guard-requires Inv-loop μ-loop
 put-guard-requires c κs =
@@ -61,8 +64,8 @@ loop-again c =
     let n = test .before .before .before .before .capped .ensures in (
       omega (arith, h),
       next-guard _ _ (v .1) (c .before .next2 .ensures) (c .next3 .ensures),
-      step .put-guard .kept .1 .0 ∙ v .2,
-      λ z. filled-on _ _ _ _ _ _ (v .3 z) (v .2 ∙ z) (omega (arith, h, n)) (v .1) (step .put-guard .ensures),
+      step .put-guard .kept .1 .1 .0 ∙ v .2,
+      λ z. filled-on _ _ _ _ _ _ _ (v .3 z) (v .2 ∙ z) (omega (arith, h, n)) (v .1) (step .put-guard .ensures),
     )
 
 same-length : tie.Need-same-length Inv-loop μ-loop
@@ -76,7 +79,7 @@ returns c =
     let m = count .before .field-a .ensures in
     let l = c .loop-test .left in (
       λ few. behind-guards _ (v .1) (omega (arith, v .0, l, n, m, few)),
-      λ z. subst (Filled _ _ _) (omega (arith, v .0, l, n, m)) (v .3 z),
+      λ z. subst (Filled _ _ _ _) (omega (arith, v .0, l, n, m)) (v .3 z),
     )
 
 pub guards-spec : {M : Type 1} → statement M

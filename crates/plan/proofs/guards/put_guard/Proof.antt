@@ -27,8 +27,8 @@ returns : tie.Need-returns
 returns c =
     let known = c .before .before in
     let test = known .before .before .before in
-    with-guard _ _ _ _ _ _ _ (test .before .before .before .before .put .ensures) (known .put-known .ensures)
-    (known .before .constant .ensures (sym (test .before .kind .ensures) ∙ test .if1 .taken))
+    with-guard _ _ _ _ _ _ _ _ (test .before .before .before .before .put .ensures) (known .put-known .ensures)
+    (known .before .constant .ensures _ (sym (test .before .kind .ensures) ∙ test .if1 .taken))
 
 tally-requires : tie.Need-tally-requires
 tally-requires c κs = search needs
@@ -60,8 +60,8 @@ returns-2 c =
     let words = known .before in
     let sum = words .before .before .before .before in
     let test = sum .before .before .before in
-    with-guard _ _ _ _ _ _ _ (test .before .before .before .before .put .ensures) (known .put-known2 .ensures)
-    (known-tried _ _ _ _ _ _ _ _ (λ e. test .if1 .left (test .before .kind .ensures ∙ e)) (sum .plus .ensures)
+    with-guard _ _ _ _ _ _ _ _ (test .before .before .before .before .put .ensures) (known .put-known2 .ensures)
+    (known-tried _ _ _ _ _ _ _ _ _ (λ e. test .if1 .left (test .before .kind .ensures ∙ e)) (sum .plus .ensures)
     (sum .before .before .tally .ensures) (sum .before .instructions .ensures) (words .before .before .tried .ensures)
     (words .before .word .ensures) (words .word2 .ensures))
 

@@ -11,9 +11,6 @@ use Rattle.rules.proofs.calls.variable_first.Tie as tie
 field-a-requires : tie.Need-field-a-requires
 field-a-requires c κs = search needs
 
-text-requires : tie.Need-text-requires
-text-requires c κs = search needs
-
 resolve-requires : tie.Need-resolve-requires
 resolve-requires c κs = search needs
 
@@ -25,18 +22,18 @@ enum-told c = search needs
 
 returns : tie.Need-returns
 returns c =
-    let a = c .before .before .before .before .before .before .before .args in
+    let sought = c .before .before .before in
+    let a = sought .before .before .before .args in
     let s = a .s .now in
-    let name-is = c .before .before .before .before .text .ensures ∙ ap (text s) (c .before .before .before .before .before .field-a .ensures) in
-    let found-is = c .before .before .before .resolve .ensures ∙ ap (λ b. found (resolve s b)) name-is in
+    let found-is = sought .resolve .ensures ∙ ap (λ t. found (resolve s (text s t))) (sought .before .field-a .ensures) in
     variable-local s (a .v) _ (sym found-is ∙ c .before .found .given .1)
 
 returns-2 : tie.Need-returns-2
 returns-2 c =
-    let a = c .before .before .before .before .before .before .args in
+    let sought = c .before .before in
+    let a = sought .before .before .before .args in
     let s = a .s .now in
-    let name-is = c .before .before .before .text .ensures ∙ ap (text s) (c .before .before .before .before .field-a .ensures) in
-    let found-is = c .before .before .resolve .ensures ∙ ap (λ b. found (resolve s b)) name-is in
+    let found-is = sought .resolve .ensures ∙ ap (λ t. found (resolve s (text s t))) (sought .before .field-a .ensures) in
     variable-named s (a .v) (sym found-is ∙ c .enum-told .given .1)
 
 pub variable-first-spec : {M : Type 1} → statement M
@@ -44,7 +41,6 @@ variable-first-spec =
     tie.close
     (tie.spec
     field-a-requires
-    text-requires
     resolve-requires
     enum-known-found
     enum-told

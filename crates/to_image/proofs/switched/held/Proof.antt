@@ -10,8 +10,8 @@ effects-requires c κs = search needs
 start-requires : tie.Need-start-requires
 start-requires c κs = search needs
 
-clear-index-requires : tie.Need-clear-index-requires
-clear-index-requires c κs = search needs
+begin-requires : tie.Need-begin-requires
+begin-requires c κs = search needs
 
 switch-requires : tie.Need-switch-requires
 switch-requires c κs = search needs
@@ -34,7 +34,7 @@ returns c =
     let switched = added .before .before .before .before .before .before in
     let cleared = switched .before .before .before .before .before .before .before in
     let begun = cleared .before .before in
-    λ P. settled _ _ _ _ _ _ (begun .start .result) _ _ _ _ _ P (begun .start .ensures) (cleared .clear-index .ensures)
+    λ P. settled _ _ _ _ _ _ (begun .start .result) _ _ _ _ _ P (begun .start .ensures) (cleared .begin .ensures)
     (switched .switch .ensures _ (begun .before .effects .ensures)) (added .case-consts .ensures .0 _) (added .case-consts .ensures .1 .0 _)
     (added .case-consts .ensures .1 .1) (c .state-of .ensures)
 
@@ -44,7 +44,7 @@ held-spec =
     (tie.spec
     effects-requires
     start-requires
-    clear-index-requires
+    begin-requires
     switch-requires
     case-consts-requires
     state-of-requires

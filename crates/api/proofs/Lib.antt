@@ -1,0 +1,2 @@
+-- What the functions tell of each other.
+pub mod Foretold

@@ -1,0 +1,2 @@
+-- Laws of what is walked along the links of a chain.
+mod WalkedLaws

@@ -1,0 +1,2 @@
+-- Laws of counts by different locals.
+pub mod BoundLaws

@@ -1,0 +1,137 @@
+-- Laws of receivers as a count has them: one for each way through the code, and by the definition's locals a call has its own plan.
+use Prim.Native.Nat.{ℕ, zero, suc, _*_}
+use mathlib.Core.Path.{_≡_, refl, sym, ap, _∙_}
+use mathlib.Core.Bool.{Bool, true, false, _&&_, not}
+use mathlib.Core.Option.{Option, none, some}
+use mathlib.Core.List.{List, [], _∷_}
+use lib.Dec.{eqb, leb}
+use lib.ListN.{length, getD}
+use borrow.Author.Tests.{eq-eqb, ne-eqb}
+use Rattle.sheet.specs.Node.{kind, fieldA, fieldB, fieldC, count, child}
+use Rattle.sheet.specs.Text.{text}
+use Rattle.lowering.specs.Kinds.{variableKind, thisKind}
+use Rattle.lowering.specs.Slots.{resolve}
+use Rattle.lowering.specs.Call as Call
+use Rattle.lowering.specs.Call.{variableFirst, receiver}
+use Rattle.slots.specs.declared.Found.the-variants.{At, Nothing}
+use Rattle.slots.specs.Found.{found}
+use Rattle.rules.specs.declared.calls.First as Firsts
+use Rattle.rules.specs.Answers.{firstOf}
+use Rattle.counting.specs.Locals.{isLocal, toldBy, answer, variableBy, firstBy, receiverBy}
+use Rattle.counting.specs.Plan.{callBy}
+
+-- ---- the definition's locals
+
+module _ (s : List ℕ) (j : ℕ) where
+  variable-same : (v : ℕ) → callBy (variableBy (isLocal s) v) s j ≡ callBy (variableFirst s v) s j
+  unfolding variableBy isLocal variableFirst callBy
+  variable-same v = by (resolve s (text s (fieldA s v))) refl
+    where
+      by : (o : Option ℕ) → resolve s (text s (fieldA s v)) ≡ o → callBy (variableBy (isLocal s) v) s j ≡ callBy (variableFirst s v) s j
+      by none e = rw (e, isLocal, variableBy, variableFirst)
+      by (some n) e = rw (e, isLocal, variableBy, variableFirst)
+
+  first-same : (v : ℕ) → callBy (firstBy (isLocal s) s v) s j ≡ callBy (Call.firstOf s v) s j
+  unfolding firstBy Call.firstOf
+  first-same v = by (eqb (kind s v) thisKind) (eqb (kind s v) variableKind) refl refl
+    where
+      by : (l m : Bool) → eqb (kind s v) thisKind ≡ l → eqb (kind s v) variableKind ≡ m
+          → callBy (firstBy (isLocal s) s v) s j ≡ callBy (Call.firstOf s v) s j
+      by true m e f = rw (e, firstBy, Call.firstOf)
+      by false true e f = rw (e, f, firstBy, Call.firstOf) (variable-same v)
+      by false false e f = rw (e, f, firstBy, Call.firstOf)
+
+  pub call-same : callBy (receiverBy (isLocal s) s j) s j ≡ callBy (receiver s j) s j
+  unfolding receiverBy receiver
+  call-same = by (eqb (fieldC s j) 0 && eqb (fieldB s j) 0 && leb 1 (count s j)) refl
+    where
+      by : (l : Bool) → (eqb (fieldC s j) 0 && eqb (fieldB s j) 0 && leb 1 (count s j)) ≡ l
+          → callBy (receiverBy (isLocal s) s j) s j ≡ callBy (receiver s j) s j
+      by true e = rw (e, receiverBy, receiver) (first-same (child j))
+      by false e = rw (e, receiverBy, receiver)
+
+-- ---- in the shapes of the code
+
+-- a search among the locals
+module _ (s : List ℕ) (v : ℕ) where
+  pub local-found : (slot : ℕ) → found (resolve s (text s (fieldA s v))) ≡ At slot → true ≡ isLocal s v
+  unfolding isLocal found
+  local-found slot = by (resolve s (text s (fieldA s v))) refl
+    where
+      by : (o : Option ℕ) → resolve s (text s (fieldA s v)) ≡ o → found (resolve s (text s (fieldA s v))) ≡ At slot → true ≡ isLocal s v
+      by none e = rw (e, isLocal) (λ h. cc)
+      by (some n) e = rw (e, isLocal) (λ h. refl)
+
+  pub local-missed : found (resolve s (text s (fieldA s v))) ≡ Nothing → false ≡ isLocal s v
+  unfolding isLocal found
+  local-missed = by (resolve s (text s (fieldA s v))) refl
+    where
+      by : (o : Option ℕ) → resolve s (text s (fieldA s v)) ≡ o → found (resolve s (text s (fieldA s v))) ≡ Nothing → false ≡ isLocal s v
+      by none e = rw (e, isLocal) (λ h. refl)
+      by (some n) e = rw (e, isLocal) (λ h. cc)
+
+-- by what is told
+module _ (x s : List ℕ) (v : ℕ) where
+  pub told-none : length x ≡ 0 → isLocal s v ≡ answer x s v
+  unfolding toldBy
+  told-none h = sym (ap (λ n. toldBy n x s v) h)
+
+  pub told-all : length x ≡ 1 → not (eqb (getD x 0 0) 0) ≡ answer x s v
+  unfolding toldBy
+  told-all h = sym (ap (λ n. toldBy n x s v) h)
+
+  each : (n : ℕ) → (n ≡ 0 → ⊥) → (n ≡ 1 → ⊥) → not (eqb (getD x (2 * v) 0) 0) ≡ toldBy n x s v
+  unfolding toldBy
+  each zero g h = absurd (g refl)
+  each (suc zero) g h = absurd (h refl)
+  each (suc (suc n)) g h = refl
+
+  pub told-each : (length x ≡ 0 → ⊥) → (length x ≡ 1 → ⊥) → not (eqb (getD x (2 * v) 0) 0) ≡ answer x s v
+  told-each g h = each (length x) g h
+
+module _ (here : ℕ → Bool) (s : List ℕ) (j : ℕ) where
+  pub variable-local : here j ≡ true → Firsts.the-variants.Local 0 ≡ firstOf (variableBy here j)
+  unfolding variableBy firstOf
+  variable-local h = rw (h, variableBy)
+
+  pub variable-named : here j ≡ false → Firsts.the-variants.Named ≡ firstOf (variableBy here j)
+  unfolding variableBy firstOf
+  variable-named h = rw (h, variableBy)
+
+  pub first-this : kind s j ≡ 10 → Firsts.the-variants.This ≡ firstOf (firstBy here s j)
+  unfolding firstBy firstOf
+  first-this h = rw (eq-eqb (kind s j) 10 h, firstBy)
+
+  pub first-variable : (kind s j ≡ 10 → ⊥) → kind s j ≡ 9 → firstBy here s j ≡ variableBy here j
+  unfolding firstBy
+  first-variable h i = rw (ne-eqb (kind s j) 10 h, eq-eqb (kind s j) 9 i, firstBy)
+
+  pub first-value : (kind s j ≡ 10 → ⊥) → (kind s j ≡ 9 → ⊥) → Firsts.the-variants.Value ≡ firstOf (firstBy here s j)
+  unfolding firstBy firstOf
+  first-value h i = rw (ne-eqb (kind s j) 10 h, ne-eqb (kind s j) 9 i, firstBy)
+
+  pub receiver-first : (eqb (fieldC s j) 0 && eqb (fieldB s j) 0 && leb 1 (count s j)) ≡ true
+      → receiverBy here s j ≡ firstBy here s (child j)
+  unfolding receiverBy
+  receiver-first h = rw (h, receiverBy)
+
+  pub receiver-none : (eqb (fieldC s j) 0 && eqb (fieldB s j) 0 && leb 1 (count s j)) ≡ false
+      → Firsts.the-variants.Value ≡ firstOf (receiverBy here s j)
+  unfolding receiverBy firstOf
+  receiver-none h = rw (h, receiverBy)
+
+-- ---- where nothing is told
+
+pub asked-answer : (x s : List ℕ) → length x ≡ 0 → answer x s ≡ isLocal s
+asked-answer x s h = λ i v. sym (told-none x s v h) i
+
+-- ---- where one word is told
+
+all-answer : (x s : List ℕ) (b : Bool) → length x ≡ 1 → not (eqb (getD x 0 0) 0) ≡ b → answer x s ≡ (λ v. b)
+all-answer x s b h e = λ i v. (sym (told-all x s v h) ∙ e) i
+
+pub all-locals : (s : List ℕ) → answer (1 ∷ []) s ≡ (λ v. true)
+all-locals s = all-answer (1 ∷ []) s true refl refl
+
+pub no-locals : (s : List ℕ) → answer (0 ∷ []) s ≡ (λ v. false)
+no-locals s = all-answer (0 ∷ []) s false refl refl

@@ -1,0 +1,16 @@
+-- `local_slots::by_name` meets its contract.
+use borrow.Author.Needs.{needs}
+use Rattle.local_slots.proofs.by_name.Statement.{statement}
+use Rattle.local_slots.proofs.by_name.Tie as tie
+
+field-a-requires : tie.Need-field-a-requires
+field-a-requires c κs = search needs
+
+resolve-requires : tie.Need-resolve-requires
+resolve-requires c κs = search needs
+
+returns : tie.Need-returns
+returns c = cc
+
+pub by-name-spec : {M : Type 1} → statement M
+by-name-spec = tie.close (tie.spec field-a-requires resolve-requires returns)

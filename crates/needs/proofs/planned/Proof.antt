@@ -1,0 +1,23 @@
+-- `needs::planned` meets its contract: read and counted.
+use mathlib.Core.Path.{_∙_}
+use borrow.Author.Needs.{needs}
+use Rattle.needs.proofs.planned.Statement.{statement}
+use Rattle.needs.proofs.planned.Tie as tie
+
+read-requires : tie.Need-read-requires
+read-requires c κs = search needs
+
+count-requires : tie.Need-count-requires
+count-requires c κs = search needs
+
+same-length : tie.Need-same-length
+same-length c = search needs
+
+returns : tie.Need-returns
+returns c =
+    let counts = c .before .before in
+    let reads = counts .before .before .before .before in
+    λ z ok k. counts .count .ensures (reads .read .kept .1 .1 .0 ∙ z) ok k (reads .read .ensures z ok k)
+
+pub planned-spec : {M : Type 1} → statement M
+planned-spec = tie.close (tie.spec read-requires count-requires same-length returns)

@@ -1,0 +1,44 @@
+-- The counts of a sheet, cut off as the code has them, and the refusals by counts. The need of a sheet does not speak of these.
+use Prim.Native.Nat.{ℕ, _+_, _*_, _≤_, min}
+use mathlib.Core.Path.{_≡_}
+use mathlib.Core.Bool.{Bool, true, false}
+use mathlib.Core.List.{List}
+use lib.Dec.{ltb}
+use Rattle.sheet.specs.Layout.{nodeCount}
+use Rattle.lowering.specs.Limits.{maxEmitted, scratchPerEmitted, scratchPerNode, scratchBesides}
+use Rattle.lowering.specs.Limits.{evalReached, tooManyEmitted, scratchTooShort}
+use Rattle.counting.specs.declared.tallies.Tally.{Tally}
+use Rattle.counting.specs.Limits.{cap}
+use Rattle.counting.specs.Tally.{takenBack, capped}
+use Rattle.totals.specs.Total.{total, switchTotal}
+use Rattle.tables.specs.Planned.{Tables, Placed}
+
+-- t has what the sheet emits, and whether it reaches an `eval`
+pub record Counts (s : List ℕ) (t : Tally) : Type 0 where
+  pub is : takenBack t ≡ capped (takenBack (total s))
+
+-- the refusal whatever is lent: d that an `eval` is reached, e instructions
+unfoldable pub over : Bool → ℕ → ℕ
+over d e = elim d [ true ↦ evalReached | false ↦ elim (ltb maxEmitted e) [ true ↦ tooManyEmitted | false ↦ 0 ] ]
+
+-- the refusal by counts: m words of scratch, n nodes besides
+unfoldable pub early : Bool → ℕ → ℕ → ℕ → ℕ
+early d e m n =
+    elim d [
+      | true ↦ evalReached
+      | false ↦
+          elim (ltb maxEmitted e) [
+            | true ↦ tooManyEmitted
+            | false ↦ elim (ltb m (scratchPerEmitted * e + scratchPerNode * n + scratchBesides)) [ true ↦ scratchTooShort | false ↦ 0 ]
+          ]
+    ]
+
+-- the counts t decide as the sheet's own do, with m words of scratch: the same refusal, and room for what is emitted
+pub record Decides (s : List ℕ) (m : ℕ) (t : Tally) : Type 0 where
+  pub refusal-is : early (t .defeated) (t .emitted) m (nodeCount s) ≡ early (total s .defeated) (total s .emitted) m (nodeCount s)
+  pub enough : min (total s .emitted) cap ≤ t .emitted
+
+-- the table w of a Switch is read and counted, by the switch's own locals
+pub record Exact (s w : List ℕ) : Type 0 where
+  pub tables : Tables s w
+  pub placed : switchTotal s .len ≤ maxEmitted → Placed s w

@@ -1,0 +1,3 @@
+pub mod Needed
+pub mod Counts
+pub mod Means

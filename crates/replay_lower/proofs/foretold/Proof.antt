@@ -1,0 +1,25 @@
+-- `replay_lower::foretold` meets its contract: by the need's case.
+use Rattle.replay_lower.specs.Left.{foretold}
+use mathlib.Core.Path.{sym, ap}
+use borrow.Author.Needs.{needs}
+use Rattle.replay_lower.proofs.foretold.Statement.{statement}
+use Rattle.replay_lower.proofs.foretold.Tie as tie
+
+enum-known-n : tie.Need-enum-known-n
+enum-known-n c = search needs
+
+enum-known-n-2 : tie.Need-enum-known-n-2
+enum-known-n-2 c = search needs
+
+returns : tie.Need-returns
+returns c =
+    let given = c .before .before .before .args in
+    sym (ap (λ n. foretold n (given .room) (given .number)) (c .before .n .given .1))
+
+returns-2 : tie.Need-returns-2
+returns-2 c =
+    let given = c .before .before .before .args in
+    sym (ap (λ n. foretold n (given .room) (given .number)) (c .before .n2 .given .1))
+
+pub foretold-spec : {M : Type 1} → statement M
+foretold-spec = tie.close (tie.spec enum-known-n enum-known-n-2 returns returns-2)

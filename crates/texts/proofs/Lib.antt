@@ -1,0 +1,2 @@
+-- Laws of texts whose bytes are all ASCII.
+mod PlainLaws
