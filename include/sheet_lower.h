@@ -1,4 +1,4 @@
-/* The proved library, target/staticlib/libapi.a: the check of a sheet, its lowering into an image, and the check of an image beside its sheet.
+/* The proved library, target/staticlib/libapi.a: the check of a sheet, what it needs, its lowering into an image, and the check of an image.
  *
  * The formats of sheet and image, word by word, are in docs/FORMAT.md. What the comments here say of answers and buffers is proved of the functions
  * for every sheet and every buffer (docs/PROOFS.md); the caller's duties are these:
@@ -23,7 +23,7 @@ extern "C" {
 
 /* What the functions answer. Where several causes hold, the lowest number is the answer. */
 enum sheet_number {
-    SHEET_LOWERED = 0,        /* sheet_lower: lowered */
+    SHEET_LOWERED = 0,        /* sheet_lower: lowered; sheet_needs: with enough scratch nothing refuses before the image is made */
     SHEET_WELL_MADE = 0,      /* sheet_check_image: the image is well made */
     SHEET_SIZE = 1,           /* length, padding or a size is wrong */
     SHEET_SHAPE = 2,          /* a node's kind, shape or field is wrong */
@@ -51,6 +51,19 @@ enum sheet_number {
  * Returns 0, or the first of the numbers 1 to 8 that fits. Writes nothing. sheet_lower makes the same check by itself.
  */
 uint32_t sheet_check(const uint8_t *sheet, size_t sheet_len);
+
+/* What the `sheet_len` bytes of `sheet` need before buffers are lent.
+ *
+ * Returns 0, or the first of the numbers 1 to 10 that fits.
+ *
+ *   returned   *scratch_words         sheet_lower of the same sheet, whatever the buffers are
+ *   0          the words that it      returns 11 exactly where `scratch_len` is less, and else 0 or 12
+ *              needs of scratch
+ *   1 to 10    0                      returns the same number
+ *
+ * *scratch_words is always written, and never above SHEET_SCRATCH_MOST. The sheet is only read. How long the image will be is not told.
+ */
+uint32_t sheet_needs(const uint8_t *sheet, size_t sheet_len, uint64_t *scratch_words);
 
 /* Lowers the `sheet_len` bytes of `sheet` into `image`, which has `image_len` words, with the help of `scratch`, which has `scratch_len` words.
  *

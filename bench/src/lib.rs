@@ -12,6 +12,7 @@ pub mod workloads;
 extern "C" {
     /// crates/api. They ask nothing of their caller; a slice goes as a pointer and a length.
     fn sheet_check(sheet: *const u8, length: usize) -> u32;
+    fn sheet_needs(sheet: *const u8, length: usize, words: *mut u64) -> u32;
     fn sheet_lower(
         sheet: *const u8,
         length: usize,
@@ -35,6 +36,14 @@ extern "C" {
 pub fn check(sheet: &[u8]) -> u32 {
     // The pointer and the length are those of a slice, and the function only reads.
     unsafe { sheet_check(sheet.as_ptr(), sheet.len()) }
+}
+
+/// What a sheet needs: 0 and the scratch words that its lowering asks for, or one of the numbers 1 to 10 and 0.
+pub fn needs(sheet: &[u8]) -> (u32, u64) {
+    let mut words = u64::MAX;
+    // The pointer and the length are those of a slice, and the function writes the number alone.
+    let number = unsafe { sheet_needs(sheet.as_ptr(), sheet.len(), &mut words) };
+    (number, words)
 }
 
 /// The proved lowering: 0 or a number from 1 to 12, and the image's word count.

@@ -52,25 +52,44 @@ pub fn lower_sheet(sheet: &[u8]) -> Result<Image, u32> {
 /// The same with a scratch of so many words, so with number 11.
 fn lower_within(sheet: &[u8], scratch: u64) -> Result<Image, u32> {
     let sheet = sheet::read(sheet)?;
-    let count = count::whole(&sheet);
-    if count.eval {
-        return Err(REFUSED_EVAL);
-    }
-    if count.emitted > MAX_EMITTED {
-        return Err(REFUSED_EMITTED);
-    }
+    let emitted = emitted(&sheet)?;
     let nodes = sheet.nodes as u64;
-    if scratch < scratch_needed(count.emitted, nodes) {
+    if scratch < scratch_needed(emitted, nodes) {
         return Err(REFUSED_SCRATCH);
     }
     let lowering = run(&sheet);
-    assert_eq!(count.emitted, lowering.marks.emitted, "the count is wrong");
+    assert_eq!(emitted, lowering.marks.emitted, "the count is wrong");
     assert!(!lowering.defeated, "the count misses an eval");
     Ok(Image {
         words: image::words(&lowering),
         nodes,
         marks: lowering.marks,
     })
+}
+
+/// How many instructions an accepted sheet emits, or 9 or 10.
+fn emitted(sheet: &sheet::Sheet<'_>) -> Result<u64, u32> {
+    let count = count::whole(sheet);
+    if count.eval {
+        return Err(REFUSED_EVAL);
+    }
+    if count.emitted > MAX_EMITTED {
+        return Err(REFUSED_EMITTED);
+    }
+    Ok(count.emitted)
+}
+
+/// What a sheet needs before buffers are lent: 0 and the scratch words that
+/// number 11 asks for, or which of the numbers 1 to 10 turns it down, and 0.
+pub fn needs(sheet: &[u8]) -> (u32, u64) {
+    let words = |sheet: sheet::Sheet<'_>| {
+        let emitted = emitted(&sheet)?;
+        Ok(scratch_needed(emitted, sheet.nodes as u64))
+    };
+    match sheet::read(sheet).and_then(words) {
+        Ok(words) => (0, words),
+        Err(number) => (number, 0),
+    }
 }
 
 /// The borrowed lowering of an accepted sheet, whatever comes of it.

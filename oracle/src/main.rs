@@ -22,6 +22,9 @@ oracle lower [--image W] [--scratch W] [--program] [FILE|-]
     with --program an input of over 65536 bytes is refused with 1
 oracle check FILE...
     print the number (0, or 1 to 8) of each file
+oracle needs FILE...
+    print what each file needs: the words of scratch that its lowering asks
+    for, or `refused` and the number (1 to 10)
 oracle gen --seed S --count N --profile P --out DIR [SIZE]
     write sheets as DIR/PROFILE-SEED-INDEX.sheet
 oracle gen --list-profiles
@@ -248,6 +251,16 @@ fn run_check(arguments: &Arguments) -> Result<(), String> {
             println!("{number}");
         } else {
             println!("{number} {path}");
+        }
+    }
+    Ok(())
+}
+
+fn run_needs(arguments: &Arguments) -> Result<(), String> {
+    for path in &arguments.rest {
+        match oracle::needs(&read_file(path)?) {
+            (0, words) => println!("{words} words of scratch"),
+            (number, _) => println!("refused {number}"),
         }
     }
     Ok(())
@@ -660,6 +673,7 @@ fn main() -> ExitCode {
         }
         "gen" => run_gen(&arguments).map(|()| true),
         "check" => run_check(&arguments).map(|()| true),
+        "needs" => run_needs(&arguments).map(|()| true),
         "vectors" => run_vectors(&arguments).map(|()| true),
         "lower" => run_lower(&arguments).map(|()| true),
         "table" => run_table(&arguments).map(|()| true),

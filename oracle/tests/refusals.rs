@@ -1017,6 +1017,54 @@ fn number_12() {
     assert_eq!(oracle::lower(&sheet, &mut image, &mut scratch).0, 11);
 }
 
+// ---- what a sheet needs ----
+
+/// The number and the scratch words of a need, tried with exactly that much
+/// scratch and with one word less.
+fn need(sheet: &[u8]) -> (u32, u64) {
+    let (number, words) = oracle::needs(sheet);
+    if number == 0 {
+        let answer = |scratch| oracle::lower(sheet, &mut [], &mut vec![7; scratch]).0;
+        assert_eq!(answer(words as usize), 12);
+        assert_eq!(answer(words as usize - 1), 11);
+    }
+    (number, words)
+}
+
+#[test]
+fn needs_by_counts() {
+    // One node and one instruction.
+    assert_eq!(need(&with_positions(&[U], &[], &[])), (0, 16 + 16 + 4_096));
+    // Those taken back count: 6 emitted, 4 nodes.
+    let switch = switch(1, 0, 1, 0, &[]);
+    assert_eq!(need(&switch), (0, 16 * 6 + 16 * 4 + 4_096));
+    // Cases with the lists [0] and [0, 0]: subject and Switch; the guard and
+    // its JumpIfTrue for each mention, and a jump behind each list; body and
+    // jump; Unit, Rotate and Pop.
+    let mut nodes = vec![[SWITCH, 11, 5, 1, 2, 0], U, [THIS, 1, 0, 0, 0, 0], U];
+    for refs in [1u32, 2] {
+        nodes.push([CASE, refs + 2, refs + 1, 0, 0, 0]);
+        nodes.push([INT, 1, 0, refs, 0, 0]);
+        nodes.extend(std::iter::repeat_n([REF, 1, 0, 0, 0, 0], refs as usize));
+    }
+    let emitted = 2 + (2 + 1) + (2 * 2 + 1) + 2 + 3;
+    assert_eq!(
+        need(&with_positions(&nodes, &[], &[])),
+        (0, 16 * emitted + 16 * 11 + 4_096)
+    );
+    // The most that any sheet needs is below this.
+    let (number, words) = need(&with_positions(&emitting(262_143), &[], &[]));
+    assert_eq!(number, 0);
+    assert!(words < 16 * 262_143 + 16 * 131_072 + 4_096);
+}
+
+#[test]
+fn needs_refused() {
+    assert_eq!(need(&[]), (1, 0));
+    assert_eq!(need(&with_positions(&[EVAL], &TEXTS, &[])), (9, 0));
+    assert_eq!(need(&with_positions(&emitting(262_144), &[], &[])), (10, 0));
+}
+
 // ---- several causes at once ----
 
 #[test]

@@ -25,6 +25,8 @@ mod sys {
     extern "C" {
         pub fn sheet_check(sheet: *const u8, sheet_len: usize) -> u32;
 
+        pub fn sheet_needs(sheet: *const u8, sheet_len: usize, scratch_words: *mut u64) -> u32;
+
         pub fn sheet_lower(
             sheet: *const u8,
             sheet_len: usize,
@@ -85,6 +87,18 @@ pub fn check(sheet: &[u8]) -> Result<(), Refused> {
     // The pointer and the length are those of a slice, and the function only reads.
     match unsafe { sys::sheet_check(sheet.as_ptr(), sheet.len()) } {
         0 => Ok(()),
+        number => Err(Refused(number)),
+    }
+}
+
+/// How many words of scratch the lowering of a sheet needs, or which of the numbers 1 to 10 refuses it whatever is lent.
+///
+/// With fewer words `lower` answers 11. With so many it lowers the sheet, or answers 12 where the image is longer than its buffer.
+pub fn needs(sheet: &[u8]) -> Result<usize, Refused> {
+    let mut words = 0u64;
+    // The pointer and the length are those of a slice, and the function writes to the number alone.
+    match unsafe { sys::sheet_needs(sheet.as_ptr(), sheet.len(), &mut words) } {
+        0 => Ok(words as usize),
         number => Err(Refused(number)),
     }
 }

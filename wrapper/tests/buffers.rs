@@ -1,6 +1,6 @@
 //! What a lowering does to the two buffers, at their edges.
 
-use sheet_lower::{check, lower, scratch_words, Refused};
+use sheet_lower::{check, lower, needs, scratch_words, Refused, SCRATCH_MOST};
 
 /// One Unit node: 17 words, one instruction.
 fn unit() -> Vec<u8> {
@@ -34,8 +34,30 @@ fn a_short_image_is_kept_and_the_scratch_is_zeroed() {
 }
 
 #[test]
+fn what_is_needed_is_enough_and_one_word_less_is_not() {
+    let words = needs(&unit()).unwrap();
+    assert_eq!(words, scratch_words(1, 1));
+    assert!(words < SCRATCH_MOST);
+    assert_eq!(lower(&unit(), &mut [0; 17], &mut vec![8; words]), Ok(&IMAGE[..]));
+    assert_eq!(lower(&unit(), &mut [0; 17], &mut vec![8; words - 1]), Err(Refused(11)));
+    assert_eq!(lower(&unit(), &mut [], &mut vec![8; words]), Err(Refused(12)));
+}
+
+#[test]
+fn a_switch_needs_words_for_all_that_it_emits() {
+    // A Unit, on which nothing is switched: subject, Switch, Unit, Rotate, Pop.
+    let mut words = vec![2u32, 0, 0, 0, 19, 2, 1, 0, 0, 0, 2, 1, 0, 0, 0, 0, 9, 9];
+    let sheet = |words: &[u32]| -> Vec<u8> { words.iter().flat_map(|word| word.to_le_bytes()).collect() };
+    assert_eq!(needs(&sheet(&words)), Ok(scratch_words(5, 2)));
+    // Kind 23 is not supported.
+    words[10] = 23;
+    assert_eq!(needs(&sheet(&words)), Err(Refused(8)));
+}
+
+#[test]
 fn no_bytes_and_no_room() {
     assert_eq!(check(&[]), Err(Refused(1)));
+    assert_eq!(needs(&[]), Err(Refused(1)));
     assert_eq!(lower(&[], &mut [], &mut []), Err(Refused(1)));
     assert_eq!(lower(&unit(), &mut [], &mut []), Err(Refused(11)));
 }

@@ -1,5 +1,5 @@
 //! Compares the proved lowering with the oracle on random sheets, in one process: number, word count, every word of image and scratch,
-//! and the words around both.
+//! and the words around both; and what each sheet needs, number and words of scratch.
 //!
 //! `compare [--guard W] [--seed S] [--count N | --seconds S] [--profile P] [--out FILE]`: seed 1 and 60 seconds where nothing is said. The
 //! sheet number i of a seed is always the same one. Ends with status 1 at the first difference, whose sheet is written to FILE
@@ -167,6 +167,10 @@ impl Driver {
         self.tally.sheets += 1;
         self.tally.bytes += sheet.len() as u64;
         self.tally.largest = self.tally.largest.max(sheet.len());
+        let (ours, right) = (bench::needs(sheet), oracle::needs(sheet));
+        if ours != right {
+            return Some(format!("needs {ours:?}, by the oracle {right:?}"));
+        }
         let Ok(lowered) = oracle::lower_sheet(sheet) else {
             let sizes = [0, 1, 64, 5_000, 20_000];
             let (image, scratch) = (*random.pick(&sizes), *random.pick(&sizes));
@@ -214,7 +218,7 @@ impl Driver {
     fn print(&self, seconds: f64) {
         let tally = &self.tally;
         println!(
-            "{} sheets, {} lowerings by each side, {:.1} s",
+            "{} sheets with their needs, {} lowerings by each side, {:.1} s",
             tally.sheets, tally.runs, seconds
         );
         println!(

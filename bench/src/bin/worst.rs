@@ -20,8 +20,8 @@ const PROGRAM_WORDS: usize = 16_384;
 
 fn stack(names: &[String]) {
     println!(
-        "{:<30}{:>4}{:>14}{:>14}{:>14}",
-        "stack in bytes", "no", "check", "lower", "Rust lower"
+        "{:<30}{:>4}{:>14}{:>14}{:>14}{:>14}",
+        "stack in bytes", "no", "check", "needs", "lower", "Rust lower"
     );
     for (name, sheet) in sheets::deep() {
         if !names.is_empty() && !names.iter().any(|part| name.contains(part.as_str())) {
@@ -33,12 +33,15 @@ fn stack(names: &[String]) {
         let check = stack_of(&mut || {
             black_box(bench::check(black_box(&sheet)));
         });
+        let needs = stack_of(&mut || {
+            black_box(bench::needs(black_box(&sheet)));
+        });
         let ours =
             stack_of(&mut || number = bench::lower(black_box(&sheet), &mut image, &mut scratch).0);
         let rust = stack_of(&mut || {
             black_box(oracle::lower(black_box(&sheet), &mut image, &mut scratch));
         });
-        println!("{name:<30}{number:>4}{check:>14}{ours:>14}{rust:>14}");
+        println!("{name:<30}{number:>4}{check:>14}{needs:>14}{ours:>14}{rust:>14}");
     }
 }
 

@@ -64,6 +64,10 @@ pub fn number(sheet: &[u8]) -> u32 {
             "the scratch changed under a refusal"
         );
     }
+    // What the sheet needs says the same, without buffers.
+    let (refused, words) = oracle::needs(sheet);
+    assert_eq!(refused, number);
+    assert_eq!(words == 0, number != 0);
     number
 }
 
