@@ -5,6 +5,7 @@ use mathlib.Core.Bool.{Bool, true, false}
 use mathlib.Core.List.{List, [], _∷_}
 use lib.Dec.{eqb}
 use Rattle.text.specs.Same.{same}
+use Rattle.refusals.specs.Refusal.{refusalNumber}
 use Rattle.lowering.specs.Outcome.{Outcome, refused, image}
 use Rattle.lowering.specs.Compute.{answer}
 
@@ -28,7 +29,7 @@ digits base zero x l = l
 digits base (suc n) x l = digits base n (x / base) (x % base ∷ l)
 
 unfoldable pub sameOutcome : ℕ → List ℕ → Outcome → Bool
-sameOutcome number words (refused n) = eqb number n
+sameOutcome number words (refused r) = eqb number (refusalNumber r)
 sameOutcome number words (image l) = elim (eqb number 0) [ true ↦ same words l | false ↦ false ]
 
 unfoldable pub agrees : Row → Bool

@@ -74,7 +74,7 @@ unfoldable pub choosesRight : List ℕ → List ℕ → Bool
 choosesRight s w = elim (eqb (kind s 0) switchKind) [ true ↦ choosesFor s w (marksOf s) (samples s) | false ↦ true ]
 
 unfoldable pub demandOn : List ℕ → Outcome → Bool
-demandOn s (refused n) = true
+demandOn s (refused r) = true
 demandOn s (image w) = elim (allRunsRight w) [ true ↦ choosesRight s w | false ↦ false ]
 
 unfoldable pub demands : Row → Bool

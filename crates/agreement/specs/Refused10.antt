@@ -15,6 +15,8 @@ use Rattle.quick.specs.Quick.{quickNumber}
 use Rattle.quick.specs.QuickLaws.{quick-is}
 use Rattle.cases.specs.Split.{split}
 use Rattle.lowering.specs.Kinds.{switchKind}
+use Rattle.refusals.specs.declared.Refusal.the-variants.{Emitted}
+use Rattle.refusals.specs.Refusal.{refusalNumber}
 use Rattle.lowering.specs.Outcome.{refused, outcome}
 use Rattle.lowering.specs.Compute.{checkedNumber}
 use Rattle.counting.specs.declared.tallies.Tally.{Tally}
@@ -65,7 +67,7 @@ totalled : total sheet ≡ counted 262144 262144 false
 totalled =
     total-both sheet 2 72 (counted 247 247 false) (counted 4 4 false) switched large small stairs (sym (quick-ranges sheet) ∙ laid) ∙ all
 
-pub agreed : outcome sheet (edge .imageLength) (edge .scratchLength) ≡ refused (edge .number)
+pub agreed : (outcome sheet (edge .imageLength) (edge .scratchLength) ≡ refused Emitted) × (refusalNumber Emitted ≡ edge .number)
 unfolding edge
 agreed =
-    outcome-10 sheet 16384 16384 accepted (ap (λ t. t .defeated) totalled) (omega (arith, ap (λ t. t .emitted) totalled))
+    (outcome-10 sheet 16384 16384 accepted (ap (λ t. t .defeated) totalled) (omega (arith, ap (λ t. t .emitted) totalled)), refl)

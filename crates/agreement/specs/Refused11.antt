@@ -15,6 +15,8 @@ use Rattle.quick.specs.Quick.{quickNumber}
 use Rattle.quick.specs.QuickLaws.{quick-is}
 use Rattle.cases.specs.Split.{split}
 use Rattle.lowering.specs.Kinds.{switchKind}
+use Rattle.refusals.specs.declared.Refusal.the-variants.{ScratchShort}
+use Rattle.refusals.specs.Refusal.{refusalNumber}
 use Rattle.lowering.specs.Outcome.{refused, outcome}
 use Rattle.lowering.specs.Compute.{checkedNumber}
 use Rattle.counting.specs.declared.tallies.Tally.{Tally}
@@ -69,8 +71,8 @@ nodes : nodeCount sheet ≡ 175
 unfolding edge sheet digits checkedNumber
 nodes = refl
 
-pub agreed : outcome sheet (edge .imageLength) (edge .scratchLength) ≡ refused (edge .number)
+pub agreed : (outcome sheet (edge .imageLength) (edge .scratchLength) ≡ refused ScratchShort) × (refusalNumber ScratchShort ≡ edge .number)
 unfolding edge scratchTotal
 agreed =
     let emitted = ap (λ t. t .emitted) totalled in
-    outcome-11 sheet 16384 4201183 accepted (ap (λ t. t .defeated) totalled) (omega (arith, emitted)) (omega (arith, emitted, nodes))
+    (outcome-11 sheet 16384 4201183 accepted (ap (λ t. t .defeated) totalled) (omega (arith, emitted)) (omega (arith, emitted, nodes)), refl)

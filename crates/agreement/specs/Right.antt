@@ -5,8 +5,9 @@ use mathlib.Core.Path.{_≡_, refl, sym, ap, _∙_}
 use mathlib.Core.Bool.{Bool, true, false, true≢false}
 use mathlib.Core.List.{List, [], _∷_}
 use lib.Dec.{eqb}
-use Rattle.quick.specs.Quick.{quickNumber}
-use Rattle.quick.specs.QuickLaws.{quick-is}
+use Rattle.checks.specs.declared.Verdict.{Verdict}
+use Rattle.quick.specs.Quick.{quickChecked}
+use Rattle.quick.specs.QuickLaws.{quick-checked}
 use Rattle.lowering.specs.Outcome.{Outcome, outcomeAfter, outcome}
 use Rattle.lowering.specs.Compute.{answer}
 use Rattle.agreement.specs.Agree.{Row, digits, sameOutcome, agrees, allAgree}
@@ -24,16 +25,16 @@ fits r s o =
 unfoldable pub right : Row → Bool
 right r =
     let s = digits 256 (r .bytes) (r .sheet) [] in
-    fits r s (outcomeAfter s (r .imageLength) (r .scratchLength) (quickNumber s))
+    fits r s (outcomeAfter s (r .imageLength) (r .scratchLength) (quickChecked s))
 
 unfoldable pub allRight : List Row → Bool
-unfolding fits right quickNumber allDemands
+unfolding fits right quickChecked allDemands
 allRight [] = true
 allRight (r ∷ rs) = elim (right r) [ true ↦ allRight rs | false ↦ false ]
 
-quick-answer : (s : List ℕ) (i t : ℕ) → outcomeAfter s i t (quickNumber s) ≡ answer s i t
+quick-answer : (s : List ℕ) (i t : ℕ) → outcomeAfter s i t (quickChecked s) ≡ answer s i t
 unfolding answer
-quick-answer s i t = ap (λ (n : ℕ). outcomeAfter s i t n) (quick-is s)
+quick-answer s i t = ap (λ (v : Verdict). outcomeAfter s i t v) (quick-checked s)
 
 -- one test and then another
 both : (b c : Bool) → elim b [ true ↦ c | false ↦ false ] ≡ true → (b ≡ true) × (c ≡ true)

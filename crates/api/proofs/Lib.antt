@@ -1,2 +1,3 @@
 -- What the functions tell of each other.
 pub mod Foretold
+mod GivenLaws

@@ -1,24 +1,13 @@
 -- What a lowering gives to a program in another language: the number, the word count, and what the two buffers hold.
 use Prim.Native.Nat.{ℕ}
-use mathlib.Core.Path.{_≡_, sym, ap, _∙_}
+use mathlib.Core.Path.{_≡_}
 use mathlib.Core.List.{List}
 use lib.ListN.{length}
 use Rattle.lowering.specs.Outcome.{outcome}
-use Rattle.to_image.specs.declared.Answer.{Answer}
-use Rattle.to_image.specs.declared.Answer.the-variants.{Lowered, Refused}
-use Rattle.to_image.specs.Answer.{numberOf, wordsOf, answer, imageAfter, scratchAfter, Answers}
+use Rattle.to_image.specs.Answer.{numberOf, wordsOf, answer, imageAfter, scratchAfter}
 
 pub record Given (s xs ys : List ℕ) (number words : ℕ) (xs′ ys′ : List ℕ) : Type 0 where
   pub number-is : number ≡ numberOf (answer (outcome s (length xs) (length ys)))
   pub words-is : words ≡ wordsOf (answer (outcome s (length xs) (length ys)))
   pub image-is : xs′ ≡ imageAfter (outcome s (length xs) (length ys)) xs
   pub scratch-is : ys′ ≡ scratchAfter (outcome s (length xs) (length ys)) ys
-
-pub given : (s xs ys : List ℕ) (r : Answer) (xs′ ys′ : List ℕ) (number words : ℕ) → Answers s xs ys r xs′ ys′
-    → number ≡ numberOf r → words ≡ wordsOf r → Given s xs ys number words xs′ ys′
-given s xs ys r xs′ ys′ number words a n-is w-is = record {
-  number-is = n-is ∙ ap numberOf (a .answers);
-  words-is = w-is ∙ ap wordsOf (a .answers);
-  image-is = a .image-is;
-  scratch-is = a .scratch-is;
-}

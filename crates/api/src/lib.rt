@@ -3,11 +3,11 @@ ghost use mathlib.Core.Path.{_≡_};
 ghost use Rattle.checks.specs.Checked.{numberOf, checked};
 ghost use Rattle.api.specs.Given.{Given};
 ghost use Rattle.api.specs.Asked.{Asked};
-ghost use Rattle.image_check.specs.Answer.{Answers};
+ghost use Rattle.api.specs.Judged.{Judged};
 use image_check::check_image;
 use needs::Need;
 use needs::needs;
-use to_image::Answer;
+use refusals::refusal_number;
 use to_image::lower;
 
 // The number of the first refusal among 1 to 8 that fits the bytes of `sheet`, or 0.
@@ -29,9 +29,9 @@ pub extern "C" fn sheet_needs(sheet: &[u8], words: &mut u64) -> u32
             *words = count;
             0
         }
-        Need::Refused { number } => {
+        Need::Refused { by } => {
             *words = 0;
-            number
+            refusal_number(by)
         }
     }
 }
@@ -46,23 +46,16 @@ pub extern "C" fn sheet_lower(
 ) -> u32
     ensures { λ r. ⌜ Given (now (sheet .entry)) (now (image .entry)) (now (scratch .entry)) r (now (words .exit)) (now (image .exit)) (now (scratch .exit)) ⌝ }
 {
-    match lower(sheet, image, scratch) {
-        Answer::Lowered { words: count } => {
-            *words = count as u64;
-            0
-        }
-        Answer::Refused { number } => {
-            *words = 0;
-            number
-        }
-    }
+    let a = lower(sheet, image, scratch);
+    *words = to_image::words(a) as u64;
+    to_image::number(a)
 }
 
 // Whether `image`, exactly its words, is well made for `sheet`: 0, or the first that fits of the sheet's refusals 1 to 8, 11 for a scratch
 // shorter than the image, and 13.
 #[no_mangle]
 pub extern "C" fn sheet_check_image(sheet: &[u8], image: &[u32], scratch: &mut [u32]) -> u32
-    ensures { λ r. ⌜ Answers (now (sheet .entry)) (now (image .entry)) (now (scratch .entry)) r (now (scratch .exit)) ⌝ }
+    ensures { λ r. ⌜ Judged (now (sheet .entry)) (now (image .entry)) (now (scratch .entry)) r (now (scratch .exit)) ⌝ }
 {
-    check_image(sheet, image, scratch)
+    checks::number(check_image(sheet, image, scratch))
 }

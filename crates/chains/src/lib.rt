@@ -44,7 +44,7 @@ use slots::Found;
 use text::same_bytes;
 
 // How many links a chain has, and how many operands their steps take.
-pub struct Counts {
+struct Counts {
     pub links: u32,
     pub operands: u32,
 }
@@ -272,7 +272,7 @@ fn few(n: u32) -> u32
 }
 
 // How many links the chain of node `j` has, and how many operands their steps take.
-pub fn count_links(s: &[u8], j: u32) -> Counts
+fn count_links(s: &[u8], j: u32) -> Counts
     ensures { λ r. ⌜ Counted (now (s .entry)) j r ⌝ }
 {
     let mut left = MAX_DEPTH;

@@ -1,2 +1,3 @@
--- Laws of what is left of the check after the pass.
-pub mod RestLaws
+-- Laws of what is left of the check after the pass, and of verdicts.
+mod RestLaws
+pub mod VerdictLaws

@@ -11,22 +11,23 @@ use Rattle.one_pass.specs.Fine.{Fine}
 use Rattle.checks.specs.Checked.{checked}
 use Rattle.checks.specs.CheckedLaws.{says-3, says-4, says-6, says-7, says-0, goes-on}
 use Rattle.checks.specs.Rest.{restChecked}
-use Rattle.checks.specs.declared.Verdict.the-variants.{Accepted, Text, Number, Entries, Repeated}
+use Rattle.checks.specs.declared.Verdict.the-variants.{Accepted, Refused}
+use Rattle.refusals.specs.declared.Refusal.the-variants.{Text, Number, Arms, Twice}
 
 module _ (s : List ℕ) where
-  pub rest-3 : textsOk s ≡ false → restChecked s ≡ Text
+  pub rest-3 : textsOk s ≡ false → restChecked s ≡ Refused Text
   unfolding restChecked
   rest-3 a = rw (a, restChecked)
 
-  pub rest-4 : textsOk s ≡ true → localsOk s ≡ false → restChecked s ≡ Number
+  pub rest-4 : textsOk s ≡ true → localsOk s ≡ false → restChecked s ≡ Refused Number
   unfolding restChecked
   rest-4 a b = rw (a, b, restChecked)
 
-  pub rest-6 : textsOk s ≡ true → localsOk s ≡ true → entriesOk s ≡ false → restChecked s ≡ Entries
+  pub rest-6 : textsOk s ≡ true → localsOk s ≡ true → entriesOk s ≡ false → restChecked s ≡ Refused Arms
   unfolding restChecked
   rest-6 a b c = rw (a, b, c, restChecked)
 
-  pub rest-7 : textsOk s ≡ true → localsOk s ≡ true → entriesOk s ≡ true → casesOk s ≡ false → restChecked s ≡ Repeated
+  pub rest-7 : textsOk s ≡ true → localsOk s ≡ true → entriesOk s ≡ true → casesOk s ≡ false → restChecked s ≡ Refused Twice
   unfolding restChecked
   rest-7 a b c d = rw (a, b, c, d, restChecked)
 

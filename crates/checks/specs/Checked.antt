@@ -10,33 +10,28 @@ use Rattle.depth.specs.Depth.{depthOk}
 use Rattle.switches.specs.Switch.{entriesOk, casesOk}
 use Rattle.support.specs.Support.{supportedOk}
 use Rattle.checks.specs.declared.Verdict.{Verdict}
-use Rattle.checks.specs.declared.Verdict.the-variants.{Accepted, Size, Node, Text, Number, Depth, Entries, Repeated, Unsupported}
+use Rattle.checks.specs.declared.Verdict.the-variants.{Accepted, Refused}
+use Rattle.refusals.specs.declared.Refusal.the-variants.{Size, Shape, Text, Number, Depth, Arms, Twice, Unsupported}
+use Rattle.refusals.specs.Refusal.{refusalNumber}
 
--- the number of each answer: the one place of the refusal numbers 1 to 8; 0 is no refusal
+-- the number of an answer; 0 is no refusal
 abbrev pub numberOf : Verdict → ℕ
 numberOf Accepted = 0
-numberOf Size = 1
-numberOf Node = 2
-numberOf Text = 3
-numberOf Number = 4
-numberOf Depth = 5
-numberOf Entries = 6
-numberOf Repeated = 7
-numberOf Unsupported = 8
+numberOf (Refused r) = refusalNumber r
 
 -- from refusal 5 on
 unfoldable pub treeChecked : List ℕ → Verdict
 treeChecked s =
     elim (depthOk s) [
-      | false ↦ Depth
+      | false ↦ Refused Depth
       | true ↦
           elim (entriesOk s) [
-            | false ↦ Entries
+            | false ↦ Refused Arms
             | true ↦
                 elim (casesOk s) [
-                  | false ↦ Repeated
+                  | false ↦ Refused Twice
                   | true ↦
-                      elim (supportedOk s) [ false ↦ Unsupported | true ↦ Accepted ]
+                      elim (supportedOk s) [ false ↦ Refused Unsupported | true ↦ Accepted ]
                 ]
           ]
     ]
@@ -45,15 +40,15 @@ treeChecked s =
 unfoldable pub checked : List ℕ → Verdict
 checked s =
     elim (sizesOk s) [
-      | false ↦ Size
+      | false ↦ Refused Size
       | true ↦
           elim (shapeOk s) [
-            | false ↦ Node
+            | false ↦ Refused Shape
             | true ↦
                 elim (textsOk s) [
-                  | false ↦ Text
+                  | false ↦ Refused Text
                   | true ↦
-                      elim (numbersOk s) [ false ↦ Number | true ↦ treeChecked s ]
+                      elim (numbersOk s) [ false ↦ Refused Number | true ↦ treeChecked s ]
                 ]
           ]
     ]

@@ -12,22 +12,23 @@ use Rattle.switches.specs.Switch.{entriesOk, casesOk}
 use Rattle.support.specs.Support.{supportedOk}
 use Rattle.checks.specs.Checked.{treeChecked, checked}
 use Rattle.checks.specs.declared.Verdict.{Verdict}
-use Rattle.checks.specs.declared.Verdict.the-variants.{Accepted, Size, Node, Text, Number, Depth, Entries, Repeated, Unsupported}
+use Rattle.checks.specs.declared.Verdict.the-variants.{Accepted, Refused}
+use Rattle.refusals.specs.declared.Refusal.the-variants.{Size, Shape, Text, Number, Depth, Arms, Twice, Unsupported}
 
 module _ (s : List ℕ) where
-  pub says-1 : sizesOk s ≡ false → checked s ≡ Size
+  pub says-1 : sizesOk s ≡ false → checked s ≡ Refused Size
   unfolding checked
   says-1 a = rw (a, checked)
 
-  pub says-2 : sizesOk s ≡ true → shapeOk s ≡ false → checked s ≡ Node
+  pub says-2 : sizesOk s ≡ true → shapeOk s ≡ false → checked s ≡ Refused Shape
   unfolding checked
   says-2 a b = rw (a, b, checked)
 
-  pub says-3 : sizesOk s ≡ true → shapeOk s ≡ true → textsOk s ≡ false → checked s ≡ Text
+  pub says-3 : sizesOk s ≡ true → shapeOk s ≡ true → textsOk s ≡ false → checked s ≡ Refused Text
   unfolding checked
   says-3 a b c = rw (a, b, c, checked)
 
-  pub says-4 : sizesOk s ≡ true → shapeOk s ≡ true → textsOk s ≡ true → numbersOk s ≡ false → checked s ≡ Number
+  pub says-4 : sizesOk s ≡ true → shapeOk s ≡ true → textsOk s ≡ true → numbersOk s ≡ false → checked s ≡ Refused Number
   unfolding checked
   says-4 a b c d = rw (a, b, c, d, checked)
 
@@ -35,19 +36,19 @@ module _ (s : List ℕ) where
   unfolding checked
   goes-on a b c d = rw (a, b, c, d, checked)
 
-  pub says-5 : depthOk s ≡ false → treeChecked s ≡ Depth
+  pub says-5 : depthOk s ≡ false → treeChecked s ≡ Refused Depth
   unfolding treeChecked
   says-5 a = rw (a, treeChecked)
 
-  pub says-6 : depthOk s ≡ true → entriesOk s ≡ false → treeChecked s ≡ Entries
+  pub says-6 : depthOk s ≡ true → entriesOk s ≡ false → treeChecked s ≡ Refused Arms
   unfolding treeChecked
   says-6 a b = rw (a, b, treeChecked)
 
-  pub says-7 : depthOk s ≡ true → entriesOk s ≡ true → casesOk s ≡ false → treeChecked s ≡ Repeated
+  pub says-7 : depthOk s ≡ true → entriesOk s ≡ true → casesOk s ≡ false → treeChecked s ≡ Refused Twice
   unfolding treeChecked
   says-7 a b c = rw (a, b, c, treeChecked)
 
-  pub says-8 : depthOk s ≡ true → entriesOk s ≡ true → casesOk s ≡ true → supportedOk s ≡ false → treeChecked s ≡ Unsupported
+  pub says-8 : depthOk s ≡ true → entriesOk s ≡ true → casesOk s ≡ true → supportedOk s ≡ false → treeChecked s ≡ Refused Unsupported
   unfolding treeChecked
   says-8 a b c d = rw (a, b, c, d, treeChecked)
 

@@ -6,20 +6,21 @@ use Rattle.texts.specs.Texts.{textsOk}
 use Rattle.numbers.specs.Numbers.{localsOk}
 use Rattle.switches.specs.Switch.{entriesOk, casesOk}
 use Rattle.checks.specs.declared.Verdict.{Verdict}
-use Rattle.checks.specs.declared.Verdict.the-variants.{Accepted, Text, Number, Entries, Repeated}
+use Rattle.checks.specs.declared.Verdict.the-variants.{Accepted, Refused}
+use Rattle.refusals.specs.declared.Refusal.the-variants.{Text, Number, Arms, Twice}
 
 unfoldable pub restChecked : List ℕ → Verdict
 restChecked s =
     elim (textsOk s) [
-      | false ↦ Text
+      | false ↦ Refused Text
       | true ↦
           elim (localsOk s) [
-            | false ↦ Number
+            | false ↦ Refused Number
             | true ↦
                 elim (entriesOk s) [
-                  | false ↦ Entries
+                  | false ↦ Refused Arms
                   | true ↦
-                      elim (casesOk s) [ false ↦ Repeated | true ↦ Accepted ]
+                      elim (casesOk s) [ false ↦ Refused Twice | true ↦ Accepted ]
                 ]
           ]
     ]

@@ -6,6 +6,8 @@ use depth::depth_ok;
 use numbers::locals_ok;
 use numbers::numbers_ok;
 use one_pass::passes;
+use refusals::Refusal;
+use refusals::refusal_number;
 use shape::shape_ok;
 use sizes::sizes_ok;
 use support::supported_ok;
@@ -13,17 +15,10 @@ use switches::cases_ok;
 use switches::entries_ok;
 use texts::texts_ok;
 
-// What a check answers: the sheet is within the format, or the first cause that fits.
+// What is answered: nothing refuses, or the first cause that fits.
 pub enum Verdict {
     Accepted,
-    Size,
-    Node,
-    Text,
-    Number,
-    Depth,
-    Entries,
-    Repeated,
-    Unsupported,
+    Refused(Refusal),
 }
 
 // The number of an answer: 0, or the refusal's.
@@ -32,14 +27,7 @@ pub fn number(v: Verdict) -> u32
 {
     match v {
         Verdict::Accepted => 0,
-        Verdict::Size => 1,
-        Verdict::Node => 2,
-        Verdict::Text => 3,
-        Verdict::Number => 4,
-        Verdict::Depth => 5,
-        Verdict::Entries => 6,
-        Verdict::Repeated => 7,
-        Verdict::Unsupported => 8,
+        Verdict::Refused(r) => refusal_number(r),
     }
 }
 
@@ -53,13 +41,13 @@ fn tree(s: &[u8]) -> Verdict
                 if supported_ok(s) {
                     return Verdict::Accepted;
                 }
-                return Verdict::Unsupported;
+                return Verdict::Refused(Refusal::Unsupported);
             }
-            return Verdict::Repeated;
+            return Verdict::Refused(Refusal::Twice);
         }
-        return Verdict::Entries;
+        return Verdict::Refused(Refusal::Arms);
     }
-    Verdict::Depth
+    Verdict::Refused(Refusal::Depth)
 }
 
 // The answer for any byte string, refusal by refusal.
@@ -72,13 +60,13 @@ fn by_number(s: &[u8]) -> Verdict
                 if numbers_ok(s) {
                     return tree(s);
                 }
-                return Verdict::Number;
+                return Verdict::Refused(Refusal::Number);
             }
-            return Verdict::Text;
+            return Verdict::Refused(Refusal::Text);
         }
-        return Verdict::Node;
+        return Verdict::Refused(Refusal::Shape);
     }
-    Verdict::Size
+    Verdict::Refused(Refusal::Size)
 }
 
 // What is left where nothing of refusals 1, 2, 4 (of nodes), 5 and 8 holds.
@@ -92,13 +80,13 @@ fn rest(s: &[u8]) -> Verdict
                 if cases_ok(s) {
                     return Verdict::Accepted;
                 }
-                return Verdict::Repeated;
+                return Verdict::Refused(Refusal::Twice);
             }
-            return Verdict::Entries;
+            return Verdict::Refused(Refusal::Arms);
         }
-        return Verdict::Number;
+        return Verdict::Refused(Refusal::Number);
     }
-    Verdict::Text
+    Verdict::Refused(Refusal::Text)
 }
 
 // The answer for any byte string: in one pass over the nodes where all of them are well, and refusal by refusal where not.
@@ -111,5 +99,5 @@ pub fn check(s: &[u8]) -> Verdict
         }
         return by_number(s);
     }
-    Verdict::Size
+    Verdict::Refused(Refusal::Size)
 }

@@ -19,5 +19,6 @@ pub mod CallDoes
 pub mod WaySays
 pub mod WayLaws
 pub mod StepDoes
+pub mod Ends
 pub mod EndDoes
 pub mod Falls

@@ -32,7 +32,7 @@ pub fn constant(s: &[u8], t: &[u8; 125], c: &mut [u32; COUNTS], x: &mut [u32], j
 }
 
 // A name, loaded.
-pub fn load_named(s: &[u8], t: &[u8; 125], c: &mut [u32; COUNTS], x: &mut [u32], j: u32)
+fn load_named(s: &[u8], t: &[u8; 125], c: &mut [u32; COUNTS], x: &mut [u32], j: u32)
     ensures { λ _. let sheet = now (s .entry) in ⌜
         ((l : Layout) → now (t .entry) ≡ effectTable → Plain sheet j → NameKey sheet (3 * j + 0)
         → Does sheet l (now (x .entry)) (stateOf (now (c .entry))) (now (x .exit)) (stateOf (now (c .exit)))

@@ -15,12 +15,12 @@ ghost use Rattle.emission.specs.Construct as constructs;
 ghost use Rattle.compile.specs.Linked.{Linked};
 ghost use Rattle.compile.specs.Rows.{rows};
 
-pub mod after;
-pub mod calls;
-pub mod ends;
-pub mod leaves;
-pub mod names;
-pub mod steps;
+mod after;
+mod calls;
+mod ends;
+mod leaves;
+mod names;
+mod steps;
 
 use after::After;
 use after::after_one;
@@ -253,7 +253,6 @@ pub fn expression(
         residual(t, c, x, j);
         return;
     }
-    let code = c[CODE];
     let by = rule(s, j);
     match by {
         Rule::Boolean => emit(t, c, x, Op::Bool(field_a(s, j)), 0, 0),
@@ -265,9 +264,27 @@ pub fn expression(
         Rule::This => emit(t, c, x, Op::LoadThis, position(s, j), 0),
         Rule::FnCall => call(levels - 1, s, t, c, x, j),
         Rule::Chain => chain(levels - 1, s, t, c, x, j),
-        Rule::And => short_circuit(levels - 1, s, t, c, x, 0, end_of(levels, s, code, j), j),
-        Rule::Or => short_circuit(levels - 1, s, t, c, x, 1, end_of(levels, s, code, j), j),
-        Rule::Coalesce => coalesce(levels - 1, s, t, c, x, end_of(levels, s, code, j), j),
+        Rule::And => short_circuit(
+            levels - 1,
+            s,
+            t,
+            c,
+            x,
+            0,
+            end_of(levels, s, &x[..], c, j),
+            j,
+        ),
+        Rule::Or => short_circuit(
+            levels - 1,
+            s,
+            t,
+            c,
+            x,
+            1,
+            end_of(levels, s, &x[..], c, j),
+            j,
+        ),
+        Rule::Coalesce => coalesce(levels - 1, s, t, c, x, end_of(levels, s, &x[..], c, j), j),
         Rule::Residual => residual(t, c, x, j),
     }
 }

@@ -5,6 +5,7 @@ use mathlib.Core.Bool.{Bool, true, false, _&&_, _||_, true≢false}
 use mathlib.Core.List.{List, [], _∷_}
 use native.Mathlib.Omega.{arith}
 use lib.Dec.{leb, eqb}
+use borrow.Author.Tests.{eqb-true}
 use Rattle.sheet.specs.Limits.{maxDepth}
 use Rattle.sheet.specs.Node.{kind, fieldB, fieldC, count, child, next}
 use Rattle.sheet.specs.Walk.{skip}
@@ -19,7 +20,7 @@ use Rattle.counting.specs.declared.plans.Plan.{Plan}
 use Rattle.counting.specs.declared.plans.Plan.the-variants.{Parts, Coalesce, Chain}
 use Rattle.counting.specs.declared.links.Link.{Link}
 use Rattle.counting.specs.declared.links.Link.the-variants.{Lowers, Fails, Nowhere}
-use Rattle.counting.specs.Tally.{instructions, nothing, plus, takenBack}
+use Rattle.counting.specs.Tally.{counted, instructions, nothing, plus, takenBack}
 use Rattle.counting.specs.Locals.{isLocal, variableBy, firstBy, receiverBy}
 use Rattle.counting.specs.Plan.{otherArgs, rotates, callBy, fnCallBy, fnCall, planBy, plan}
 use Rattle.counting.specs.Link.{link, least, temporary}
@@ -98,7 +99,11 @@ module _ (s : List ℕ) (t u : Rec) (U : Under t u) where
 
 -- ---- receivers: those that are locals here are locals there
 
-module _ (here there : ℕ → Bool) (more : (v : ℕ) → here v ≡ true → there v ≡ true) (s : List ℕ) (u : Rec) (j : ℕ) where
+-- each Variable that is a local here is one there
+pub record More (s : List ℕ) (here there : ℕ → Bool) : Type 0 where
+  pub each : (v : ℕ) → kind s v ≡ variableKind → here v ≡ true → there v ≡ true
+
+module _ (here there : ℕ → Bool) (s : List ℕ) (more : More s here there) (u : Rec) (j : ℕ) where
   abbrev Falls : Plan → Plan → Type 0
   Falls p q = Below (follow p s u j) (follow q s u j)
 
@@ -110,13 +115,13 @@ module _ (here there : ℕ → Bool) (more : (v : ℕ) → here v ≡ true → t
   unfolding otherArgs follow
   one-falls = below-plus (below-refl (siblings s u 0 (count s j - 1) (next s (child j)))) (fewer (omega arith))
 
-  variable-falls : (v : ℕ) → Falls (callBy (variableBy there v) s j) (callBy (variableBy here v) s j)
+  variable-falls : (v : ℕ) → kind s v ≡ variableKind → Falls (callBy (variableBy there v) s j) (callBy (variableBy here v) s j)
   unfolding variableBy callBy
-  variable-falls v = by (here v) (there v) refl refl
+  variable-falls v is = by (here v) (there v) refl refl
     where
       by : (a b : Bool) → here v ≡ a → there v ≡ b → Falls (callBy (variableBy there v) s j) (callBy (variableBy here v) s j)
       by true true e f = rw (e, f, variableBy) (stays (otherArgs s j 1))
-      by true false e f = absurd (true≢false (sym (more v e) ∙ f))
+      by true false e f = absurd (true≢false (sym (more .each v is e) ∙ f))
       by false true e f = rw (e, f, variableBy) one-falls
       by false false e f = rw (e, f, variableBy) (stays (otherArgs s j (2 + rotates (count s j - 1))))
 
@@ -127,7 +132,7 @@ module _ (here there : ℕ → Bool) (more : (v : ℕ) → here v ≡ true → t
       by : (a b : Bool) → eqb (kind s v) thisKind ≡ a → eqb (kind s v) variableKind ≡ b
           → Falls (callBy (firstBy there s v) s j) (callBy (firstBy here s v) s j)
       by true b e f = rw (e, firstBy) (stays (callBy Call.this s j))
-      by false true e f = rw (e, f, firstBy) (variable-falls v)
+      by false true e f = rw (e, f, firstBy) (variable-falls v (eqb-true (kind s v) variableKind f))
       by false false e f = rw (e, f, firstBy) (stays (callBy Call.value s j))
 
   receiver-falls : Falls (callBy (receiverBy there s j) s j) (callBy (receiverBy here s j) s j)
@@ -165,20 +170,34 @@ module _ (here there : ℕ → Bool) (more : (v : ℕ) → here v ≡ true → t
 
 -- ---- nodes
 
-pub tally-falls : (here there : ℕ → Bool) → ((v : ℕ) → here v ≡ true → there v ≡ true) → (levels : ℕ) (s : List ℕ)
+pub tally-falls : (here there : ℕ → Bool) (s : List ℕ) → More s here there → (levels : ℕ)
     → Under (tallyBy there levels s) (tallyBy here levels s)
 unfolding tallyBy plan
-tally-falls here there more zero s = record { each = λ j. below-refl (instructions 1) }
-tally-falls here there more (suc levels) s =
-    let U = tally-falls here there more levels s in
+tally-falls here there s more zero = record { each = λ j. below-refl (instructions 1) }
+tally-falls here there s more (suc levels) =
+    let U = tally-falls here there s more levels in
     record {
       each = λ j. below-trans (follow-below s (tallyBy there levels s) (tallyBy here levels s) U (planBy there (rule s j) s j) j)
-          (rule-falls here there more s (tallyBy here levels s) j (rule s j));
+          (rule-falls here there s more (tallyBy here levels s) j (rule s j));
     }
 
 -- with all Variables locals, and with none
 pub tally-least : (levels : ℕ) (s : List ℕ) → Under (tallyBy (λ v. true) levels s) (tally levels s)
-tally-least levels s = tally-falls (isLocal s) (λ v. true) (λ v h. refl) levels s
+tally-least levels s = tally-falls (isLocal s) (λ v. true) s (record { each = λ v is h. refl }) levels
 
 pub tally-greatest : (levels : ℕ) (s : List ℕ) → Under (tally levels s) (tallyBy (λ v. false) levels s)
-tally-greatest levels s = tally-falls (λ v. false) (isLocal s) (λ v h. absurd (true≢false (sym h))) levels s
+tally-greatest levels s = tally-falls (λ v. false) (isLocal s) s (record { each = λ v is h. absurd (true≢false (sym h)) }) levels
+
+-- ---- the same Variables are locals
+
+below-both : {a b : Tally} → Below a b → Below b a → a ≡ b
+below-both {a} {b} g h =
+    let len : a .len ≡ b .len = omega (arith, g .len, h .len) in
+    let emitted : a .emitted ≡ b .emitted = omega (arith, g .emitted, h .emitted) in
+    λ i. counted (len i) (emitted i) (g .defeated i)
+
+pub tally-same : (here there : ℕ → Bool) (s : List ℕ) → ((v : ℕ) → kind s v ≡ variableKind → here v ≡ there v) → (levels j : ℕ)
+    → tallyBy here levels s j ≡ tallyBy there levels s j
+tally-same here there s same levels j =
+    below-both (tally-falls there here s (record { each = λ v is h. same v is ∙ h }) levels .each j)
+    (tally-falls here there s (record { each = λ v is h. sym (same v is) ∙ h }) levels .each j)

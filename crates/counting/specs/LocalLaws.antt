@@ -1,12 +1,14 @@
 -- Laws of receivers as a count has them: one for each way through the code, and by the definition's locals a call has its own plan.
-use Prim.Native.Nat.{ℕ, zero, suc, _*_}
+use Prim.Native.Nat.{ℕ, zero, suc, _*_, _<_, _≤_}
 use mathlib.Core.Path.{_≡_, refl, sym, ap, _∙_}
 use mathlib.Core.Bool.{Bool, true, false, _&&_, not}
 use mathlib.Core.Option.{Option, none, some}
 use mathlib.Core.List.{List, [], _∷_}
-use lib.Dec.{eqb, leb}
+use lib.Dec.{eqb, leb, ltb}
 use lib.ListN.{length, getD}
-use borrow.Author.Tests.{eq-eqb, ne-eqb}
+use borrow.Author.Tests.{eq-eqb, ne-eqb, lt-ltb, le-ltb}
+use native.Mathlib.Omega.{arith}
+use Rattle.sheet.specs.Layout.{nodeCount}
 use Rattle.sheet.specs.Node.{kind, fieldA, fieldB, fieldC, count, child}
 use Rattle.sheet.specs.Text.{text}
 use Rattle.lowering.specs.Kinds.{variableKind, thisKind}
@@ -80,14 +82,25 @@ module _ (x s : List ℕ) (v : ℕ) where
   unfolding toldBy
   told-all h = sym (ap (λ n. toldBy n x s v) h)
 
-  each : (n : ℕ) → (n ≡ 0 → ⊥) → (n ≡ 1 → ⊥) → not (eqb (getD x (2 * v) 0) 0) ≡ toldBy n x s v
+  each : (n : ℕ) → (n ≡ 0 → ⊥) → (n ≡ 1 → ⊥) → v < nodeCount s → not (eqb (getD x (2 * v) 0) 0) ≡ toldBy n x s v
   unfolding toldBy
-  each zero g h = absurd (g refl)
-  each (suc zero) g h = absurd (h refl)
-  each (suc (suc n)) g h = refl
+  each zero g h i = absurd (g refl)
+  each (suc zero) g h i = absurd (h refl)
+  each (suc (suc n)) g h i = rw (lt-ltb v (nodeCount s) i, toldBy)
 
-  pub told-each : (length x ≡ 0 → ⊥) → (length x ≡ 1 → ⊥) → not (eqb (getD x (2 * v) 0) 0) ≡ answer x s v
-  told-each g h = each (length x) g h
+  pub told-each : {m : ℕ} → (length x ≡ 0 → ⊥) → (length x ≡ 1 → ⊥) → m ≡ nodeCount s → v < m
+      → not (eqb (getD x (2 * v) 0) 0) ≡ answer x s v
+  told-each g h m-is i = each (length x) g h (omega arith)
+
+  outside : (n : ℕ) → (n ≡ 0 → ⊥) → (n ≡ 1 → ⊥) → nodeCount s ≤ v → isLocal s v ≡ toldBy n x s v
+  unfolding toldBy
+  outside zero g h i = absurd (g refl)
+  outside (suc zero) g h i = absurd (h refl)
+  outside (suc (suc n)) g h i = rw (le-ltb v (nodeCount s) i, toldBy)
+
+  -- what is no node is looked up
+  pub told-outside : {m : ℕ} → (length x ≡ 0 → ⊥) → (length x ≡ 1 → ⊥) → m ≡ nodeCount s → m ≤ v → isLocal s v ≡ answer x s v
+  told-outside g h m-is i = outside (length x) g h (omega arith)
 
 module _ (here : ℕ → Bool) (s : List ℕ) (j : ℕ) where
   pub variable-local : here j ≡ true → Firsts.the-variants.Local 0 ≡ firstOf (variableBy here j)

@@ -4,8 +4,9 @@ use Prim.Native.Nat.{ℕ, zero, suc, _*_}
 use mathlib.Core.Bool.{Bool, true, false, _&&_, not}
 use mathlib.Core.Option.{none, some}
 use mathlib.Core.List.{List}
-use lib.Dec.{leb, eqb}
+use lib.Dec.{leb, ltb, eqb}
 use lib.ListN.{length, getD}
+use Rattle.sheet.specs.Layout.{nodeCount}
 use Rattle.sheet.specs.Node.{kind, fieldA, fieldB, fieldC, count, child}
 use Rattle.sheet.specs.Text.{text}
 use Rattle.lowering.specs.Kinds.{variableKind, thisKind}
@@ -16,11 +17,11 @@ use Rattle.lowering.specs.Call.{First, local, named, this, value}
 unfoldable pub isLocal : List ℕ → ℕ → Bool
 isLocal s v = elim (resolve s (text s (fieldA s v))) [ some slot ↦ true | none ↦ false ]
 
--- as n words x tell: none, and the definition says it; one for all Variables; or word 2 v for Variable v
+-- as n words x tell: none, and the definition says it; one for all Variables; or word 2 v for Variable v, where it is a node
 unfoldable pub toldBy : ℕ → List ℕ → List ℕ → ℕ → Bool
 toldBy zero x s v = isLocal s v
 toldBy (suc zero) x s v = not (eqb (getD x 0 0) 0)
-toldBy (suc (suc n)) x s v = not (eqb (getD x (2 * v) 0) 0)
+toldBy (suc (suc n)) x s v = elim (ltb v (nodeCount s)) [ true ↦ not (eqb (getD x (2 * v) 0) 0) | false ↦ isLocal s v ]
 
 abbrev pub answer : List ℕ → List ℕ → ℕ → Bool
 answer x s v = toldBy (length x) x s v

@@ -11,7 +11,7 @@ ghost use Rattle.counting.specs.Link as linked;
 ghost use Rattle.counting.specs.Count as counts;
 
 pub mod links;
-pub mod locals;
+mod locals;
 pub mod plans;
 pub mod tallies;
 

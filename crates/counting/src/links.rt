@@ -55,7 +55,7 @@ pub fn link_with(s: &[u8], p: Read) -> Link
 }
 
 // What of link `c` is counted.
-pub fn link_of(s: &[u8], c: u32) -> Link
+pub(crate) fn link_of(s: &[u8], c: u32) -> Link
     ensures { λ r. ⌜ r ≡ linked.link (now (s .entry)) c ⌝ }
 {
     link_with(s, read_link(s, c))
@@ -80,7 +80,7 @@ fn lesser(a: u32, b: u32) -> u32
 }
 
 // How far chain `j` comes with all its links.
-pub fn reach(s: &[u8], j: u32) -> u32
+pub(crate) fn reach(s: &[u8], j: u32) -> u32
     ensures { λ r. ⌜ r ≡ linked.least (now (s .entry)) (chains.links maxDepth (now (s .entry)) j) ⌝ }
 {
     let mut least: u32 = 2;
@@ -108,7 +108,7 @@ pub fn temporary(s: &[u8], v: u32) -> u32
 }
 
 // Chain `j` is one Property of a variable or of `this`: one instruction, and nothing to be counted.
-pub fn is_plain(s: &[u8], j: u32) -> bool
+pub(crate) fn is_plain(s: &[u8], j: u32) -> bool
     ensures { λ r. ⌜ r ≡ linked.isPlain (now (s .entry)) j ⌝ }
 {
     if goes_on(s, j) {

@@ -13,6 +13,7 @@ use sheet::field_a;
 use sheet::field_b;
 use sheet::field_c;
 use sheet::kind;
+use sheet::node_count;
 use slots::Found;
 
 // Variable `v` is a local: its name is looked up.
@@ -26,7 +27,8 @@ fn asked(s: &[u8], v: u32) -> bool
     }
 }
 
-// Variable `v` is a local, as it is told: by no word, and its name is looked up; by one word for all; by word 2 `v`. 0 is no local.
+// Variable `v` is a local, as it is told: by no word, and its name is looked up; by one word for all; by word 2 `v`, where `v` is a node. 0
+// is no local.
 fn is_local(s: &[u8], told: &[u32], v: u32) -> bool
     ensures { λ r. ⌜ r ≡ locals.answer (now (told .entry)) (now (s .entry)) v ⌝ }
 {
@@ -37,7 +39,10 @@ fn is_local(s: &[u8], told: &[u32], v: u32) -> bool
     if n == 1 {
         return !(get(told, 0) == 0);
     }
-    !(get(told, 2 * (v as usize)) == 0)
+    if v < node_count(s) {
+        return !(get(told, 2 * (v as usize)) == 0);
+    }
+    asked(s, v)
 }
 
 // Variable `v` as a first argument.

@@ -49,7 +49,7 @@ fn one() -> Plan
 }
 
 // A node of kind `k` is one instruction without operands: Bool, Unit, the constants, Variable, This.
-pub fn is_leaf(k: u32) -> bool
+pub(crate) fn is_leaf(k: u32) -> bool
     ensures { λ r. ⌜ r ≡ plans.isLeaf k ⌝ }
 {
     ((1 <= k) & (k <= 6)) | (k == 9) | (k == 10)
@@ -173,7 +173,7 @@ fn fn_call(s: &[u8], told: &[u32], j: u32) -> Plan
 }
 
 // What of node `j` is counted.
-pub fn plan_of(s: &[u8], told: &[u32], j: u32) -> Plan
+pub(crate) fn plan_of(s: &[u8], told: &[u32], j: u32) -> Plan
     ensures { λ r. let sheet = now (s .entry) in ⌜ r ≡ plans.plan (answer (now (told .entry)) sheet) sheet j ⌝ }
 {
     let by = rule(s, j);

@@ -5,7 +5,7 @@ ghost use Rattle.counting.specs.Limits.{cap};
 ghost use Rattle.counting.specs.Tally as tallies;
 
 // where counts are cut off
-pub const CAP: u64 = 16777216;
+const CAP: u64 = 16777216;
 
 // greatest count of emitted instructions that is not refused
 pub const MAX_EMITTED: u64 = 262143;
@@ -43,7 +43,7 @@ pub fn instructions(n: u32) -> Tally
 }
 
 // `n` instructions, and `gap` more for each of `m`.
-pub fn spaced(n: u32, gap: u32, m: u32) -> Tally
+pub(crate) fn spaced(n: u32, gap: u32, m: u32) -> Tally
     ensures { λ r. ⌜ r ≡ tallies.instructions (n + gap * m) ⌝ }
 {
     let k = (n as u64) + (gap as u64) * (m as u64);
@@ -62,7 +62,7 @@ pub fn nothing() -> Tally
 }
 
 // The residual that an `eval` stays.
-pub fn evaluation() -> Tally
+pub(crate) fn evaluation() -> Tally
     ensures { λ r. ⌜ r ≡ tallies.evaluation ⌝ }
 {
     Tally {
@@ -84,7 +84,7 @@ pub fn plus(a: Tally, b: Tally) -> Tally
 }
 
 // Code that is taken back stays emitted.
-pub fn taken_back(a: Tally) -> Tally
+pub(crate) fn taken_back(a: Tally) -> Tally
     ensures { λ r. ⌜ r ≡ tallies.takenBack a ⌝ }
 {
     Tally {

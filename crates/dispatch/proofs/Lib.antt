@@ -1,7 +1,7 @@
 pub mod ReadyLaws
-pub mod PartLaws
-pub mod TableLaws
-pub mod ArmDoes
-pub mod BodyDoes
-pub mod CaseDoes
-pub mod SwitchDoes
+mod PartLaws
+mod TableLaws
+mod ArmDoes
+mod BodyDoes
+mod CaseDoes
+mod SwitchDoes

@@ -41,7 +41,7 @@ use tables::RUN_HEAD;
 use tables::RUN_HEADS;
 
 // Where a chain goes that takes no body, and whether the jump there is dropped.
-pub struct Tail {
+struct Tail {
     pub to: u32,
     pub drop: bool,
 }

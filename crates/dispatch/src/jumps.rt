@@ -15,7 +15,7 @@ use store::states::COUNTS;
 use store::states::EMITTED;
 
 // An instruction is counted and has no code.
-pub fn dropped(c: &mut [u32; COUNTS])
+fn dropped(c: &mut [u32; COUNTS])
     ensures { λ _. ⌜ (Full (now (c .entry)) → stateOf (now (c .exit)) ≡ parts.droppedIn (stateOf (now (c .entry)))) ⌝ }
 {
     c[EMITTED] = wrapping_add_u32(c[EMITTED], 1);

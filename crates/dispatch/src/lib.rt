@@ -17,9 +17,9 @@ ghost use Rattle.dispatch.specs.Ready.{Ready};
 ghost use Rattle.dispatch.specs.Parts as parts;
 ghost use Rattle.dispatch.specs.Consts.{ConstsAt};
 
-pub mod arms;
-pub mod bodies;
-pub mod jumps;
+mod arms;
+mod bodies;
+mod jumps;
 
 use arms::case_arms;
 use arms::range_arms;

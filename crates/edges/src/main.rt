@@ -1,11 +1,14 @@
-// The edges of document 01: each sheet is made by crate edge_sheets, lowered into buffers that hold noise, and answered by one line: the number, the word count,
-// a checksum of the image's room and one of the scratch, and for an image its twelve sizes. `oracle edges` prints the same from its own sheets.
+// The edges of document 01: each sheet is made by `sheets`, lowered into buffers that hold noise, and answered by one line: the number, the
+// word count, a checksum of the image's room and one of the scratch, and for an image its twelve sizes. `oracle edges` prints the same from
+// its own sheets.
 ghost use Prim.Native.Nat.{_-_};
 ghost use lib.ListN.{getD};
 ghost use mathlib.Core.Path.{_≡_};
 ghost use Rattle.edges.specs.Sums as sums;
+
+mod sheets;
+
 use libc::STDOUT_FILENO;
-use to_image::Answer;
 use to_image::lower;
 
 // the names of calls as words: `g`, `call`
@@ -86,16 +89,10 @@ fn print_answer(label: &[u8], number: u32, count: usize, image: &[u32], scratch:
 fn edge(label: &[u8], sheet: &[u8], image: &mut [u32], scratch: &mut [u32]) -> usize {
     put_noise(image);
     put_noise(scratch);
-    match lower(sheet, image, scratch) {
-        Answer::Lowered { words } => {
-            print_answer(label, 0, words, &image[..], &scratch[..]);
-            words
-        }
-        Answer::Refused { number } => {
-            print_answer(label, number, 0, &image[..], &scratch[..]);
-            0
-        }
-    }
+    let a = lower(sheet, image, scratch);
+    let words = to_image::words(a);
+    print_answer(label, to_image::number(a), words, &image[..], &scratch[..]);
+    words
 }
 
 // The same for the sheet in the first `n` bytes of `s`.
@@ -125,55 +122,55 @@ fn within(
 
 // The depth of the tree.
 fn depths(s: &mut [u8], image: &mut [u32], scratch: &mut [u32]) {
-    let a = edge_sheets::size(edge_sheets::deep(s, 63), 0);
+    let a = sheets::size(sheets::deep(s, 63), 0);
     try_one(b"depth 64", &s[..], a, image, scratch);
-    let b = edge_sheets::size(edge_sheets::deep(s, 64), 0);
+    let b = sheets::size(sheets::deep(s, 64), 0);
     try_one(b"depth 65", &s[..], b, image, scratch);
 }
 
 // Ranges of a switch.
 fn many_ranges(s: &mut [u8], image: &mut [u32], scratch: &mut [u32]) {
-    let a = edge_sheets::size(edge_sheets::ranges(s, 64), 0);
+    let a = sheets::size(sheets::ranges(s, 64), 0);
     try_one(b"ranges 64", &s[..], a, image, scratch);
-    let b = edge_sheets::size(edge_sheets::ranges(s, 65), 0);
+    let b = sheets::size(sheets::ranges(s, 65), 0);
     try_one(b"ranges 65", &s[..], b, image, scratch);
 }
 
 // Instructions emitted. With 262,143 of them the scratch here is too short, so that 11 is the answer, and with one more it is 10.
 fn emitted(s: &mut [u8], image: &mut [u32], scratch: &mut [u32]) {
-    let a = edge_sheets::size(edge_sheets::coalesce(s, 3, 65534), 0);
+    let a = sheets::size(sheets::coalesce(s, 3, 65534), 0);
     try_one(b"emitted 262143", &s[..], a, image, scratch);
-    let b = edge_sheets::size(edge_sheets::coalesce(s, 2, 65535), 0);
+    let b = sheets::size(sheets::coalesce(s, 2, 65535), 0);
     try_one(b"emitted 262144", &s[..], b, image, scratch);
 }
 
 // Arguments of a call.
 fn arguments(s: &mut [u8], image: &mut [u32], scratch: &mut [u32]) {
-    let a = edge_sheets::size(edge_sheets::call(s, 1, G, 255), 1);
+    let a = sheets::size(sheets::call(s, 1, G, 255), 1);
     try_one(b"arguments 255", &s[..], a, image, scratch);
-    let b = edge_sheets::size(edge_sheets::call(s, 1, G, 256), 1);
+    let b = sheets::size(sheets::call(s, 1, G, 256), 1);
     try_one(b"arguments 256", &s[..], b, image, scratch);
 }
 
 // Arguments of `call`, the first of which is the function pointer.
 fn call_arguments(s: &mut [u8], image: &mut [u32], scratch: &mut [u32]) {
-    let a = edge_sheets::size(edge_sheets::call(s, 4, CALL, 256), 1);
+    let a = sheets::size(sheets::call(s, 4, CALL, 256), 1);
     try_one(b"arguments of call 256", &s[..], a, image, scratch);
-    let b = edge_sheets::size(edge_sheets::call(s, 4, CALL, 257), 1);
+    let b = sheets::size(sheets::call(s, 4, CALL, 257), 1);
     try_one(b"arguments of call 257", &s[..], b, image, scratch);
 }
 
 // Arguments of a method.
 fn method_arguments(s: &mut [u8], image: &mut [u32], scratch: &mut [u32]) {
-    let a = edge_sheets::size(edge_sheets::method(s, 1, G, 255), 1);
+    let a = sheets::size(sheets::method(s, 1, G, 255), 1);
     try_one(b"arguments of a method 255", &s[..], a, image, scratch);
-    let b = edge_sheets::size(edge_sheets::method(s, 1, G, 256), 1);
+    let b = sheets::size(sheets::method(s, 1, G, 256), 1);
     try_one(b"arguments of a method 256", &s[..], b, image, scratch);
 }
 
 // Arguments of the method `call`.
 fn method_call_arguments(s: &mut [u8], image: &mut [u32], scratch: &mut [u32]) {
-    let a = edge_sheets::size(edge_sheets::method(s, 4, CALL, 255), 1);
+    let a = sheets::size(sheets::method(s, 4, CALL, 255), 1);
     try_one(
         b"arguments of the method call 255",
         &s[..],
@@ -181,7 +178,7 @@ fn method_call_arguments(s: &mut [u8], image: &mut [u32], scratch: &mut [u32]) {
         image,
         scratch,
     );
-    let b = edge_sheets::size(edge_sheets::method(s, 4, CALL, 256), 1);
+    let b = sheets::size(sheets::method(s, 4, CALL, 256), 1);
     try_one(
         b"arguments of the method call 256",
         &s[..],
@@ -193,9 +190,9 @@ fn method_call_arguments(s: &mut [u8], image: &mut [u32], scratch: &mut [u32]) {
 
 // Elements of an array. 65,535 emit 131,071 instructions, for which the scratch here is too short: 11. 65,536 are kept as one residual.
 fn elements(s: &mut [u8], image: &mut [u32], scratch: &mut [u32]) {
-    let a = edge_sheets::size(edge_sheets::array(s, 65535), 0);
+    let a = sheets::size(sheets::array(s, 65535), 0);
     try_one(b"elements 65535", &s[..], a, image, scratch);
-    let b = edge_sheets::size(edge_sheets::array(s, 65536), 0);
+    let b = sheets::size(sheets::array(s, 65536), 0);
     try_one(b"elements 65536", &s[..], b, image, scratch);
 }
 
@@ -235,8 +232,8 @@ fn exact(s: &[u8], n: usize, image: &mut [u32], x: usize, scratch: &mut [u32], y
 
 // The buffers that a sheet asks for: word 10 is what was emitted, where that is not capped.
 fn rooms(s: &mut [u8], image: &mut [u32], scratch: &mut [u32]) {
-    let nodes = edge_sheets::ranges(s, 20);
-    let n = edge_sheets::size(nodes, 0);
+    let nodes = sheets::ranges(s, 20);
+    let n = sheets::size(nodes, 0);
     let x = try_one(b"ranges 20", &s[..], n, image, scratch);
     let y = needed(word(&image[..], 10), nodes);
     exact(&s[..], n, image, x, scratch, y);

@@ -258,3 +258,7 @@ module _ (s : List ℕ) (t at : ℕ) (xs : List ℕ) where
   pub text-hashed : (f r : ℕ) → BySums s at xs (foldHash 0 (text s t)) f → r ≡ spread f → BySums s at xs (bytesHash (text s t)) r
   unfolding bytesHash
   text-hashed f r h e = record { is = λ sums. e ∙ ap spread (h .is sums) }
+
+-- the same place in other words
+pub by-at : {s : List ℕ} {at p : ℕ} {xs : List ℕ} {v r : ℕ} → at ≡ p → BySums s at xs v r → BySums s p xs v r
+by-at {s} {xs = xs} {v} {r} e h = subst (λ (i : ℕ). BySums s i xs v r) e h

@@ -81,7 +81,7 @@ fn fold_on(x: &[u8], start: u32) -> u32
 }
 
 // The fold over bytes, before it is spread.
-pub fn fold_bytes(x: &[u8]) -> u32
+fn fold_bytes(x: &[u8]) -> u32
     ensures { λ r. ⌜ r ≡ foldHash 0 (now (x .entry)) ⌝ }
 {
     fold_on(x, 0)
@@ -92,13 +92,6 @@ pub fn spread_out(h: u32) -> u32
     ensures { λ r. ⌜ r ≡ spread h ⌝ }
 {
     (((h as u64) * 2654435761) % 4294967296) as u32
-}
-
-// The hash of bytes.
-pub fn hash_bytes(x: &[u8]) -> u32
-    ensures { λ r. ⌜ r ≡ bytesHash (now (x .entry)) ⌝ }
-{
-    spread_out(fold_bytes(x))
 }
 
 // The product of two words, as a word.

@@ -1,2 +1,2 @@
-pub mod AnswerLaws
+mod AnswerLaws
 pub mod MadeLaws

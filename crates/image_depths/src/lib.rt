@@ -32,7 +32,7 @@ use image_rows::word_from;
 use zeros::zero;
 
 // An instruction: its word a, where it goes, and what it pushes, pops and needs to find.
-pub struct Code {
+struct Code {
     pub a: u32,
     pub flow: u32,
     pub pushes: u32,

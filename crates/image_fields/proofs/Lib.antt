@@ -1,5 +1,5 @@
 -- Laws of the tests of records, word by word.
-pub mod ObeysLaws
-pub mod RecordLaws
-pub mod FitLaws
-pub mod CodeLaws
+mod ObeysLaws
+mod RecordLaws
+mod FitLaws
+mod CodeLaws

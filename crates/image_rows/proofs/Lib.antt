@@ -1,5 +1,5 @@
 -- Laws of rows: reading them, what the scratch holds of them, and runs of rows with one mark.
-pub mod ReadLaws
+mod ReadLaws
 pub mod ScratchLaws
 pub mod SeenLaws
-pub mod RunLaws
+mod RunLaws

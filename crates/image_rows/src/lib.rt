@@ -73,7 +73,7 @@ pub fn table_word(w: &[u32], o: Starts, i: u32, f: u32) -> u32
 }
 
 // Where row `q` goes.
-pub fn row_target(w: &[u32], o: Starts, q: usize) -> u32
+fn row_target(w: &[u32], o: Starts, q: usize) -> u32
     ensures { λ r. ⌜ (Placed (now (w .entry)) o → r ≡ rowOf (now (w .entry)) q) ⌝ }
 {
     let cases = o.cases as usize;
@@ -88,7 +88,7 @@ pub fn row_target(w: &[u32], o: Starts, q: usize) -> u32
 }
 
 // The first row of table `i`.
-pub fn first_row(w: &[u32], o: Starts, i: u32) -> usize
+fn first_row(w: &[u32], o: Starts, i: u32) -> usize
     ensures first { λ r. ⌜ (Placed (now (w .entry)) o → r ≡ firstRow (now (w .entry)) i) ⌝ }
     ensures small { λ r. ⌜ r ≤ 8589934592 ⌝ }
 {

@@ -1,8 +1,8 @@
 -- Laws of the two tests over runs: operands of chains, and targets of tables.
-pub mod AllLaws
-pub mod NeedLaws
-pub mod ChainLaws
-pub mod FlowLaws
-pub mod PutLaws
-pub mod TableLaws
+mod AllLaws
+mod NeedLaws
+mod ChainLaws
+mod FlowLaws
+mod PutLaws
+mod TableLaws
 pub mod LieLaws

@@ -15,8 +15,10 @@ use Rattle.lowering.specs.Kinds.{stringKind}
 use Rattle.lowering.specs.Pools.{sameConst}
 use Rattle.index.specs.Pool.{Alike}
 use Rattle.folds.specs.Hash.{byteStep, spread, bytesHash, mix}
+use Rattle.folds.specs.Sums.{BySums}
 use Rattle.index.specs.Consts.{sameConstOf, constHash, sameTokenOf, tokenHash}
 use Rattle.folds.proofs.HashLaws.{bytes-word, mix-word}
+use Rattle.folds.proofs.SumsLaws.{by-at}
 
 -- a test by equal values, with a hash of the value
 pub alike-by :
@@ -168,17 +170,21 @@ module _ (s : List ℕ) where
   }
 
 -- the same of what the code read: a hash
-module _ (s : List ℕ) (j : ℕ) {k a h : ℕ} (e : k ≡ kind s j) (f : a ≡ fieldA s j) where
-  pub read-string : {x : List ℕ} → x ≡ text s a → h ≡ bytesHash x → k ≡ stringKind → h ≡ constHash s j
-  read-string t q z = q ∙ ap bytesHash (t ∙ ap (text s) f) ∙ sym (hash-string s j (sym e ∙ z))
+module _ (s : List ℕ) (j p : ℕ) (xs : List ℕ) {k a h : ℕ} (e : k ≡ kind s j) (f : a ≡ fieldA s j) where
+  pub read-string : {at : ℕ} → at ≡ p → BySums s at xs (bytesHash (text s a)) h → k ≡ stringKind → BySums s p xs (constHash s j) h
+  read-string t q z = record {
+    is = λ sums. by-at t q .is sums ∙ ap (λ (v : ℕ). bytesHash (text s v)) f ∙ sym (hash-string s j (sym e ∙ z));
+  }
 
-  pub read-number : {b : ℕ} → b ≡ fieldB s j → h ≡ mix k a b → (k ≡ stringKind → ⊥) → h ≡ constHash s j
-  read-number {b = b} g q n =
-      q
-      ∙ ap (λ (v : ℕ). mix v a b) e
-      ∙ ap (λ (v : ℕ). mix (kind s j) v b) f
-      ∙ ap (mix (kind s j) (fieldA s j)) g
-      ∙ sym (hash-number s j (λ z. n (e ∙ z)))
+  pub read-number : {b : ℕ} → b ≡ fieldB s j → h ≡ mix k a b → (k ≡ stringKind → ⊥) → BySums s p xs (constHash s j) h
+  read-number {b = b} g q n = record {
+    is = λ sums.
+        q
+        ∙ ap (λ (v : ℕ). mix v a b) e
+        ∙ ap (λ (v : ℕ). mix (kind s j) v b) f
+        ∙ ap (mix (kind s j) (fieldA s j)) g
+        ∙ sym (hash-number s j (λ z. n (e ∙ z)));
+  }
 
 -- and a comparison
 module _ (s : List ℕ) (i c : ℕ) {k l : ℕ} (e : k ≡ kind s i) (g : l ≡ kind s c) where

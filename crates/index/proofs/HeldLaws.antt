@@ -13,8 +13,9 @@ use Rattle.chains.specs.FindLaws.{first-here, first-within, first-behind}
 use Rattle.keys.specs.Keys.{nameOf}
 use Rattle.keys.specs.SeekLaws.{first-map}
 use Rattle.scratch.specs.declared.Layout.{Layout}
-use Rattle.scratch.specs.Places.{namesAt, nameIndex, memosFrom, region}
+use Rattle.scratch.specs.Places.{namesAt, nameIndex, memosFrom, sumsFrom, region}
 use Rattle.scratch.proofs.PlaceLaws.{name-lies, memos-lie}
+use Rattle.folds.specs.Sums.{BySums}
 use Rattle.index.specs.Lookup.{Sought, Finds}
 use Rattle.index.specs.Names.{isName, nameHashOf, nameHash, nameSlot}
 use Rattle.index.specs.Memo.{memoAt, NameAt}
@@ -45,11 +46,12 @@ module _ {s : List ℕ} {l : Layout} {n : ℕ} {xs : List ℕ} (h : NamesHold s 
 module _ (s : List ℕ) (l : Layout) (n : ℕ) (xs : List ℕ) where
   -- by a search
   pub name-searched :
-      (nm : Name) (g r : ℕ) → g ≡ nameHashOf s nm → Finds (isName s nm) (nameHash s) nameSlot (nameIndex l) n g xs r
-      → FindsName s l n nm xs r
+      (nm : Name) (g r : ℕ) → BySums s (sumsFrom l) xs (nameHashOf s nm) g
+      → Finds (isName s nm) (nameHash s) nameSlot (nameIndex l) n g xs r → FindsName s l n nm xs r
   name-searched nm g r e f = record {
     found = λ h.
-        subst (λ (i : ℕ). Finds (isName s nm) (nameHash s) nameSlot (nameIndex l) n i xs r) e f .found (name-sought h nm)
+        subst (λ (i : ℕ). Finds (isName s nm) (nameHash s) nameSlot (nameIndex l) n i xs r) (e .is (h .sums)) f .found
+        (name-sought h nm)
         ∙ name-among h nm;
   }
 

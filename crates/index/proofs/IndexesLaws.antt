@@ -17,10 +17,11 @@ use Rattle.keys.specs.Keys.{nameOf}
 use Rattle.keys.specs.Used.{ConstKey, TokenKey, ChainKey, NameKey}
 use Rattle.scratch.specs.declared.Layout.{Layout}
 use Rattle.scratch.specs.declared.Index.{Index}
-use Rattle.scratch.specs.Places.{Small, linksAt, constsAt, tokensAt, chainsAt, namesAt, memosAt, memosFrom, indexEnd, region}
+use Rattle.scratch.specs.Places.{Small, linksAt, constsAt, tokensAt, chainsAt, namesAt, memosAt, memosFrom, sumsFrom, indexEnd, region}
 use Rattle.scratch.specs.Places.{constIndex, tokenIndex, chainIndex, nameIndex}
 use Rattle.scratch.proofs.RegionLaws.{region-before, region-behind}
 use Rattle.scratch.proofs.PlaceLaws.{name-lies, const-lies, token-lies, chain-lies, memos-lie}
+use Rattle.folds.specs.Sums.{Sums}
 use Rattle.index.specs.Table.{headAt, linkAt, tagOf, notedBy}
 use Rattle.index.specs.Lookup.{Finds}
 use Rattle.index.specs.Pool.{Pool}
@@ -44,7 +45,7 @@ use Rattle.index.proofs.LodgeLaws.{const-lodged, token-lodged, chain-lo
 use Rattle.index.proofs.LodgeLaws.{const-token-beside, const-chain-beside, const-name-beside}
 use Rattle.index.proofs.LodgeLaws.{token-chain-beside, token-name-beside, chain-name-beside}
 use Rattle.index.proofs.SlotLaws.{variable-const, variable-token, variable-chain, variable-name}
-use Rattle.index.proofs.LocalLaws.{slots-set, slots-entered}
+use Rattle.index.proofs.LocalLaws.{slots-set, slots-entered, sums-before, sums-entered}
 
 -- the words by the index's own place of the keys
 added-is :
@@ -96,7 +97,7 @@ map-snoc f (x ∷ ks) k = ap (λ (l : List _). f x ∷ l) (map-snoc f ks k)
 module _ {s : List ℕ} {l : Layout} {cs ts hs ns : ℕ} {xs : List ℕ} (x : Indexes s l cs ts hs ns xs) where
   -- the names and their memos
   pub indexes-names : NamesHold s l ns xs
-  indexes-names = record { small = x .small; pool = x .names; memos = x .memos; slots = x .slots }
+  indexes-names = record { small = x .small; pool = x .names; memos = x .memos; slots = x .slots; sums = x .sums }
 
   pub indexes-room : indexEnd l ≤ length xs
   indexes-room =
@@ -137,8 +138,8 @@ module _ {s : List ℕ} {l : Layout} {cs ts hs ns : ℕ} {xs : List ℕ} (x : In
   same-names :
       {ys : List ℕ} → namesHeld s l ns ys ≡ namesHeld s l ns xs → ConstPool s l cs ys → TokenPool s l ts ys
       → ChainPool s l (namesHeld s l ns xs) hs ys → NamePool s l ns ys → Told (NameAt s (namesHeld s l ns xs)) (memosAt l) ys
-      → Slots s l ys → Indexes s l cs ts hs ns ys
-  same-names {ys} e c t h n m v = record {
+      → Slots s l ys → Sums s (sumsFrom l) ys → Indexes s l cs ts hs ns ys
+  same-names {ys} e c t h n m v f = record {
     small = x .small;
     nodes = x .nodes;
     consts = c;
@@ -147,6 +148,7 @@ module _ {s : List ℕ} {l : Layout} {cs ts hs ns : ℕ} {xs : List ℕ} (x : In
     names = n;
     memos = subst (λ (ks : List Name). Told (NameAt s ks) (memosAt l) ys) (sym e) m;
     slots = v;
+    sums = f;
   }
 
   -- a word before all keys is written
@@ -160,6 +162,7 @@ module _ {s : List ℕ} {l : Layout} {cs ts hs ns : ℕ} {xs : List ℕ} (x : In
       (pool-beside (x .names) i v (outside-before (name-lodged (x .small) (x .nodes)) i h))
       (told-set i v (x .memos) (λ k m q. omega arith))
       (slots-set i v (λ j b k q. omega arith) (x .slots))
+      (sums-before (x .small) i v (omega arith) (x .sums))
 
   -- a memo of a name that stands is written
   module _ (t p : ℕ) (few : t + 1 < 4294967296) (right : NameAt s (namesHeld s l ns xs) t p) where
@@ -187,6 +190,11 @@ module _ {s : List ℕ} {l : Layout} {cs ts hs ns : ℕ} {xs : List ℕ} (x : In
     memo-slots =
         slots-set (first + 1) p (λ j b k q. omega arith) (slots-set first _ (λ j b k q. omega arith) (x .slots))
 
+    memo-sums : Sums s (sumsFrom l) (remembered (memosAt l) t p xs)
+    unfolding remembered
+    memo-sums =
+        sums-before (x .small) (first + 1) p (omega arith) (sums-before (x .small) first _ (omega arith) (x .sums))
+
     pub indexes-remember : Indexes s l cs ts hs ns (remembered (memosFrom l) t p xs)
     indexes-remember =
         let room = indexes-room in
@@ -197,7 +205,8 @@ module _ {s : List ℕ} {l : Layout} {cs ts hs ns : ℕ} {xs : List ℕ} (x : In
         (memo-beside (chain-lodged (x .small) (x .nodes)) (x .chains))
         (memo-beside (name-lodged (x .small) (x .nodes)) (x .names))
         (told-keeps (x .memos) t p few (omega arith) right)
-        memo-slots)
+        memo-slots
+        memo-sums)
 
   -- the memos are outside of what an entry of any pool takes
   memos-kept :
@@ -266,6 +275,7 @@ module _ {s : List ℕ} {l : Layout} {cs ts hs ns : ℕ} {xs : List ℕ} (x : In
                 subst (λ (ks : List Name). Told (NameAt s ks) (memosAt l) ys) (sym e)
                 (memos-kept x d (constHash s) cs j used space w (x .memos));
             slots = slots-entered d (variable-const s) (constHash s) cs j used space w (x .slots);
+            sums = sums-entered small d (constHash s) cs j used space w (x .sums);
           }
 
       pub indexes-const : Indexes s l (cs + 1) ts hs ns (constAdded s l cs j xs)
@@ -305,6 +315,7 @@ module _ {s : List ℕ} {l : Layout} {cs ts hs ns : ℕ} {xs : List ℕ} (x : In
                 subst (λ (ks : List Name). Told (NameAt s ks) (memosAt l) ys) (sym e)
                 (memos-kept x d (tokenHash s) ts j used space w (x .memos));
             slots = slots-entered d (variable-token s) (tokenHash s) ts j used space w (x .slots);
+            sums = sums-entered small d (tokenHash s) ts j used space w (x .sums);
           }
 
       pub indexes-token : Indexes s l cs (ts + 1) hs ns (tokenAdded s l ts j xs)
@@ -345,6 +356,7 @@ module _ {s : List ℕ} {l : Layout} {cs ts hs ns : ℕ} {xs : List ℕ} (x : In
                 subst (λ (ks : List Name). Told (NameAt s ks) (memosAt l) ys) (sym e)
                 (memos-kept x d hash hs j used space w (x .memos));
             slots = slots-entered d (variable-chain s) hash hs j used space w (x .slots);
+            sums = sums-entered small d hash hs j used space w (x .sums);
           }
 
       pub indexes-chain : Indexes s l cs ts (hs + 1) ns (chainAdded s l (namesHeld s l ns xs) hs j xs)
@@ -421,6 +433,7 @@ module _ {s : List ℕ} {l : Layout} {cs ts hs ns : ℕ} {xs : List ℕ} (x : In
             names = pool-new (names-alike s) (x .names) k (name-self s (nameOf s k)) used new-at space;
             memos = told-names names-grow (memos-kept x d (nameHash s) ns k used space w (x .memos));
             slots = slots-entered d (variable-name s) (nameHash s) ns k used space w (x .slots);
+            sums = sums-entered small d (nameHash s) ns k used space w (x .sums);
           }
 
       pub indexes-name : Indexes s l cs ts hs (ns + 1) (nameAdded s l ns k xs)

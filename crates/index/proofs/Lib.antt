@@ -1,9 +1,9 @@
 -- Laws of the index by hash, of the four pools and of the memos.
-pub mod PrevLaws
-pub mod SearchLaws
+mod PrevLaws
+mod SearchLaws
 pub mod DifferLaws
-pub mod IndexedLaws
-pub mod TableLaws
+mod IndexedLaws
+mod TableLaws
 pub mod LookupLaws
 pub mod PoolLaws
 pub mod BesideLaws
@@ -12,9 +12,9 @@ pub mod NameLaws
 pub mod SlotLaws
 pub mod MemoLaws
 pub mod HeldLaws
-pub mod ChainLaws
-pub mod ChainHashLaws
-pub mod ChainWalkLaws
+mod ChainLaws
+mod ChainHashLaws
+mod ChainWalkLaws
 pub mod LodgeLaws
 pub mod LocalLaws
 pub mod IndexesLaws

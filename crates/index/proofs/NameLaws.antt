@@ -11,8 +11,10 @@ use Rattle.keys.specs.Keys.{nameOf, isMarked, markOf, marked, markBy}
 use Rattle.keys.specs.BangLaws.{texts-same-on, texts-same-off}
 use Rattle.index.specs.Pool.{Alike}
 use Rattle.folds.specs.Hash.{byteStep, spread, foldHash, bytesHash}
+use Rattle.folds.specs.Sums.{BySums}
 use Rattle.index.specs.Names.{isName, sameNameOf, nameWith, nameHashOf, nameHash}
 use Rattle.folds.proofs.HashLaws.{bytes-word, fold-append}
+use Rattle.folds.proofs.SumsLaws.{by-at}
 use Rattle.index.proofs.ConstLaws.{alike-by}
 
 module _ (s : List ℕ) where
@@ -72,11 +74,6 @@ module _ (s : List ℕ) where
   pub name-read : (k : ℕ) {t : ℕ} {b : Bool} → t ≡ nameOf s k .text → b ≡ isMarked s (k / 3) (k % 3) → nameWith s t b ≡ nameOf s k
   name-read k e f = ap₂ (nameWith s) e f ∙ sym (name-whole k)
 
-  pub name-read-on :
-      (k : ℕ) {t : ℕ} {b : Bool} → t ≡ nameOf s k .text → b ≡ isMarked s (k / 3) (k % 3) → b ≡ true
-      → nameWith s t true ≡ nameOf s k
-  name-read-on k e f h = name-read k e (sym h ∙ f)
-
   pub with-plain : (t : ℕ) → nameWith s t false ≡ name t 0
   unfolding markBy
   with-plain t = refl
@@ -85,22 +82,31 @@ module _ (s : List ℕ) where
       (k : ℕ) {t : ℕ} {b : Bool} → t ≡ nameOf s k .text → b ≡ isMarked s (k / 3) (k % 3) → b ≡ false → name t 0 ≡ nameOf s k
   name-read-off k {t} e f h = sym (with-plain t) ∙ name-read k e (sym h ∙ f)
 
-  -- the hash of what the code read: the text x with number t, and its fold f
-  module _ (t : ℕ) (m : Bool) {f : ℕ} {x : List ℕ} (is : x ≡ text s t) (fold : f ≡ foldHash 0 x) where
-    pub name-hash-on : {g h : ℕ} → m ≡ true → g ≡ byteStep f bang → h ≡ spread g → h ≡ nameHashOf s (nameWith s t m)
-    unfolding nameHashOf bytesHash
-    name-hash-on e q r =
-        r
-        ∙ ap spread
-        (q
-        ∙ ap (λ (v : ℕ). byteStep v bang) fold
-        ∙ sym (hash-marked x)
-        ∙ ap (foldHash 0) (ap₂ marked is (sym e) ∙ sym (with-bytes t m)))
+  -- the hash of what the code read: f is the fold of text t, by what is kept at place at
+  module _
+      (t : ℕ) (m : Bool) (p : ℕ) (xs : List ℕ) {f at : ℕ} (place : at ≡ p) (fold : BySums s at xs (foldHash 0 (text s t)) f)
+    where
+      bytes-are : (b : Bool) → m ≡ b → foldHash 0 (marked (text s t) b) ≡ foldHash 0 (nameBytes s (nameWith s t m))
+      bytes-are b e = ap (foldHash 0) (ap (marked (text s t)) (sym e) ∙ sym (with-bytes t m))
 
-    pub name-hash-off : {h : ℕ} → m ≡ false → h ≡ spread f → h ≡ nameHashOf s (nameWith s t m)
-    unfolding nameHashOf bytesHash
-    name-hash-off e r =
-        r ∙ ap spread (fold ∙ sym (hash-plain x) ∙ ap (foldHash 0) (ap₂ marked is (sym e) ∙ sym (with-bytes t m)))
+      pub name-hash-on :
+          {g h : ℕ} → m ≡ true → g ≡ byteStep f bang → h ≡ spread g → BySums s p xs (nameHashOf s (nameWith s t m)) h
+      unfolding nameHashOf bytesHash
+      name-hash-on e q r = record {
+        is = λ sums.
+            r
+            ∙ ap spread
+            (q
+            ∙ ap (λ (v : ℕ). byteStep v bang) (by-at place fold .is sums)
+            ∙ sym (hash-marked (text s t))
+            ∙ bytes-are true e);
+      }
+
+      pub name-hash-off : {h : ℕ} → m ≡ false → h ≡ spread f → BySums s p xs (nameHashOf s (nameWith s t m)) h
+      unfolding nameHashOf bytesHash
+      name-hash-off e r = record {
+        is = λ sums. r ∙ ap spread (by-at place fold .is sums ∙ sym (hash-plain (text s t)) ∙ bytes-are false e);
+      }
 
   -- a comparison of the name with text t and mark m with that of key c, whose text is d
   module _ (t c : ℕ) (m : Bool) {d : ℕ} (at : d ≡ nameOf s c .text) where

@@ -10,9 +10,11 @@ use Rattle.chains.specs.Same.{sameNodes}
 use Rattle.scratch.specs.declared.Layout.{Layout}
 use Rattle.scratch.specs.declared.Index.{Index}
 use Rattle.scratch.specs.Clear.{cleared}
-use Rattle.scratch.specs.Places.{Small, memosAt, memosFrom, headsAt, indexEnd, nameHeads, constHeads, tokenHeads, clearedIndex}
+use Rattle.scratch.specs.Places.{Small, memosAt, memosFrom, sumsFrom, headsAt, indexEnd, nameHeads, constHeads, tokenHeads, clearedIndex}
 use Rattle.scratch.proofs.ClearLaws.{cleared-length, cleared-other, cleared-zero}
-use Rattle.scratch.proofs.PlaceLaws.{memos-lie, index-fits}
+use Rattle.scratch.proofs.PlaceLaws.{memos-lie, sums-lie, index-fits}
+use Rattle.folds.specs.Sums.{Sums}
+use Rattle.folds.proofs.SumsLaws.{sums-same}
 use Rattle.index.specs.Pool.{Pool}
 use Rattle.index.specs.Consts.{sameConstOf, constHash, sameTokenOf, tokenHash}
 use Rattle.index.specs.Names.{sameNameOf, nameHash}
@@ -78,6 +80,17 @@ module _
         ∙ cleared-other (headsAt l) heads memoed i (λ k m q. omega arith)
         ∙ cleared-other (memosAt l) 1024 xs i (λ k m q. omega arith)
 
+    -- and so do the kept folds
+    pub start-sums : Sums s (sumsFrom l) xs → Sums s (sumsFrom l) (clearedIndex l xs)
+    start-sums told =
+        let p = sums-lie small in
+        sums-same s (sumsFrom l) xs (clearedIndex l xs)
+        (λ k b.
+        ap (λ (ws : List ℕ). getD ws (sumsFrom l + k) 0) words
+        ∙ cleared-other (headsAt l) heads memoed (sumsFrom l + k) (λ i m q. omega arith)
+        ∙ cleared-other (memosAt l) 1024 xs (sumsFrom l + k) (λ i m q. omega arith))
+        told
+
     pub start-length : length (clearedIndex l xs) ≡ length xs
     start-length = ap length words ∙ long
 
@@ -87,8 +100,8 @@ module _
         → Pool same hash Used slot ix cap 0 (clearedIndex l xs)
     start-empty same hash {Used} {slot} {ix} {cap} d = subst (Pool same hash Used slot ix cap 0) (sym words) (empty same hash d)
 
-    pub indexes-start : Slots s l (clearedIndex l xs) → Indexes s l 0 0 0 0 (clearedIndex l xs)
-    indexes-start told =
+    pub indexes-start : Slots s l (clearedIndex l xs) → Sums s (sumsFrom l) xs → Indexes s l 0 0 0 0 (clearedIndex l xs)
+    indexes-start told kept =
         subst (Indexes s l 0 0 0 0) (sym words)
         (record {
           small = small;
@@ -99,4 +112,5 @@ module _
           names = empty (sameNameOf s) (nameHash s) (name-lodged small nodes);
           memos = told-none memo-zero;
           slots = subst (Slots s l) words told;
+          sums = subst (Sums s (sumsFrom l)) words (start-sums kept);
         })

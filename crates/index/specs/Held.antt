@@ -6,7 +6,8 @@ use Rattle.lowering.specs.Pools.{Name, firstWhere, sameName}
 use Rattle.keys.specs.Keys.{nameOf}
 use Rattle.keys.specs.Used.{NameKey}
 use Rattle.scratch.specs.declared.Layout.{Layout}
-use Rattle.scratch.specs.Places.{Small, namesAt, memosAt, nameIndex, region}
+use Rattle.scratch.specs.Places.{Small, namesAt, memosAt, sumsFrom, nameIndex, region}
+use Rattle.folds.specs.Sums.{Sums}
 use Rattle.index.specs.Pool.{Pool}
 use Rattle.index.specs.Names.{sameNameOf, nameHash, nameSlot}
 use Rattle.index.specs.Memo.{Told, NameAt}
@@ -22,12 +23,13 @@ NamePool s l n xs = Pool (sameNameOf s) (nameHash s) (NameKey s) nameSlot (nameI
 abbrev pub NameMemos : List ℕ → Layout → ℕ → List ℕ → Type 0
 NameMemos s l n xs = Told (NameAt s (namesHeld s l n xs)) (memosAt l) xs
 
--- n names stand, what the memos tell of them is true, and so are the slots of the Variables
+-- n names stand, what the memos tell of them is true, and so are the slots of the Variables and the kept folds
 pub record NamesHold (s : List ℕ) (l : Layout) (n : ℕ) (xs : List ℕ) : Type 0 where
   pub small : Small l
   pub pool : NamePool s l n xs
   pub memos : NameMemos s l n xs
   pub slots : Slots s l xs
+  pub sums : Sums s (sumsFrom l) xs
 
 -- r is the place of this name among them
 pub record FindsName (s : List ℕ) (l : Layout) (n : ℕ) (nm : Name) (xs : List ℕ) (r : ℕ) : Type 0 where

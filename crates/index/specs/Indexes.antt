@@ -1,5 +1,5 @@
 -- All indexes together: the scratch xs holds cs constants, ts tokens, hs chains and ns names of sheet s, each with its index, and the
--- memos of the names and the slots of the Variables are true.
+-- memos of the names, the slots of the Variables and the kept folds are true.
 use Prim.Native.Nat.{ℕ, _+_}
 use mathlib.Core.Path.{_≡_}
 use mathlib.Core.List.{List}
@@ -10,7 +10,8 @@ use Rattle.chains.specs.Same.{sameNodes}
 use Rattle.keys.specs.Used.{ConstKey, TokenKey, ChainKey}
 use Rattle.scratch.specs.declared.Layout.{Layout}
 use Rattle.scratch.specs.declared.Index.{Index}
-use Rattle.scratch.specs.Places.{Small, constsAt, tokensAt, chainsAt, namesAt, constIndex, tokenIndex, chainIndex, nameIndex}
+use Rattle.scratch.specs.Places.{Small, constsAt, tokensAt, chainsAt, namesAt, sumsFrom, constIndex, tokenIndex, chainIndex, nameIndex}
+use Rattle.folds.specs.Sums.{Sums}
 use Rattle.index.specs.Table.{headAt, linkAt, tagOf, notedBy}
 use Rattle.index.specs.Pool.{Pool}
 use Rattle.index.specs.Consts.{constSlot, sameConstOf, constHash, sameTokenOf, tokenHash}
@@ -38,6 +39,7 @@ pub record Indexes (s : List ℕ) (l : Layout) (cs ts hs ns : ℕ) (xs : List �
   pub names : NamePool s l ns xs
   pub memos : NameMemos s l ns xs
   pub slots : Slots s l xs
+  pub sums : Sums s (sumsFrom l) xs
 
 -- the words when the entry with key j is added to n others: its key behind theirs, its link, its head
 abbrev pub addedTo : Index → ℕ → ℕ → ℕ → ℕ → ℕ → List ℕ → List ℕ

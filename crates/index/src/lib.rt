@@ -10,9 +10,9 @@ ghost use Rattle.lowering.specs.Pools.{name};
 ghost use Rattle.lowering.specs.Flatten.{operandOf, links};
 ghost use Rattle.rules.specs.Reads.{Reads};
 ghost use Rattle.chains.specs.Same.{RootLocal, sameNodes};
-ghost use Rattle.keys.specs.Keys.{nameOf};
 ghost use Rattle.scratch.specs.Places as places;
 ghost use Rattle.folds.specs.Hash.{mix};
+ghost use Rattle.folds.specs.Sums.{BySums};
 ghost use Rattle.index.specs.Table.{headAt, linkAt, tagOf, notedBy};
 ghost use Rattle.index.specs.Lookup.{hitBy, Finds};
 ghost use Rattle.index.specs.Consts.{constSlot, sameConstOf, constHash, sameTokenOf, tokenHash};
@@ -23,8 +23,8 @@ ghost use Rattle.index.specs.Chains.{ByNames, FindsChain};
 ghost use Rattle.index.specs.Chains as chains;
 use chains::same_chain;
 use folds::byte_step;
-use folds::fold_bytes;
-use folds::hash_bytes;
+use folds::fold_text;
+use folds::hash_text;
 use folds::more;
 use folds::spread_out;
 use keys::is_marked;
@@ -42,6 +42,7 @@ use scratch::get;
 use scratch::memos_at;
 use scratch::name_index;
 use scratch::put;
+use scratch::sums_at;
 use scratch::token_index;
 use sheet::child;
 use sheet::count;
@@ -130,14 +131,14 @@ pub fn remember(x: &mut [u32], ms: u32, t: u32, p: u32)
     put(x, at + 1, p);
 }
 
-// The hash of the constant of node `j`.
-pub fn const_hash(s: &[u8], j: u32) -> u32
-    ensures { λ r. ⌜ r ≡ constHash (now (s .entry)) j ⌝ }
+// The hash of the constant of node `j`, by the kept folds.
+pub fn const_hash(s: &[u8], x: &[u32], l: Layout, j: u32) -> u32
+    ensures { λ r. let sheet = now (s .entry) in ⌜ BySums sheet (places.sumsFrom l) (now (x .entry)) (constHash sheet j) r ⌝ }
 {
     let k = kind(s, j);
     let a = field_a(s, j);
     if k == STRING {
-        return hash_bytes(text(s, a));
+        return hash_text(s, x, sums_at(l), a);
     }
     number_hash(k, a, field_b(s, j))
 }
@@ -212,7 +213,7 @@ fn token_hit(s: &[u8], v: u32, h: u32, j: u32, c: u32) -> bool
 }
 
 // Where the token of node `j`, with hash `h`, stands among the first `n`; `n` where it does not.
-pub fn seek_token(s: &[u8], x: &[u32], ix: Index, n: u32, j: u32, h: u32) -> u32
+fn seek_token(s: &[u8], x: &[u32], ix: Index, n: u32, j: u32, h: u32) -> u32
     ensures { λ r. ⌜ Finds (sameTokenOf (now (s .entry)) j) (tokenHash (now (s .entry))) constSlot ix n h (now (x .entry)) r ⌝ }
 {
     let mut c = get(x, head(ix, h));
@@ -232,11 +233,12 @@ pub fn seek_token(s: &[u8], x: &[u32], ix: Index, n: u32, j: u32, h: u32) -> u32
     n
 }
 
-// The hash of the name with text `t`, and `!` where `m` says: one byte more.
-pub fn name_hash(s: &[u8], t: u32, m: bool) -> u32
-    ensures { λ r. ⌜ r ≡ nameHashOf (now (s .entry)) (nameWith (now (s .entry)) t m) ⌝ }
+// The hash of the name with text `t`, and `!` where `m` says: one byte more. By the kept folds.
+pub fn name_hash(s: &[u8], x: &[u32], l: Layout, t: u32, m: bool) -> u32
+    ensures { λ r. let sheet = now (s .entry) in ⌜
+        BySums sheet (places.sumsFrom l) (now (x .entry)) (nameHashOf sheet (nameWith sheet t m)) r ⌝ }
 {
-    let f = fold_bytes(text(s, t));
+    let f = fold_text(s, x, sums_at(l), t);
     if m {
         return spread_out(byte_step(f, BANG));
     }
@@ -299,7 +301,7 @@ pub fn find_token(s: &[u8], x: &[u32], l: Layout, n: u32, j: u32, h: u32) -> u32
 }
 
 // The same of the name with text `t` and mark `m`.
-pub fn find_name(s: &[u8], x: &[u32], l: Layout, n: u32, t: u32, m: bool, h: u32) -> u32
+fn find_name(s: &[u8], x: &[u32], l: Layout, n: u32, t: u32, m: bool, h: u32) -> u32
     ensures { λ r. ⌜
         Finds (isName (now (s .entry)) (nameWith (now (s .entry)) t m)) (nameHash (now (s .entry))) nameSlot (places.nameIndex l) n h
         (now (x .entry)) r ⌝ }
@@ -315,18 +317,7 @@ pub fn text_place(s: &[u8], x: &[u32], l: Layout, n: u32, t: u32) -> u32
     if knows(x, ms, t) {
         return recall(x, ms, t);
     }
-    find_name(s, x, l, n, t, false, name_hash(s, t, false))
-}
-
-// The place of the name with key `k` among the `n` names.
-pub fn name_place(s: &[u8], x: &[u32], l: Layout, n: u32, k: u32) -> u32
-    ensures { λ r. ⌜ FindsName (now (s .entry)) l n (nameOf (now (s .entry)) k) (now (x .entry)) r ⌝ }
-{
-    let t = text_of(s, k);
-    if is_marked(s, k) {
-        return find_name(s, x, l, n, t, true, name_hash(s, t, true));
-    }
-    text_place(s, x, l, n, t)
+    find_name(s, x, l, n, t, false, name_hash(s, x, l, t, false))
 }
 
 // One link more of a hash: link `c`, an index, which is taken with `v`.
@@ -433,7 +424,7 @@ fn chain_hit(s: &[u8], v: u32, h: u32, j: u32, c: u32, local: bool) -> bool
 }
 
 // Where the chain of node `j`, with hash `h`, stands among the first `n`; `n` where it does not.
-pub fn seek_chain(s: &[u8], x: &[u32], ix: Index, n: u32, j: u32, h: u32, local: bool) -> u32
+fn seek_chain(s: &[u8], x: &[u32], ix: Index, n: u32, j: u32, h: u32, local: bool) -> u32
     ensures { λ r. ⌜ FindsChain (now (s .entry)) j local ix n h (now (x .entry)) r ⌝ }
 {
     let mut c = get(x, head(ix, h));

@@ -1,8 +1,8 @@
 -- Laws of the loops over the ranges of a switch, and over their pieces.
-pub mod SearchLaws
-pub mod FirstLaws
-pub mod CutsLaws
-pub mod MarksLaws
-pub mod SpanLaws
-pub mod JoiningLaws
-pub mod RangesLaws
+mod SearchLaws
+mod FirstLaws
+mod CutsLaws
+mod MarksLaws
+mod SpanLaws
+mod JoiningLaws
+mod RangesLaws

@@ -14,28 +14,33 @@ use Rattle.lowering.specs.Kinds.{variableKind}
 use Rattle.lowering.specs.Pools.{firstWhere}
 use Rattle.scratch.specs.declared.Layout.{Layout}
 use Rattle.scratch.specs.declared.Index.{Index}
-use Rattle.scratch.specs.Places.{Small, tokensAt, chainsAt, namesAt, linksAt, indexEnd, nameIndex, clearedIndex, region}
+use Rattle.scratch.specs.Places.{Small, tokensAt, chainsAt, namesAt, linksAt, sumsFrom, indexEnd, nameIndex, clearedIndex, region}
 use Rattle.scratch.proofs.PlaceLaws.{name-lies}
 use Rattle.index.specs.Table.{headAt, linkAt, tagOf, linkOf, notedBy}
 use Rattle.folds.specs.Hash.{bytesHash}
+use Rattle.folds.specs.Sums.{Sums, BySums}
+use Rattle.folds.proofs.SumsLaws.{by-at}
 use Rattle.index.specs.Consts.{constSlot}
 use Rattle.index.specs.Lookup.{Finds}
 use Rattle.index.proofs.LookupLaws.{finds-at}
 use Rattle.index.proofs.PoolLaws.{entered, pool-new}
 use Rattle.index.proofs.BesideLaws.{region-beside, pool-beside}
 use Rattle.index.proofs.LodgeLaws.{Lodged, link-place, head-place}
-use Rattle.index.proofs.StartLaws.{start-empty}
+use Rattle.index.proofs.LocalLaws.{sums-before, sums-entered}
+use Rattle.index.proofs.StartLaws.{start-empty, start-sums}
 use Rattle.local_slots.specs.Pass.{hasText, sameText, textHash, VariableKey, TextPool, rankAt, keyAt, answerAt, Ranked, Met, Meets}
 use Rattle.local_slots.proofs.TextLaws.{text-word, text-self, texts-alike, text-lodged, outside-low}
 use Rattle.local_slots.proofs.TextLaws.{text-first, text-found, text-rank}
 
 -- no node is met yet
 pub met-starts :
-    (s : List ℕ) (l : Layout) (xs : List ℕ) → Small l → l .nodes ≡ nodeCount s → indexEnd l ≤ length xs → Met s l 0 0 (clearedIndex l xs)
-met-starts s l xs small nodes room = record {
+    (s : List ℕ) (l : Layout) (xs : List ℕ) → Small l → l .nodes ≡ nodeCount s → indexEnd l ≤ length xs → Sums s (sumsFrom l) xs
+    → Met s l 0 0 (clearedIndex l xs)
+met-starts s l xs small nodes room kept = record {
   small = small;
   nodes = nodes;
   pool = start-empty s l small nodes xs room (sameText s) (textHash s) (text-lodged small nodes);
+  sums = start-sums s l small nodes xs room kept;
   few = omega arith;
   ranks = λ i b k. absurd (omega arith);
   zeros = λ r b. absurd (omega arith);
@@ -87,6 +92,7 @@ module _ {s : List ℕ} {l : Layout} {j : ℕ} where
       small = h .small;
       nodes = h .nodes;
       pool = h .pool;
+      sums = h .sums;
       few = let f = h .few in omega arith;
       ranks = ranks-by (h .ranks) (λ v. absurd (ne (e ∙ v)));
       zeros = h .zeros;
@@ -121,6 +127,9 @@ module _ {s : List ℕ} {l : Layout} {j : ℕ} where
         rank-pool : TextPool s l n ranked
         rank-pool = pool-beside (m .pool) (chainsAt l + j) r (outside-low (m .small) (chainsAt l + j) (omega arith))
 
+        rank-sums : Sums s (sumsFrom l) ranked
+        rank-sums = sums-before (m .small) (chainsAt l + j) r (omega arith) (m .sums)
+
         old-zeros : (e : ℕ) → e < n → answerAt l ranked e ≡ 0
         old-zeros e d =
             let w = m .few in
@@ -132,6 +141,7 @@ module _ {s : List ℕ} {l : Layout} {j : ℕ} where
           small = m .small;
           nodes = m .nodes;
           pool = rank-pool;
+          sums = rank-sums;
           few = let w = m .few in omega arith;
           ranks =
               ranks-by old-ranks
@@ -229,6 +239,10 @@ module _ {s : List ℕ} {l : Layout} {j : ℕ} where
             small = m .small;
             nodes = m .nodes;
             pool = pool-new (texts-alike s) zero-pool j (text-self s j) key none space;
+            sums =
+                let w = space in
+                sums-entered (m .small) (text-lodged (m .small) (m .nodes)) (textHash s) n j key space (text-word s j)
+                (sums-before (m .small) (tokensAt l + n) 0 (omega arith) rank-sums);
             few = let w = m .few in omega arith;
             ranks =
                 ranks-by
@@ -247,15 +261,16 @@ module _ {s : List ℕ} {l : Layout} {j : ℕ} where
 
 -- as the code does it
 module _
-    {s : List ℕ} {l : Layout} {j n : ℕ} {xs ys : List ℕ} {ix : Index} {k t h r p : ℕ} {name : List ℕ} (k-is : k ≡ kind s j)
-    (is : k ≡ variableKind) (ix-is : ix ≡ nameIndex l) (t-is : t ≡ fieldA s j) (name-is : name ≡ text s t) (hashed : h ≡ bytesHash name)
+    {s : List ℕ} {l : Layout} {j n : ℕ} {xs ys : List ℕ} {ix : Index} {k t kept h r p : ℕ} (k-is : k ≡ kind s j)
+    (is : k ≡ variableKind) (ix-is : ix ≡ nameIndex l) (t-is : t ≡ fieldA s j) (kept-is : kept ≡ sumsFrom l)
+    (hashed : BySums s kept xs (bytesHash (text s t)) h)
     (f : Finds (hasText s t) (textHash s) constSlot ix n h xs r) (place : p ≡ chainsAt l + j) (written : ys ≡ set xs p r)
   where
     pub meets-old : r < n → Meets s l j n xs ys n
     meets-old c = record {
       met = λ b m.
           subst (Met s l (j + 1) n) (sym (written ∙ ap (λ (i : ℕ). set xs i r) place))
-          (met-old (sym k-is ∙ is) t-is (hashed ∙ ap bytesHash name-is) (finds-at ix-is f) b m c);
+          (met-old (sym k-is ∙ is) t-is (by-at kept-is hashed .is (m .sums)) (finds-at ix-is f) b m c);
     }
 
     pub meets-new :
@@ -268,7 +283,7 @@ module _
           let few = small .small in
           let w = m .few in
           let count : e ≡ n + 1 = omega arith in
-          let told : h ≡ bytesHash (text s t) = hashed ∙ ap bytesHash name-is in
+          let told : h ≡ bytesHash (text s t) = by-at kept-is hashed .is (m .sums) in
           let ranked-is : ys ≡ set xs (chainsAt l + j) r = written ∙ ap (λ (i : ℕ). set xs i r) place in
           let hash-is : h ≡ textHash s j = told ∙ ap (λ (u : ℕ). bytesHash (text s u)) t-is in
           let base = set (set xs (chainsAt l + j) r) (tokensAt l + n) 0 in

@@ -17,11 +17,14 @@ use Rattle.slots.specs.declared.Found.{Found}
 use Rattle.slots.specs.declared.Found.the-variants.{At, Nothing}
 use Rattle.slots.specs.Found.{found}
 use Rattle.scratch.specs.declared.Layout.{Layout}
-use Rattle.scratch.specs.Places.{Small, tokensAt, chainsAt, linksAt, indexEnd, clearedIndex}
-use Rattle.scratch.proofs.PlaceLaws.{name-lies}
+use Rattle.scratch.specs.Places.{Small, tokensAt, chainsAt, linksAt, sumsFrom, indexEnd, clearedIndex}
+use Rattle.scratch.proofs.PlaceLaws.{sums-lie}
+use Rattle.folds.specs.Sums.{summed, Sums}
+use Rattle.folds.proofs.SumsLaws.{summed-length, summed-sums}
 use Rattle.index.specs.Consts.{constSlot}
-use Rattle.index.specs.Locals.{fewLocals, slotWord, localWord, Slotted, Slots}
+use Rattle.index.specs.Locals.{fewLocals, slotWord, localWord, Slots}
 use Rattle.index.specs.Indexes.{Indexes}
+use Rattle.index.proofs.LocalLaws.{sums-before}
 use Rattle.index.proofs.StartLaws.{start-before, start-length, indexes-start}
 use Rattle.local_slots.specs.Pass.{rankAt, answerAt, Met, Telling, Aimed, Settling, Settles, Prepares, Begins, foundBy}
 use Rattle.local_slots.proofs.MeetLaws.{met-starts}
@@ -41,13 +44,20 @@ module _ {s : List ℕ} {l : Layout} {n : ℕ} {xs : List ℕ} (m : Telling s l 
       }
 
   pub settling-starts : indexEnd l ≤ length xs → Settling s l 0 xs
-  settling-starts room = record { room = room; aims = aimed; done = λ i b v. absurd (omega arith) }
+  settling-starts room =
+      record { small = m .small; room = room; sums = m .sums; aims = aimed; done = λ i b v. absurd (omega arith) }
 
 module _ {s : List ℕ} {l : Layout} {j : ℕ} {xs : List ℕ} where
   -- node j is no Variable
   pub settles-other : {k : ℕ} → k ≡ kind s j → (k ≡ variableKind → ⊥) → Settles s l j xs xs
   settles-other e ne = record {
-    settled = λ b m. record { room = m .room; aims = m .aims; done = λ i d v. by m i d v (decLt i j) };
+    settled = λ b m. record {
+      small = m .small;
+      room = m .room;
+      sums = m .sums;
+      aims = m .aims;
+      done = λ i d v. by m i d v (decLt i j);
+    };
   }
     where
       by :
@@ -94,6 +104,8 @@ module _ {s : List ℕ} {l : Layout} {j : ℕ} {xs : List ℕ} where
 
     settling-one : Settling s l (j + 1) after
     settling-one = record {
+      small = m .small;
+      sums = sums-before (m .small) (linksAt l + constSlot j) word (omega arith) (m .sums);
       room = let r = m .room in let e = length-set xs (linksAt l + constSlot j) word in omega arith;
       aims = aims-stay;
       done = λ i d w. done-by i d w (decLt i j);
@@ -114,39 +126,51 @@ pub prepares :
     → (Met s l 0 0 cs → Met s l (l .nodes) n ms) → (Telling s l n 0 ms → Telling s l n (localCount s) ts)
     → (Settling s l 0 ts → Settling s l (l .nodes) ys) → Prepares s l xs ys
 prepares {s} {l} {xs = xs} c-is long longer met told settled = record {
-  slotted = λ small nodes room.
+  prepared = λ small nodes room kept.
       let clear = ap length c-is ∙ start-length s l small nodes xs room in
-      let start = subst (Met s l 0 0) (sym c-is) (met-starts s l xs small nodes room) in
-      record { slot = settled (settling-starts (told (telling-starts (met start))) (omega arith)) .done };
+      let start = subst (Met s l 0 0) (sym c-is) (met-starts s l xs small nodes room kept) in
+      settled (settling-starts (told (telling-starts (met start))) (omega arith));
 }
 
--- few locals: nothing is told
-pub begins-few :
-    {s : List ℕ} {l : Layout} {m : ℕ} (xs ys : List ℕ) → m ≡ localCount s → m ≤ fewLocals → ys ≡ clearedIndex l xs
-    → length ys ≡ length xs → Begins s l xs ys
-begins-few {s} {l} xs ys e h y long = record {
-  long = long;
-  index = λ small nodes room.
-      subst (Indexes s l 0 0 0 0) (sym y) (indexes-start s l small nodes xs room (record { many = λ q. absurd (omega arith) }));
-}
+-- at first what is kept for long texts is written
+module _ (s : List ℕ) (l : Layout) (xs : List ℕ) {at : ℕ} {fs : List ℕ} (place : at ≡ sumsFrom l) (first : fs ≡ summed s at xs) where
+  first-long : length fs ≡ length xs
+  first-long = ap length first ∙ summed-length s at xs
 
--- many
-pub begins-many :
-    {s : List ℕ} {l : Layout} (xs ms ys : List ℕ) → length ms ≡ length xs → Prepares s l xs ms → ys ≡ clearedIndex l ms
-    → length ys ≡ length xs → Begins s l xs ys
-begins-many {s} {l} xs ms ys kept p y long = record {
-  long = long;
-  index = λ small nodes room.
-      let room′ : indexEnd l ≤ length ms = omega arith in
-      let told = p .slotted small nodes room in
-      subst (Indexes s l 0 0 0 0) (sym y)
-      (indexes-start s l small nodes ms room′
-      (record {
-        many = λ q. record {
-          slot = λ j b v. start-before s l small nodes ms room′ (linksAt l + constSlot j) (omega arith) ∙ told .slot j b v;
-        };
-      }));
-}
+  first-sums : Small l → indexEnd l ≤ length xs → Sums s (sumsFrom l) fs
+  first-sums small room =
+      let p = sums-lie small in
+      subst (Sums s (sumsFrom l)) (sym (first ∙ ap (λ (i : ℕ). summed s i xs) place)) (summed-sums s (sumsFrom l) xs (omega arith))
+
+  -- few locals: nothing is told
+  pub begins-few :
+      {m : ℕ} (ys : List ℕ) → m ≡ localCount s → m ≤ fewLocals → ys ≡ clearedIndex l fs → length ys ≡ length fs → Begins s l xs ys
+  begins-few ys e h y long = record {
+    long = long ∙ first-long;
+    index = λ small nodes room.
+        let f = first-long in
+        subst (Indexes s l 0 0 0 0) (sym y)
+        (indexes-start s l small nodes fs (omega arith) (record { many = λ q. absurd (omega arith) }) (first-sums small room));
+  }
+
+  -- many
+  pub begins-many :
+      (ms ys : List ℕ) → length ms ≡ length fs → Prepares s l fs ms → ys ≡ clearedIndex l ms → length ys ≡ length ms → Begins s l xs ys
+  begins-many ms ys kept p y long = record {
+    long = long ∙ kept ∙ first-long;
+    index = λ small nodes room.
+        let f = first-long in
+        let room′ : indexEnd l ≤ length ms = omega arith in
+        let told = p .prepared small nodes (omega arith) (first-sums small room) in
+        subst (Indexes s l 0 0 0 0) (sym y)
+        (indexes-start s l small nodes ms room′
+        (record {
+          many = λ q. record {
+            slot = λ j b v. start-before s l small nodes ms room′ (linksAt l + constSlot j) (omega arith) ∙ told .done j b v;
+          };
+        })
+        (told .sums));
+  }
 
 -- a word of a slot as an answer
 answer-is : (o : Option ℕ) → foundBy (slotWord o) ≡ found o

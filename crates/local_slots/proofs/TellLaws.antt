@@ -18,14 +18,17 @@ use Rattle.sheet.specs.Text.{text}
 use Rattle.lowering.specs.Slots.{resolveBelow}
 use Rattle.scratch.specs.declared.Layout.{Layout}
 use Rattle.scratch.specs.declared.Index.{Index}
-use Rattle.scratch.specs.Places.{Small, tokensAt, chainsAt, namesAt, nameIndex}
+use Rattle.scratch.specs.Places.{Small, tokensAt, chainsAt, namesAt, sumsFrom, nameIndex}
 use Rattle.scratch.proofs.PlaceLaws.{name-lies}
 use Rattle.folds.specs.Hash.{bytesHash}
+use Rattle.folds.specs.Sums.{BySums}
+use Rattle.folds.proofs.SumsLaws.{by-at}
 use Rattle.index.specs.Consts.{constSlot}
 use Rattle.index.specs.Lookup.{Finds}
 use Rattle.index.specs.Locals.{slotWord}
 use Rattle.index.proofs.LookupLaws.{finds-at}
 use Rattle.index.proofs.BesideLaws.{pool-beside}
+use Rattle.index.proofs.LocalLaws.{sums-before}
 use Rattle.local_slots.specs.Pass.{hasText, textHash, keyAt, answerAt, Met, Telling, Tells}
 use Rattle.local_slots.proofs.TextLaws.{outside-low, text-found, text-once, text-missed}
 use Rattle.local_slots.proofs.MeetLaws.{ranked-kept}
@@ -33,7 +36,7 @@ use Rattle.local_slots.proofs.MeetLaws.{ranked-kept}
 -- no local is told yet
 pub telling-starts : {s : List ℕ} {l : Layout} {n : ℕ} {xs : List ℕ} → Met s l (l .nodes) n xs → Telling s l n 0 xs
 unfolding slotWord resolveBelow
-telling-starts m = record { small = m .small; pool = m .pool; ranks = m .ranks; answers = m .zeros }
+telling-starts m = record { small = m .small; pool = m .pool; sums = m .sums; ranks = m .ranks; answers = m .zeros }
 
 -- local k has the name, or another
 takes : (s : List ℕ) (k : ℕ) (name : List ℕ) → same (text s (localText s k)) name ≡ true → k + 1 ≡ slotWord (resolveBelow (k + 1) s name)
@@ -52,10 +55,13 @@ passes s k name h =
 
 -- as the code does it
 module _
-    {s : List ℕ} {l : Layout} {n k : ℕ} {xs : List ℕ} {ix : Index} {t h r : ℕ} {name : List ℕ} (t-is : t ≡ localText s k)
-    (name-is : name ≡ text s t) (hashed : h ≡ bytesHash name) (ix-is : ix ≡ nameIndex l)
+    {s : List ℕ} {l : Layout} {n k : ℕ} {xs : List ℕ} {ix : Index} {t kept h r : ℕ} (t-is : t ≡ localText s k)
+    (kept-is : kept ≡ sumsFrom l) (hashed : BySums s kept xs (bytesHash (text s t)) h) (ix-is : ix ≡ nameIndex l)
     (f : Finds (hasText s t) (textHash s) constSlot ix n h xs r)
   where
+    hash-is : Telling s l n k xs → h ≡ bytesHash (text s t)
+    hash-is m = by-at kept-is hashed .is (m .sums)
+
     -- a name that is not the local's keeps its word
     other :
         (e : ℕ) → Telling s l n k xs → e < n → same (text s t) (text s (fieldA s (keyAt l xs e))) ≡ false
@@ -71,8 +77,9 @@ module _
       told = λ b m. record {
         small = m .small;
         pool = m .pool;
+        sums = m .sums;
         ranks = m .ranks;
-        answers = λ e d. other e m d (text-missed (m .small) (m .pool) t h r (hashed ∙ ap bytesHash name-is) (finds-at ix-is f) c e d);
+        answers = λ e d. other e m d (text-missed (m .small) (m .pool) t h r (hash-is m) (finds-at ix-is f) c e d);
       };
     }
 
@@ -98,7 +105,7 @@ module _
       word-here =
           takes s k (text s (fieldA s (keyAt l xs r)))
           (subst (λ (y : List ℕ). same y (text s (fieldA s (keyAt l xs r))) ≡ true)
-          (text-found (m .small) (m .pool) t h r (hashed ∙ ap bytesHash name-is) (finds-at ix-is f) c ∙ ap (text s) t-is)
+          (text-found (m .small) (m .pool) t h r (hash-is m) (finds-at ix-is f) c ∙ ap (text s) t-is)
           (same-refl (text s (fieldA s (keyAt l xs r)))))
 
       answer-by :
@@ -112,12 +119,13 @@ module _
       answer-by e d false q =
           let z = eqb-false e r q in
           getD-set-other xs (tokensAt l + r) (tokensAt l + e) (k + 1) 0 (λ a. z (omega arith))
-          ∙ other e m d (text-once (m .small) (m .pool) t h r (hashed ∙ ap bytesHash name-is) (finds-at ix-is f) c e d z)
+          ∙ other e m d (text-once (m .small) (m .pool) t h r (hash-is m) (finds-at ix-is f) c e d z)
 
       telling-one : Telling s l n (k + 1) after
       telling-one = record {
         small = m .small;
         pool = pool-beside (m .pool) (tokensAt l + r) (k + 1) (outside-low (m .small) (tokensAt l + r) (let w = below in omega arith));
+        sums = sums-before (m .small) (tokensAt l + r) (k + 1) (let w = below in omega arith) (m .sums);
         ranks = λ i d v.
             let w = below in
             ranked-kept n after (omega arith) (getD-set-other xs (tokensAt l + r) (chainsAt l + i) (k + 1) 0 (λ q. omega arith)) keys-stay

@@ -1,6 +1,6 @@
 -- The pass that finds the local of each Variable: what the scratch holds on the way. Different names of Variables stand as a pool, by the
 -- Variable met first, in the index of the names; the word of node j among the keys of chains has the rank of Variable j's name, the word
--- of a rank among the keys of tokens its local.
+-- of a rank among the keys of tokens its local. What is kept for long texts stays.
 use Prim.Native.Nat.{ℕ, zero, suc, _+_, _≤_, _<_}
 use mathlib.Core.Path.{_≡_}
 use mathlib.Core.Bool.{Bool, true, false}
@@ -15,11 +15,12 @@ use Rattle.lowering.specs.Slots.{resolveBelow}
 use Rattle.slots.specs.declared.Found.{Found}
 use Rattle.slots.specs.declared.Found.the-variants.{At, Nothing}
 use Rattle.scratch.specs.declared.Layout.{Layout}
-use Rattle.scratch.specs.Places.{Small, tokensAt, chainsAt, namesAt, linksAt, indexEnd, nameIndex}
+use Rattle.scratch.specs.Places.{Small, tokensAt, chainsAt, namesAt, linksAt, sumsFrom, indexEnd, nameIndex}
 use Rattle.index.specs.Pool.{Pool}
 use Rattle.folds.specs.Hash.{bytesHash}
+use Rattle.folds.specs.Sums.{Sums}
 use Rattle.index.specs.Consts.{constSlot}
-use Rattle.index.specs.Locals.{slotWord, localWord, Slotted}
+use Rattle.index.specs.Locals.{slotWord, localWord}
 use Rattle.index.specs.Indexes.{Indexes}
 
 -- node k has text t
@@ -62,6 +63,7 @@ pub record Met (s : List ℕ) (l : Layout) (j n : ℕ) (xs : List ℕ) : Type 0 
   pub small : Small l
   pub nodes : l .nodes ≡ nodeCount s
   pub pool : TextPool s l n xs
+  pub sums : Sums s (sumsFrom l) xs
   pub few : n ≤ j
   pub ranks : (i : ℕ) → i < j → kind s i ≡ variableKind → Ranked s l n xs i
   pub zeros : (r : ℕ) → r < n → answerAt l xs r ≡ 0
@@ -74,6 +76,7 @@ pub record Meets (s : List ℕ) (l : Layout) (j n : ℕ) (xs ys : List ℕ) (r :
 pub record Telling (s : List ℕ) (l : Layout) (n k : ℕ) (xs : List ℕ) : Type 0 where
   pub small : Small l
   pub pool : TextPool s l n xs
+  pub sums : Sums s (sumsFrom l) xs
   pub ranks : (i : ℕ) → i < l .nodes → kind s i ≡ variableKind → Ranked s l n xs i
   pub answers : (r : ℕ) → r < n → answerAt l xs r ≡ slotWord (resolveBelow k s (text s (fieldA s (keyAt l xs r))))
 
@@ -88,7 +91,9 @@ pub record Aimed (s : List ℕ) (l : Layout) (xs : List ℕ) (i : ℕ) : Type 0 
 
 -- all locals are told, and the first j nodes have theirs in their slots
 pub record Settling (s : List ℕ) (l : Layout) (j : ℕ) (xs : List ℕ) : Type 0 where
+  pub small : Small l
   pub room : indexEnd l ≤ length xs
+  pub sums : Sums s (sumsFrom l) xs
   pub aims : (i : ℕ) → i < l .nodes → kind s i ≡ variableKind → Aimed s l xs i
   pub done : (i : ℕ) → i < j → kind s i ≡ variableKind → getD xs (linksAt l + constSlot i) 0 ≡ localWord s i
 
@@ -98,9 +103,9 @@ pub record Settles (s : List ℕ) (l : Layout) (j : ℕ) (xs ys : List ℕ) : Ty
 
 -- the whole pass
 pub record Prepares (s : List ℕ) (l : Layout) (xs ys : List ℕ) : Type 0 where
-  pub slotted : Small l → l .nodes ≡ nodeCount s → indexEnd l ≤ length xs → Slotted s l ys
+  pub prepared : Small l → l .nodes ≡ nodeCount s → indexEnd l ≤ length xs → Sums s (sumsFrom l) xs → Settling s l (l .nodes) ys
 
--- no entry stands in any index, and the locals are told
+-- no entry stands in any index, the locals are told, and what is kept for long texts is written
 pub record Begins (s : List ℕ) (l : Layout) (xs ys : List ℕ) : Type 0 where
   pub long : length ys ≡ length xs
   pub index : Small l → l .nodes ≡ nodeCount s → indexEnd l ≤ length xs → Indexes s l 0 0 0 0 ys

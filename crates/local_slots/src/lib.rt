@@ -15,7 +15,8 @@ ghost use Rattle.index.specs.Consts.{constSlot};
 ghost use Rattle.index.specs.Locals.{Slots};
 ghost use Rattle.local_slots.specs.Pass as passes;
 ghost use Rattle.local_slots.specs.Pass.{hasText, textHash, Met, Meets, Telling, Tells, Settling, Settles, Prepares, Begins};
-use folds::hash_bytes;
+use folds::fill;
+use folds::hash_text;
 use index::RANKS;
 use index::TAGS;
 use index::head;
@@ -29,6 +30,7 @@ use scratch::get;
 use scratch::name_index;
 use scratch::name_place;
 use scratch::put;
+use scratch::sums_at;
 use scratch::token_place;
 use scratch::words_of;
 use sheet::child;
@@ -46,7 +48,7 @@ use text::same_bytes;
 const VARIABLE: u32 = 9;
 
 // So many locals or fewer are gone through at each use.
-const FEW: u32 = 32;
+pub const FEW: u32 = 32;
 
 // Where the local of Variable `j` stands.
 fn slot_place(l: Layout, j: u32) -> usize
@@ -100,7 +102,7 @@ fn meet(s: &[u8], x: &mut [u32], l: Layout, n: u32, j: u32) -> u32
     }
     let ix = name_index(l);
     let t = field_a(s, j);
-    let h = hash_bytes(text(s, t));
+    let h = hash_text(s, &x[..], sums_at(l), t);
     let r = seek_text(s, &x[..], ix, n, t, h);
     put(x, chain_place(l, j), r);
     if r < n {
@@ -131,7 +133,7 @@ fn tell(s: &[u8], x: &mut [u32], l: Layout, n: u32, k: u32)
     ensures { λ _. ⌜ Tells (now (s .entry)) l n k (now (x .entry)) (now (x .exit)) ⌝ }
 {
     let t = local_text(s, k);
-    let h = hash_bytes(text(s, t));
+    let h = hash_text(s, &x[..], sums_at(l), t);
     let r = seek_text(s, &x[..], name_index(l), n, t, h);
     if n <= r {
         return;
@@ -187,10 +189,12 @@ fn prepare(s: &[u8], x: &mut [u32], l: Layout)
     settle_all(s, x, l);
 }
 
-// The scratch before the lowering: no entry stands in any index, and the local of every Variable is told where there are many.
+// The scratch before the lowering: what is kept for long texts is written, no entry stands in any index, and the local of every Variable is
+// told where there are many.
 pub fn begin(s: &[u8], x: &mut [u32], l: Layout)
     ensures { λ _. ⌜ Begins (now (s .entry)) l (now (x .entry)) (now (x .exit)) ⌝ }
 {
+    fill(s, x, sums_at(l));
     if local_count(s) <= FEW {
         clear_index(x, l);
         return;

@@ -15,6 +15,7 @@ use Rattle.cases.specs.SplitLaws.{Every}
 use Rattle.cases.specs.SplitRight.{split-right}
 use Rattle.bytecode.specs.declared.Op.the-variants.{Unit}
 use Rattle.bytecode.specs.Op.{opWords}
+use Rattle.lowering.specs.Limits.{maxLevels}
 use Rattle.lowering.specs.Code.{Code, ins, noPos}
 use Rattle.lowering.specs.Out.{Rec}
 use Rattle.lowering.specs.SwitchSheet.{defaultBlock, subject, casesOf, caseBlocks, rangesOf}
@@ -31,7 +32,6 @@ use Rattle.lowering.specs.Marks as Marks
 use Rattle.lowering.specs.Words.{instructions}
 use Rattle.lowering.specs.Guided.{Fed, guidedStart, Event, missing, isAnswered, eventOf, events}
 use borrow.Author.Tests.{eq-eqb}
-use Rattle.sheet.specs.Limits.{maxDepth}
 use Rattle.sheet.specs.Node.{kind}
 use Rattle.lowering.specs.Kinds.{switchKind}
 use Rattle.lowering.specs.Outcome.{lower}
@@ -273,7 +273,7 @@ unfolding switch
 switch-chooses s rec M B x answers free = chooses s rec M (defaultBlock s) (layout s rec) (switch-ready s rec M B) x answers free refl
 
 -- the same as demand 3 says it, of the image of a switch sheet
-pub chooses-right : (s : List ℕ) → Meets (expression maxDepth s) → Blocks s → kind s 0 ≡ switchKind → ChoosesRight s (words (lower s))
+pub chooses-right : (s : List ℕ) → Meets (expression maxLevels s) → Blocks s → kind s 0 ≡ switchKind → ChoosesRight s (words (lower s))
 unfolding lower marksOf
 chooses-right s M B k =
-    rw (eq-eqb (kind s 0) switchKind k, lower) (λ x answers free. switch-chooses s (expression maxDepth s) M B x answers free)
+    rw (eq-eqb (kind s 0) switchKind k, lower) (λ x answers free. switch-chooses s (expression maxLevels s) M B x answers free)

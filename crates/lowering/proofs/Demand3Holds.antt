@@ -1,14 +1,16 @@
 -- Demand 3, put together: what is shown of expressions and of switches, for every sheet whose outcome is an image.
-use Prim.Native.Nat.{ℕ, zero, suc}
+use Prim.Native.Nat.{ℕ}
 use mathlib.Core.Path.{_≡_, refl, sym, ap, subst}
 use mathlib.Core.Bool.{Bool, true, false}
 use mathlib.Core.List.{List}
 use native.Mathlib.Omega.{arith}
 use lib.Dec.{eqb}
 use borrow.Author.Tests.{eqb-true}
-use Rattle.sheet.specs.Limits.{maxDepth}
 use Rattle.sheet.specs.Node.{kind}
 use Rattle.checks.specs.Checked.{numberOf, checked}
+use Rattle.checks.specs.declared.Verdict.{Verdict}
+use Rattle.checks.specs.declared.Verdict.the-variants.{Accepted, Refused}
+use Rattle.lowering.specs.Limits.{maxLevels}
 use Rattle.lowering.specs.Kinds.{switchKind}
 use Rattle.lowering.specs.Expression.{expression}
 use Rattle.lowering.specs.Outcome.{Outcome, refused, image, lower, outcomeAfter, outcome}
@@ -23,17 +25,18 @@ use Rattle.lowering.proofs.Choice.{chooses-right}
 use Rattle.lowering.proofs.Demand3From.{demand3-from}
 
 -- a refusal is no image
-pub not-image : (s : List ℕ) (imageLength scratchLength n : ℕ) (w : List ℕ) → outcomeAfter s imageLength scratchLength n ≡ image w → n ≡ 0
+pub not-image : (s : List ℕ) (imageLength scratchLength : ℕ) (v : Verdict) (w : List ℕ) → outcomeAfter s imageLength scratchLength v ≡ image w
+    → numberOf v ≡ 0
 unfolding outcomeAfter
-not-image s imageLength scratchLength zero w e = refl
-not-image s imageLength scratchLength (suc n) w e = let z : _≡_ {A = ℕ} 0 1 = cc in absurd (omega arith)
+not-image s imageLength scratchLength Accepted w e = refl
+not-image s imageLength scratchLength (Refused r) w e = let z : _≡_ {A = ℕ} 0 1 = cc in absurd (omega arith)
 
 module _ (s : List ℕ) (a : numberOf (checked s) ≡ 0) where
   pub lower-typed : WellTyped (lower s)
   lower-typed = by (eqb (kind s 0) switchKind) refl
     where
       by : (t : Bool) → eqb (kind s 0) switchKind ≡ t → WellTyped (lower s)
-      by true h = subst WellTyped (sym (lower-switch s h)) (accepted-typed s a (eqb-true (kind s 0) switchKind h) (expression maxDepth s) (expression-meets maxDepth s))
+      by true h = subst WellTyped (sym (lower-switch s h)) (accepted-typed s a (eqb-true (kind s 0) switchKind h) (expression maxLevels s) (expression-meets maxLevels s))
       by false h = subst WellTyped (sym (lower-plain s h)) (plain-typed s)
 
   pub lower-reached : AllReached (lower s)
@@ -42,13 +45,13 @@ module _ (s : List ℕ) (a : numberOf (checked s) ≡ 0) where
       by : (t : Bool) → eqb (kind s 0) switchKind ≡ t → AllReached (lower s)
       by true h =
           subst AllReached (sym (lower-switch s h))
-          (accepted-reached s a (eqb-true (kind s 0) switchKind h) (expression maxDepth s) (expression-meets maxDepth s)
-          (record { links = expression-links maxDepth s (accepted-sizes s a) (accepted-shape s a) .links }))
+          (accepted-reached s a (eqb-true (kind s 0) switchKind h) (expression maxLevels s) (expression-meets maxLevels s)
+          (record { links = expression-links maxLevels s (accepted-sizes s a) (accepted-shape s a) .links }))
       by false h = subst AllReached (sym (lower-plain s h)) (plain-reached s (accepted-sizes s a) (accepted-shape s a))
 
 pub demand3 : Statement
 unfolding outcome
 demand3 s imageLength scratchLength w e =
-    let a = not-image s imageLength scratchLength (numberOf (checked s)) w e in
+    let a = not-image s imageLength scratchLength (checked s) w e in
     demand3-from s imageLength scratchLength w e (lower-typed s a) (lower-reached s a)
-    (λ k. chooses-right s (expression-meets maxDepth s) (accepted-blocks s a k) k)
+    (λ k. chooses-right s (expression-meets maxLevels s) (accepted-blocks s a k) k)

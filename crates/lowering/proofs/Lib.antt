@@ -1,36 +1,36 @@
 pub mod Effect
-pub mod Typed
-pub mod Linked
+mod Typed
+mod Linked
 pub mod Meets
-pub mod SoundArray
+mod SoundArray
 pub mod Whole
 pub mod ChainPool
-pub mod Lowers
+mod Lowers
 pub mod SoundCall
-pub mod SoundChain
-pub mod SoundCoalesce
+mod SoundChain
+mod SoundCoalesce
 pub mod SoundExpression
-pub mod SoundInterpolated
-pub mod SoundLeaf
-pub mod SoundOperands
-pub mod SoundShortCircuit
-pub mod WholeLaws
+mod SoundInterpolated
+mod SoundLeaf
+mod SoundOperands
+mod SoundShortCircuit
+mod WholeLaws
 pub mod LinkedArray
-pub mod LinkedCall
+mod LinkedCall
 pub mod LinkedChain
-pub mod LinkedCoalesce
+mod LinkedCoalesce
 pub mod LinkedExpression
-pub mod LinkedFrom
-pub mod LinkedInterpolated
+mod LinkedFrom
+mod LinkedInterpolated
 pub mod LinkedLeaf
-pub mod LinkedOperands
-pub mod LinkedShortCircuit
-pub mod LinksAll
-pub mod AllLaws
+mod LinkedOperands
+mod LinkedShortCircuit
+mod LinksAll
+mod AllLaws
 pub mod Decode
-pub mod Demand3From
+mod Demand3From
 pub mod DepthReached
-pub mod EffectWords
+mod EffectWords
 pub mod RowCounts
 pub mod LowerFits
 pub mod Parts
@@ -38,28 +38,33 @@ pub mod RunsRight
 pub mod Tables
 pub mod Widths
 pub mod Lowered
-pub mod Stands
+mod Stands
 pub mod SwitchAccepted
-pub mod SwitchAllReached
+mod SwitchAllReached
 pub mod SwitchBlocks
 pub mod SwitchChecked
 pub mod SwitchEntries
-pub mod SwitchNames
-pub mod SwitchParts
+mod SwitchNames
+mod SwitchParts
 pub mod SwitchPlaces
-pub mod SwitchReached
-pub mod SwitchSound
+mod SwitchReached
+mod SwitchSound
 pub mod SwitchTargets
 pub mod SwitchTyped
-pub mod BodyTells
+mod BodyTells
 pub mod CaseConsts
-pub mod ChainTells
-pub mod Choice
-pub mod ChosenRow
+mod ChainTells
+mod Choice
+mod ChosenRow
 pub mod Demand3Holds
-pub mod Fragments
-pub mod MarksAt
-pub mod SwitchMarks
-pub mod Tells
-pub mod TellsBranch
-pub mod Through
+mod Fragments
+mod MarksAt
+mod SwitchMarks
+mod Tells
+mod TellsBranch
+mod Through
+mod LevelsSame
+mod LevelsChain
+mod LevelsSwitch
+pub mod LevelsSuffice
+pub mod GuidedRun

@@ -24,7 +24,7 @@ use Rattle.lowering.proofs.LinksAll.{LinksAll, link-cons, link-residual
 use Rattle.lowering.proofs.LinkedOperands.{operands-link}
 
 -- what a rule takes of the count of arguments
-abbrev Takes : CallRule → ℕ → Type 0
+abbrev pub Takes : CallRule → ℕ → Type 0
 Takes fnPtr n = 1 ≤ n
 Takes fnPtrCall n = Prim.Unit {0}
 Takes lowerable n = Prim.Unit {0}
@@ -36,7 +36,7 @@ module _ (s : List ℕ) (j : ℕ) where
   unfolding isFnPtr
   one-argument h = let e = eqb-true (count s j) 1 (and-eq-true-iff (isFn (callee s j)) (eqb (count s j) 1) .0 h .1) in omega arith
 
-  rule-takes : Takes (callRule s j) (count s j)
+  pub rule-takes : Takes (callRule s j) (count s j)
   unfolding callRule
   rule-takes = by (isFnPtr s j) refl
     where

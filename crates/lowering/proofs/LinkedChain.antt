@@ -5,12 +5,12 @@ use mathlib.Core.Bool.{Bool, true, false}
 use mathlib.Core.List.{List, [], _∷_}
 use native.Mathlib.Omega.{arith}
 use lib.ListN.{length}
-use Rattle.sheet.specs.Limits.{maxDepth}
 use Rattle.sheet.specs.Node.{count, position, child}
 use Rattle.bytecode.specs.declared.Root.{Root}
 use Rattle.bytecode.specs.declared.Root.the-variants.{Local, Named, This, Temporary}
 use Rattle.bytecode.specs.declared.Step.{Step}
 use Rattle.bytecode.specs.declared.Op.the-variants.{Chain}
+use Rattle.lowering.specs.Limits.{maxLevels}
 use Rattle.lowering.specs.Code.{Code, ins}
 use Rattle.lowering.specs.Pools.{Pools, chainAt}
 use Rattle.lowering.specs.Out.{Rec, residualExpr}
@@ -61,11 +61,11 @@ module _ (s : List ℕ) (rec : Rec) where
   unfolding steps
   steps-fail c cs n b d p q h = rw (h, steps)
 
-  pub chain-flat : (j b d : ℕ) (p : Pools) → flattens s (links maxDepth s j) ≡ true → chain s rec j b d p ≡ chainOf s rec (rootOf s (child j) p) j b d (steps s rec (links maxDepth s j) 0 b d (rootPools s (child j) p))
+  pub chain-flat : (j b d : ℕ) (p : Pools) → flattens s (links maxLevels s j) ≡ true → chain s rec j b d p ≡ chainOf s rec (rootOf s (child j) p) j b d (steps s rec (links maxLevels s j) 0 b d (rootPools s (child j) p))
   unfolding chain
   chain-flat j b d p h = rw (h, chain)
 
-  pub chain-stays : (j b d : ℕ) (p : Pools) → flattens s (links maxDepth s j) ≡ false → chain s rec j b d p ≡ residualExpr j d p
+  pub chain-stays : (j b d : ℕ) (p : Pools) → flattens s (links maxLevels s j) ≡ false → chain s rec j b d p ≡ residualExpr j d p
   unfolding chain
   chain-stays j b d p h = rw (h, chain)
 
@@ -123,12 +123,12 @@ module _ (s : List ℕ) (C : Right s) (rec : Rec) (L : LinksAll s rec) (X : Cont
   chain-of-links root j b d (stopped p) v g = link-residual j d p
 
   pub chain-links : (j b d : ℕ) (p : Pools) → Link s j → Linked X b (chain s rec j b d p .code)
-  chain-links j b d p l = by (flattens s (links maxDepth s j)) refl
+  chain-links j b d p l = by (flattens s (links maxLevels s j)) refl
     where
-      by : (t : Bool) → flattens s (links maxDepth s j) ≡ t → Linked X b (chain s rec j b d p .code)
+      by : (t : Bool) → flattens s (links maxLevels s j) ≡ t → Linked X b (chain s rec j b d p .code)
       by true h =
           rw (chain-flat s rec j b d p h)
-          (chain-of-links (rootOf s (child j) p) j b d (steps s rec (links maxDepth s j) 0 b d (rootPools s (child j) p))
+          (chain-of-links (rootOf s (child j) p) j b d (steps s rec (links maxLevels s j) 0 b d (rootPools s (child j) p))
           (child-valid s C j (l .valid) (omega arith))
-          (steps-link (links maxDepth s j) 0 b d (rootPools s (child j) p) (links-valid s C maxDepth j l)))
+          (steps-link (links maxLevels s j) 0 b d (rootPools s (child j) p) (links-valid s C maxLevels j l)))
       by false h = rw (chain-stays s rec j b d p h) (link-residual j d p)

@@ -9,11 +9,11 @@ use lib.ListN.{getD}
 use borrow.Author.Tests.{leb-true}
 use Rattle.words.specs.Count.{allBelow}
 use Rattle.words.specs.CountLaws.{all-at}
-use Rattle.sheet.specs.Limits.{maxDepth}
 use Rattle.sheet.specs.Node.{kind, count}
 use Rattle.sizes.specs.Sizes.{sizesOk}
 use Rattle.shape.specs.Kinds.{lastKind, bound}
 use Rattle.shape.specs.Shape.{shapeOk}
+use Rattle.lowering.specs.Limits.{maxLevels}
 use Rattle.lowering.specs.Pools.{Pools, noPools}
 use Rattle.lowering.specs.Out.{Rec}
 use Rattle.lowering.specs.Expression.{Rule, boolean, unit, constant, interpolated, array, variable, this, fnCall, chain, and, or, coalesce, residual, rules, rule, byRule, expression}
@@ -86,8 +86,8 @@ pub expression-links : (levels : ℕ) (s : List ℕ) → sizesOk s ≡ true → 
 expression-links levels s h g = levels-link s (right s h g) levels
 
 -- an expression's program: every place is reached
-pub plain-reached : (s : List ℕ) → sizesOk s ≡ true → shapeOk s ≡ true → AllReached (plain (expression maxDepth s 0 0 0 noPools))
+pub plain-reached : (s : List ℕ) → sizesOk s ≡ true → shapeOk s ≡ true → AllReached (plain (expression maxLevels s 0 0 0 noPools))
 unfolding plain
 plain-reached s h g =
-    let X = contextOf (plain (expression maxDepth s 0 0 0 noPools)) in
-    record { reached = expression-links maxDepth s h g .links X 0 0 0 noPools (root-valid s (right s h g)) .inside }
+    let X = contextOf (plain (expression maxLevels s 0 0 0 noPools)) in
+    record { reached = expression-links maxLevels s h g .links X 0 0 0 noPools (root-valid s (right s h g)) .inside }

@@ -6,14 +6,15 @@ use mathlib.Core.List.{List, [], _∷_}
 use native.Mathlib.Omega.{arith}
 use lib.Dec.{eqb, ltb}
 use lib.ListN.{length}
-use Rattle.sheet.specs.Limits.{maxDepth}
 use Rattle.sheet.specs.Node.{kind}
 use Rattle.cases.specs.Split as Split
 use Rattle.bytecode.specs.declared.SwitchCase.{SwitchCase}
 use Rattle.bytecode.specs.declared.SwitchRange.{SwitchRange}
-use Rattle.checks.specs.Checked.{numberOf, checked}
+use Rattle.checks.specs.Checked.{checked}
+use Rattle.checks.specs.declared.Verdict.{Verdict}
+use Rattle.checks.specs.declared.Verdict.the-variants.{Accepted, Refused}
 use Rattle.lowering.specs.Kinds.{switchKind}
-use Rattle.lowering.specs.Limits.{maxEmitted}
+use Rattle.lowering.specs.Limits.{maxLevels, maxEmitted}
 use Rattle.lowering.specs.Pools.{Pools, noPools, emits}
 use Rattle.lowering.specs.Code.{Code}
 use Rattle.lowering.specs.Out.{Out}
@@ -61,11 +62,11 @@ switch-fits s def l =
           (range-rows-length l default (l .splits));
     }
 
-pub lower-switch : (s : List ℕ) → eqb (kind s 0) switchKind ≡ true → lower s ≡ switch s (expression maxDepth s)
+pub lower-switch : (s : List ℕ) → eqb (kind s 0) switchKind ≡ true → lower s ≡ switch s (expression maxLevels s)
 unfolding lower
 lower-switch s h = rw (h, lower)
 
-pub lower-plain : (s : List ℕ) → eqb (kind s 0) switchKind ≡ false → lower s ≡ plain (expression maxDepth s 0 0 0 noPools)
+pub lower-plain : (s : List ℕ) → eqb (kind s 0) switchKind ≡ false → lower s ≡ plain (expression maxLevels s 0 0 0 noPools)
 unfolding lower
 lower-plain s h = rw (h, lower)
 
@@ -74,8 +75,8 @@ unfolding switch
 lower-fits s = by (eqb (kind s 0) switchKind) refl
   where
     by : (t : Bool) → eqb (kind s 0) switchKind ≡ t → TablesFit (lower s)
-    by true h = subst TablesFit (sym (lower-switch s h)) (switch-fits s (defaultBlock s) (layout s (expression maxDepth s)))
-    by false h = subst TablesFit (sym (lower-plain s h)) (plain-fits (expression maxDepth s 0 0 0 noPools))
+    by true h = subst TablesFit (sym (lower-switch s h)) (switch-fits s (defaultBlock s) (layout s (expression maxLevels s)))
+    by false h = subst TablesFit (sym (lower-plain s h)) (plain-fits (expression maxLevels s 0 0 0 noPools))
 
 -- an outcome that has no image, or the program's
 abbrev Carries : Program → Outcome → Type 0
@@ -94,11 +95,11 @@ lowered-carries s imageLength scratchLength r =
     (carries-either r (ltb scratchLength (scratchNeeded s (r .pools))) _ _ tt
     (carries-either r (ltb imageLength (length (words r))) _ _ tt refl)))
 
-after-carries : (s : List ℕ) (imageLength scratchLength n : ℕ) → Carries (lower s) (outcomeAfter s imageLength scratchLength n)
+after-carries : (s : List ℕ) (imageLength scratchLength : ℕ) (v : Verdict) → Carries (lower s) (outcomeAfter s imageLength scratchLength v)
 unfolding outcomeAfter
-after-carries s imageLength scratchLength zero = lowered-carries s imageLength scratchLength (lower s)
-after-carries s imageLength scratchLength (suc n) = tt
+after-carries s imageLength scratchLength Accepted = lowered-carries s imageLength scratchLength (lower s)
+after-carries s imageLength scratchLength (Refused r) = tt
 
 pub image-is : (s : List ℕ) (imageLength scratchLength : ℕ) (w : List ℕ) → outcome s imageLength scratchLength ≡ image w → words (lower s) ≡ w
 unfolding outcome
-image-is s imageLength scratchLength w e = subst (Carries (lower s)) e (after-carries s imageLength scratchLength (numberOf (checked s)))
+image-is s imageLength scratchLength w e = subst (Carries (lower s)) e (after-carries s imageLength scratchLength (checked s))

@@ -7,13 +7,13 @@ use lib.Dec.{eqb}
 use lib.ListN.{length, length-append}
 use native.Mathlib.Omega.{arith}
 use native.Mathlib.Nat.{add-zero}
-use Rattle.sheet.specs.Limits.{maxDepth}
 use Rattle.sheet.specs.Node.{kind, count, position, child}
 use Rattle.bytecode.specs.declared.Root.{Root}
 use Rattle.bytecode.specs.declared.Root.the-variants.{Local, Named, This, Temporary}
 use Rattle.bytecode.specs.declared.Step.{Step}
 use Rattle.bytecode.specs.declared.Chain as ChainRecord
 use Rattle.bytecode.specs.declared.Op.the-variants.{Chain}
+use Rattle.lowering.specs.Limits.{maxLevels}
 use Rattle.lowering.specs.Kinds.{variableKind}
 use Rattle.lowering.specs.Code.{Code, ins}
 use Rattle.lowering.specs.Pools.{Pools, emits, pushName, chainAt, pushChain}
@@ -138,8 +138,8 @@ module _ (s : List ℕ) (rec : Rec) (M : Meets rec) where
 
   pub chain-done : (j b d : ℕ) (p : Pools) → Done p b d (suc d) (chain s rec j b d p)
   unfolding chain
-  chain-done j b d p = by (flattens s (links maxDepth s j)) refl
+  chain-done j b d p = by (flattens s (links maxLevels s j)) refl
     where
-      by : (t : Bool) → flattens s (links maxDepth s j) ≡ t → Done p b d (suc d) (chain s rec j b d p)
-      by true h = rw (h, chain) (flat-done j b d p (links maxDepth s j))
+      by : (t : Bool) → flattens s (links maxLevels s j) ≡ t → Done p b d (suc d) (chain s rec j b d p)
+      by true h = rw (h, chain) (flat-done j b d p (links maxLevels s j))
       by false h = rw (h, chain) (residual-done j b d p)

@@ -1,7 +1,7 @@
 -- Every node lowers to code that takes depth d to depth d + 1.
 use Prim.Native.Nat.{ℕ, zero, suc}
 use mathlib.Core.List.{List}
-use Rattle.sheet.specs.Limits.{maxDepth}
+use Rattle.lowering.specs.Limits.{maxLevels}
 use Rattle.lowering.specs.Pools.{Pools, noPools}
 use Rattle.lowering.specs.Out.{Rec}
 use Rattle.lowering.specs.Program.{plain}
@@ -41,8 +41,8 @@ expression-meets zero s = meets (λ j b d p. residual-done j b d p)
 expression-meets (suc levels) s = meets (λ j b d p. byRule-done s (expression levels s) (expression-meets levels s) (rule s j) j b d p)
 
 -- an expression's program is well typed
-pub plain-typed : (s : List ℕ) → WellTyped (plain (expression maxDepth s 0 0 0 noPools))
+pub plain-typed : (s : List ℕ) → WellTyped (plain (expression maxLevels s 0 0 0 noPools))
 unfolding plain
 plain-typed s =
-    let o = expression maxDepth s 0 0 0 noPools in
-    sound-typed (plain o) (expression-meets maxDepth s .sound (contextOf (plain o)) 0 0 0 noPools (grows-refl (o .pools .chains)))
+    let o = expression maxLevels s 0 0 0 noPools in
+    sound-typed (plain o) (expression-meets maxLevels s .sound (contextOf (plain o)) 0 0 0 noPools (grows-refl (o .pools .chains)))

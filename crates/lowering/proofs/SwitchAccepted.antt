@@ -1,14 +1,15 @@
 -- The switch of a sheet that the check accepts: its program has the right depths, and every place of it is reached.
 use Prim.Native.Nat.{ℕ}
-use mathlib.Core.Path.{_≡_, refl, ap}
+use mathlib.Core.Path.{_≡_, refl, ap, _∙_}
 use mathlib.Core.Bool.{Bool, true, false}
 use mathlib.Core.List.{List}
 use native.Mathlib.Omega.{arith}
 use Rattle.sheet.specs.Node.{kind}
 use Rattle.texts.specs.Texts.{textsOk}
 use Rattle.numbers.specs.Numbers.{numbersOk}
+use Rattle.depth.specs.Depth.{depthOk}
 use Rattle.checks.specs.Checked.{numberOf, checked}
-use Rattle.checks.specs.CheckedLaws.{says-3, says-4}
+use Rattle.checks.specs.CheckedLaws.{says-3, says-4, goes-on, says-5}
 use Rattle.lowering.specs.Kinds.{switchKind}
 use Rattle.lowering.specs.Out.{Rec}
 use Rattle.lowering.specs.Switch.{switch}
@@ -35,6 +36,16 @@ module _ (s : List ℕ) (a : numberOf (checked s) ≡ 0) where
       by : (t : Bool) → numbersOk s ≡ t → numbersOk s ≡ true
       by true e = e
       by false e = let z = ap numberOf (says-4 s (accepted-sizes s a) (accepted-shape s a) accepted-texts e) in absurd (omega arith)
+
+  pub accepted-depth : depthOk s ≡ true
+  accepted-depth = by (depthOk s) refl
+    where
+      by : (t : Bool) → depthOk s ≡ t → depthOk s ≡ true
+      by true e = e
+      by false e =
+          let tree = goes-on s (accepted-sizes s a) (accepted-shape s a) accepted-texts accepted-numbers in
+          let z = ap numberOf (tree ∙ says-5 s e) in
+          absurd (omega arith)
 
   pub accepted-right : Right s
   accepted-right = right s (accepted-sizes s a) (accepted-shape s a)

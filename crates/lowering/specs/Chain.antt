@@ -5,13 +5,13 @@ use mathlib.Core.Option.{none, some}
 use mathlib.Core.List.{List, [], _∷_, _++_}
 use lib.Dec.{eqb}
 use lib.ListN.{length}
-use Rattle.sheet.specs.Limits.{maxDepth}
 use Rattle.sheet.specs.Node.{kind, fieldA, position, child}
 use Rattle.sheet.specs.Text.{text}
 use Rattle.bytecode.specs.declared.Root.{Root}
 use Rattle.bytecode.specs.declared.Root.the-variants.{Local, Named, This, Temporary}
 use Rattle.bytecode.specs.declared.Step.{Step}
 use Rattle.bytecode.specs.declared.Op.the-variants.{Chain}
+use Rattle.lowering.specs.Limits.{maxLevels}
 use Rattle.lowering.specs.Kinds.{variableKind, thisKind}
 use Rattle.lowering.specs.Code.{Code, ins}
 use Rattle.lowering.specs.Pools.{Pools, emits, name, nameAt, pushName, chainAt, pushChain}
@@ -65,7 +65,7 @@ chainOf s rec root j b d (stopped p) = residualExpr j d p
 
 unfoldable pub chain : List ℕ → Rec → ℕ → ℕ → ℕ → Pools → Out
 chain s rec j b d p =
-    let ls = links maxDepth s j in
+    let ls = links maxLevels s j in
     elim (flattens s ls) [
       | true ↦ chainOf s rec (rootOf s (child j) p) j b d (steps s rec ls 0 b d (rootPools s (child j) p))
       | false ↦ residualExpr j d p

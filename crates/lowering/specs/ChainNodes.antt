@@ -27,32 +27,32 @@ chain-bound k h = by (eqb k dotKind) refl
     by false e = rw (eqb-true k indexKind (rw e at h))
 
 module _ (s : List ℕ) where
-  goes-chain : (c : ℕ) → goesOn s c ≡ true → isChain (kind s (restOf s c)) ≡ true
+  pub goes-chain : (c : ℕ) → goesOn s c ≡ true → isChain (kind s (restOf s c)) ≡ true
   unfolding goesOn
   goes-chain c h = and-eq-true-iff (not (breaks s c)) (isChain (kind s (restOf s c))) .0 h .1
 
-  operand-on : (c : ℕ) → goesOn s c ≡ true → operandOf s c ≡ child (restOf s c)
+  pub operand-on : (c : ℕ) → goesOn s c ≡ true → operandOf s c ≡ child (restOf s c)
   unfolding operandOf
   operand-on c h = rw (h, operandOf)
 
-  operand-last : (c : ℕ) → goesOn s c ≡ false → operandOf s c ≡ restOf s c
+  pub operand-last : (c : ℕ) → goesOn s c ≡ false → operandOf s c ≡ restOf s c
   unfolding operandOf
   operand-last c h = rw (h, operandOf)
 
-  links-none : (c : ℕ) → links zero s c ≡ []
+  pub links-none : (c : ℕ) → links zero s c ≡ []
   unfolding links
   links-none c = refl
 
-  links-on : (n c : ℕ) → goesOn s c ≡ true → links (suc n) s c ≡ c ∷ links n s (restOf s c)
+  pub links-on : (n c : ℕ) → goesOn s c ≡ true → links (suc n) s c ≡ c ∷ links n s (restOf s c)
   unfolding links
   links-on n c h = rw (h, links)
 
-  links-last : (n c : ℕ) → goesOn s c ≡ false → links (suc n) s c ≡ c ∷ []
+  pub links-last : (n c : ℕ) → goesOn s c ≡ false → links (suc n) s c ≡ c ∷ []
   unfolding links
   links-last n c h = rw (h, links)
 
 module _ (s : List ℕ) (C : Right s) where
-  chain-link : (c : ℕ) → Valid s c → isChain (kind s c) ≡ true → Link s c
+  pub chain-link : (c : ℕ) → Valid s c → isChain (kind s c) ≡ true → Link s c
   chain-link c v h = record { valid = v; two = omega (arith, node-bounds s C c v, chain-bound (kind s c) h) }
 
   pub rest-valid : (c : ℕ) → Link s c → Valid s (restOf s c)

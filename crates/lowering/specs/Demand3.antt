@@ -3,8 +3,8 @@ use Prim.Native.Nat.{ℕ, suc, _≤_, _<_}
 use mathlib.Core.Path.{_≡_}
 use mathlib.Core.Bool.{Bool}
 use mathlib.Core.List.{List}
-use Rattle.sheet.specs.Limits.{maxDepth}
 use Rattle.sheet.specs.Node.{kind}
+use Rattle.lowering.specs.Limits.{maxLevels}
 use Rattle.lowering.specs.Kinds.{switchKind}
 use Rattle.lowering.specs.Expression.{expression}
 use Rattle.lowering.specs.SwitchSheet.{defaultBlock}
@@ -40,7 +40,7 @@ pub record DepthReached (w : List ℕ) : Type 0 where
 
 -- where the definition emits the guards, bodies and the missing default of a switch sheet
 unfoldable pub marksOf : List ℕ → List Marked
-marksOf s = marks (defaultBlock s) (layout s (expression maxDepth s))
+marksOf s = marks (defaultBlock s) (layout s (expression maxLevels s))
 
 -- on every integer the guards are tried and the body is reached that the source rule says
 abbrev pub ChoosesRight : List ℕ → List ℕ → Type 0

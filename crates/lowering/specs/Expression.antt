@@ -58,7 +58,7 @@ byRule or s rec j b d p = ShortCircuit.shortCircuit 1 s rec j b d p
 byRule coalesce s rec j b d p = Coalesce.coalesce s rec j b d p
 byRule residual s rec j b d p = residualExpr j d p
 
--- with that many levels left; a checked sheet never runs out of them
+-- with that many levels left; a checked sheet never runs out of them (Levels)
 unfoldable pub expression : ℕ → List ℕ → Rec
 expression zero s j b d p = residualExpr j d p
 expression (suc levels) s j b d p = byRule (rule s j) s (expression levels s) j b d p

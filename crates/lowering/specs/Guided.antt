@@ -116,3 +116,16 @@ eventsFrom f (suc n) g = eventOf (markAt (f .marks) (g .state .place)) ++ events
 -- the events of the whole run, which has at most as many steps as there are instructions
 unfoldable pub events : Fed → List Event
 events f = eventsFrom f (instructions (f .image)) guidedStart
+
+-- the same run step by step: where it is after n steps, and the ways that it goes
+unfoldable pub guided : Fed → ℕ → Guided
+guided f zero = guidedStart
+guided f (suc n) = guidedStep f (guided f n)
+
+abbrev pub guidedWays : Fed → ℕ → ℕ
+guidedWays f n = wayAt f (guided f n)
+
+-- the events of any run with marks: of n states from state m on
+unfoldable pub eventsOf : List Marked → (ℕ → State) → ℕ → ℕ → List Event
+eventsOf ms states zero m = []
+eventsOf ms states (suc n) m = eventOf (markAt ms (states m .place)) ++ eventsOf ms states n (suc m)

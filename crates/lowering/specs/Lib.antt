@@ -38,3 +38,4 @@ pub mod Sweep
 pub mod All
 pub mod Nodes
 pub mod ChainNodes
+pub mod Levels

@@ -1,9 +1,14 @@
 -- The numbers of the lowering and of the image's format. Each stands here once; the sheet's own are in crate sheet.
 use Prim.Native.Nat.{ℕ}
+use Rattle.sheet.specs.Limits.{maxDepth}
 
 -- words before the image's sections: the twelve sizes
 abbrev pub sizesWords : ℕ
 sizesWords = 12
+
+-- levels of nodes that are lowered, and links of a chain that are followed; that more would change nothing is in Levels
+abbrev pub maxLevels : ℕ
+maxLevels = maxDepth
 
 -- greatest count of arguments of a call, and of elements of an array, that lower
 abbrev pub maxArgs : ℕ
@@ -29,16 +34,3 @@ scratchPerNode = 16
 
 abbrev pub scratchBesides : ℕ
 scratchBesides = 4096
-
--- the refusals of the lowering: an FnCall `eval` is reached; too many instructions emitted; scratch too short; image too long
-abbrev pub evalReached : ℕ
-evalReached = 9
-
-abbrev pub tooManyEmitted : ℕ
-tooManyEmitted = 10
-
-abbrev pub scratchTooShort : ℕ
-scratchTooShort = 11
-
-abbrev pub imageTooLong : ℕ
-imageTooLong = 12

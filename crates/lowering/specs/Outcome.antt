@@ -1,14 +1,17 @@
 -- The outcome for a sheet and the lengths of the image and of the scratch, in words: the refusal that fits first, or the image's words.
-use Prim.Native.Nat.{ℕ, zero, suc, _+_, _*_}
+use Prim.Native.Nat.{ℕ, _+_, _*_}
 use mathlib.Core.Bool.{true, false}
 use mathlib.Core.List.{List}
 use lib.Dec.{ltb, eqb}
 use lib.ListN.{length}
-use Rattle.sheet.specs.Limits.{maxDepth}
 use Rattle.sheet.specs.Layout.{nodeCount}
 use Rattle.sheet.specs.Node.{kind}
-use Rattle.checks.specs.Checked.{numberOf, checked}
-use Rattle.lowering.specs.Limits.{maxEmitted, scratchPerEmitted, scratchPerNode, scratchBesides, evalReached, tooManyEmitted, scratchTooShort, imageTooLong}
+use Rattle.checks.specs.Checked.{checked}
+use Rattle.checks.specs.declared.Verdict.{Verdict}
+use Rattle.checks.specs.declared.Verdict.the-variants.{Accepted, Refused}
+use Rattle.refusals.specs.declared.Refusal.{Refusal}
+use Rattle.refusals.specs.declared.Refusal.the-variants.{Eval, Emitted, ScratchShort, ImageLong}
+use Rattle.lowering.specs.Limits.{maxLevels, maxEmitted, scratchPerEmitted, scratchPerNode, scratchBesides}
 use Rattle.lowering.specs.Kinds.{switchKind}
 use Rattle.lowering.specs.Pools.{Pools, noPools}
 use Rattle.lowering.specs.Expression.{expression}
@@ -17,15 +20,15 @@ use Rattle.lowering.specs.Switch.{switch}
 use Rattle.lowering.specs.Image.{words}
 
 pub data Outcome : Type 0 where
-  refused : ℕ → Outcome
+  refused : Refusal → Outcome
   image : List ℕ → Outcome
 
 -- node 0 is a Switch or an expression
 unfoldable pub lower : List ℕ → Program
 lower s =
     elim (eqb (kind s 0) switchKind) [
-      | true ↦ switch s (expression maxDepth s)
-      | false ↦ plain (expression maxDepth s 0 0 0 noPools)
+      | true ↦ switch s (expression maxLevels s)
+      | false ↦ plain (expression maxLevels s 0 0 0 noPools)
     ]
 
 unfoldable pub scratchNeeded : List ℕ → Pools → ℕ
@@ -35,23 +38,23 @@ scratchNeeded s p = scratchPerEmitted * p .emitted + scratchPerNode * nodeCount 
 unfoldable pub lowered : List ℕ → ℕ → ℕ → Program → Outcome
 lowered s imageLength scratchLength r =
     elim (r .pools .defeated) [
-      | true ↦ refused evalReached
+      | true ↦ refused Eval
       | false ↦
           elim (ltb maxEmitted (r .pools .emitted)) [
-            | true ↦ refused tooManyEmitted
+            | true ↦ refused Emitted
             | false ↦
                 elim (ltb scratchLength (scratchNeeded s (r .pools))) [
-                  | true ↦ refused scratchTooShort
+                  | true ↦ refused ScratchShort
                   | false ↦
-                      elim (ltb imageLength (length (words r))) [ true ↦ refused imageTooLong | false ↦ image (words r) ]
+                      elim (ltb imageLength (length (words r))) [ true ↦ refused ImageLong | false ↦ image (words r) ]
                 ]
           ]
     ]
 
 -- a sheet that the check of 1 to 8 lets through is lowered
-unfoldable pub outcomeAfter : List ℕ → ℕ → ℕ → ℕ → Outcome
-outcomeAfter s imageLength scratchLength zero = lowered s imageLength scratchLength (lower s)
-outcomeAfter s imageLength scratchLength (suc n) = refused (suc n)
+unfoldable pub outcomeAfter : List ℕ → ℕ → ℕ → Verdict → Outcome
+outcomeAfter s imageLength scratchLength Accepted = lowered s imageLength scratchLength (lower s)
+outcomeAfter s imageLength scratchLength (Refused r) = refused r
 
 unfoldable pub outcome : List ℕ → ℕ → ℕ → Outcome
-outcome s imageLength scratchLength = outcomeAfter s imageLength scratchLength (numberOf (checked s))
+outcome s imageLength scratchLength = outcomeAfter s imageLength scratchLength (checked s)

@@ -37,11 +37,11 @@ textsGV = (103 ∷ []) ∷ (118 ∷ []) ∷ []
 abbrev pub textsPEval : List (List ℕ)
 textsPEval = (112 ∷ []) ∷ (101 ∷ 118 ∷ 97 ∷ 108 ∷ []) ∷ []
 
--- one Unit node
-unfoldable pub unit : Row
-unit =
+-- one Unit node, at any position
+unfoldable pub unit : ℕ → Row
+unit p =
     lowers
-    (record { nodes = node 2 1 0 0 0 0 ∷ []; positions = at-line 7 3 ∷ []; texts = []; locals = [] })
+    (record { nodes = node 2 1 0 0 0 0 ∷ []; positions = p ∷ []; texts = []; locals = [] })
     (Unit ∷ [])
     (image (1 ∷ 0 ∷ 0 ∷ 0 ∷ 0 ∷ 0 ∷ 0 ∷ 0 ∷ 0 ∷ 0 ∷ 1 ∷ 1 ∷ 2 ∷ 0 ∷ 0 ∷ 0 ∷ 0 ∷ []))
 
@@ -159,9 +159,10 @@ methodEval =
     (image
     (listed (1 ∷ 0 ∷ 1 ∷ 0 ∷ 1 ∷ 0 ∷ 0 ∷ 0 ∷ 0 ∷ 0 ∷ 1 ∷ 1 ∷ []) (four 24 0 0 0) (0 ∷ []) (0 ∷ 0 ∷ 0 ∷ [])))
 
-unfoldable pub rows : List Row
-rows =
-    unit
+-- the rows, the first of them for every position
+unfoldable pub rows : ℕ → List Row
+rows p =
+    unit p
     ∷ andBool
     ∷ coalesceUnit
     ∷ nested
@@ -181,6 +182,6 @@ computed (splits rs es) = splits rs (split rs)
 computed (lowers sh ops out) =
     lowers sh (map (λ (i : Ins). i .op) ((lower (sheet sh)) .code)) (answer (sheet sh) 16384 16384)
 
-pub rows-right : map computed rows ≡ rows
+pub rows-right : (p : ℕ) → map computed (rows p) ≡ rows p
 unfolding unit andBool coalesceUnit nested empties widest overlapping callLocal callNamed emptySwitch defaultSwitch methodEval rows computed answer small least greatest entry
-rows-right = refl
+rows-right p = refl

@@ -59,7 +59,7 @@ module _ (s : List ℕ) (a : numberOf (checked s) ≡ 0) where
 pub lowered-made : Statement
 unfolding outcome
 lowered-made s imageLength scratchLength w e =
-    let a = not-image s imageLength scratchLength (numberOf (checked s)) w e in
+    let a = not-image s imageLength scratchLength (checked s) w e in
     subst (WellMade s) (image-is s imageLength scratchLength w e)
     (made-from s (lower s) (lower-listed s a) (lower-fits s) (lower-typed s a) (lower-reached s a))
 

@@ -1,5 +1,5 @@
 -- The number in a form that stops at the first test that fails, so that wild sizes and counts are not gone through; equal to the number.
-use Prim.Native.Nat.{ℕ, zero, suc}
+use Prim.Native.Nat.{ℕ, zero, suc, _≤_}
 use mathlib.Core.Path.{_≡_, refl, sym, ap, _∙_}
 use mathlib.Core.Bool.{Bool, true, false, _&&_, true≢false}
 use mathlib.Core.List.{List, [], _∷_}
@@ -10,11 +10,16 @@ use lib.ListN.{length}
 use Rattle.quick.specs.Quick.{quickNumber}
 use Rattle.quick.specs.QuickLaws.{quick-is}
 use Rattle.lowering.specs.MakeSheet.{bytesOf}
-use Rattle.wellmade.specs.Limits.{notWellMade}
+use Rattle.refusals.specs.declared.Refusal.the-variants.{IllMade}
+use Rattle.refusals.specs.Refusal.{refusalNumber}
+use Rattle.refusals.proofs.RefusalLaws.{number-some}
+use Rattle.checks.specs.Checked.{numberOf, checked}
+use Rattle.checks.specs.declared.Verdict.{Verdict}
+use Rattle.checks.specs.declared.Verdict.the-variants.{Accepted, Refused}
 use Rattle.wellmade.specs.Test.{operandsRight, targetsRight, wellMade}
 use Rattle.image_fields.specs.Fields.{fieldsRight}
 use Rattle.image_check.specs.Sizes.{sizesAgree}
-use Rattle.image_check.specs.Answer.{numberAfter, imageNumber}
+use Rattle.image_check.specs.Answer.{judgedAfter, judged}
 use Rattle.image_check.proofs.MadeLaws.{depthsRight, made-is}
 use Rattle.made_rows.specs.Row.{Row, Right, AllRight}
 
@@ -50,16 +55,26 @@ lazily s w = by (sizesAgree w) (fieldsRight s w) (operandsRight w) (targetsRight
     by true true true true e = refl
 
 unfoldable pub numberBy : ℕ → List ℕ → List ℕ → ℕ
-numberBy zero s w = elim (made s w) [ true ↦ 0 | false ↦ notWellMade ]
+numberBy zero s w = elim (made s w) [ true ↦ 0 | false ↦ refusalNumber IllMade ]
 numberBy (suc n) s w = suc n
 
-number-by : (n : ℕ) (s w : List ℕ) → numberAfter n s w (length w) ≡ numberBy n s w
-unfolding numberAfter numberBy
-number-by zero s w =
+-- a refusal has its own number
+numbered : (n : ℕ) (s w : List ℕ) → 1 ≤ n → n ≡ numberBy n s w
+unfolding numberBy
+numbered zero s w h = absurd (omega arith)
+numbered (suc n) s w h = refl
+
+number-by : (v : Verdict) (s w : List ℕ) → numberOf (judgedAfter v s w (length w)) ≡ numberBy (numberOf v) s w
+unfolding judgedAfter numberBy
+number-by Accepted s w =
     let is = made-is s w ∙ lazily s w in
-    rw (le-ltb (length w) (length w) (omega arith), numberAfter)
-    (ap (λ (t : Bool). elim t [ true ↦ 0 | false ↦ notWellMade ]) is)
-number-by (suc n) s w = refl
+    rw (le-ltb (length w) (length w) (omega arith), judgedAfter)
+    (by (wellMade s w) (made s w) is)
+  where
+    by : (a b : Bool) → a ≡ b → numberOf (elim a [ true ↦ Accepted | false ↦ Refused IllMade ]) ≡ elim b [ true ↦ 0 | false ↦ refusalNumber IllMade ]
+    by true b e = rw (sym e)
+    by false b e = rw (sym e)
+number-by (Refused r) s w = numbered (refusalNumber r) s w (number-some r)
 
 -- all rows agree, computed
 abbrev rowAgrees : Row → Bool
@@ -70,11 +85,11 @@ agree [] = true
 agree (r ∷ rs) = elim (rowAgrees r) [ true ↦ agree rs | false ↦ false ]
 
 row-right : (r : Row) → rowAgrees r ≡ true → Right r
-unfolding imageNumber
+unfolding judged
 row-right r h =
     let s = bytesOf (r .sheet) in
-    ap (λ (n : ℕ). numberAfter n s (r .image) (length (r .image))) (sym (quick-is s))
-    ∙ number-by (quickNumber s) s (r .image)
+    number-by (checked s) s (r .image)
+    ∙ ap (λ (n : ℕ). numberBy n s (r .image)) (sym (quick-is s))
     ∙ eqb-true _ _ h
 
 pub agree-right : (rs : List Row) → agree rs ≡ true → AllRight rs

@@ -1,2 +1,2 @@
-pub mod Computed
+mod Computed
 pub mod RowsRight

@@ -4,7 +4,8 @@ use mathlib.Core.Path.{_≡_}
 use mathlib.Core.List.{List, [], _∷_}
 use lib.ListN.{length}
 use Rattle.lowering.specs.MakeSheet.{bytesOf}
-use Rattle.image_check.specs.Answer.{imageNumber}
+use Rattle.checks.specs.Checked.{numberOf}
+use Rattle.image_check.specs.Answer.{judged}
 
 pub record Row : Type 0 where
   -- the sheet's words
@@ -17,7 +18,7 @@ row n s w = record { sheet = s; image = w; number = n }
 
 -- with a scratch that just suffices, the check gives this number
 abbrev pub Right : Row → Type 0
-Right r = imageNumber (bytesOf (r .sheet)) (r .image) (length (r .image)) ≡ r .number
+Right r = numberOf (judged (bytesOf (r .sheet)) (r .image) (length (r .image))) ≡ r .number
 
 unfoldable pub AllRight : List Row → Type 0
 AllRight [] = Unit {0}

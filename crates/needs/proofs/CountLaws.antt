@@ -6,6 +6,12 @@ use mathlib.Core.List.{List}
 use native.Mathlib.Omega.{arith}
 use lib.Dec.{ltb}
 use borrow.Author.Tests.{lt-ltb, le-ltb, ltb-true, ltb-false, eq-eqb, ne-eqb}
+use Rattle.refusals.specs.declared.Refusal.{Refusal}
+use Rattle.refusals.specs.declared.Refusal.the-variants.{Eval, Emitted, ScratchShort}
+use Rattle.refusals.proofs.RefusalLaws.{number-some}
+use Rattle.checks.specs.Checked.{numberOf}
+use Rattle.checks.specs.declared.Verdict.{Verdict}
+use Rattle.checks.specs.declared.Verdict.the-variants.{Accepted, Refused}
 use Rattle.sheet.specs.Limits.{maxDepth}
 use Rattle.sheet.specs.Node.{kind}
 use Rattle.counting.specs.declared.tallies.Tally.{Tally}
@@ -20,33 +26,33 @@ use Rattle.needs.specs.Counts.{Counts, over, early}
 -- ---- whatever is lent
 
 -- the refusal is k: an `eval` is reached, too many instructions, or none of these
-pub data Over (d : Bool) (e : ℕ) : ℕ → Type 0 where
-  reached : d ≡ true → Over d e 9
-  above : d ≡ false → maxEmitted < e → Over d e 10
-  within : d ≡ false → e ≤ maxEmitted → Over d e 0
+pub data Over (d : Bool) (e : ℕ) : Verdict → Type 0 where
+  reached : d ≡ true → Over d e (Refused Eval)
+  above : d ≡ false → maxEmitted < e → Over d e (Refused Emitted)
+  within : d ≡ false → e ≤ maxEmitted → Over d e Accepted
 
 module _ {d : Bool} {e : ℕ} where
-  pub over-is : {k : ℕ} → Over d e k → k ≡ over d e
+  pub over-is : {k : Verdict} → Over d e k → k ≡ over d e
   unfolding over
   over-is (reached h) = rw (h, over)
   over-is (above h g) = rw (h, lt-ltb maxEmitted e g, over)
   over-is (within h g) = rw (h, le-ltb maxEmitted e g, over)
 
   -- a count that is cut off is still over the limit
-  over-capped : {k : ℕ} → Over d e k → Over d (min e cap) k
+  over-capped : {k : Verdict} → Over d e k → Over d (min e cap) k
   over-capped (reached h) = reached h
   over-capped (above h g) = above h (omega arith)
   over-capped (within h g) = within h (omega arith)
 
-  pub over-few : {k : ℕ} → Over d e k → k ≡ 0 → e ≤ maxEmitted
-  over-few (reached h) z = absurd (omega arith)
-  over-few (above h g) z = absurd (omega arith)
+  pub over-few : {k : Verdict} → Over d e k → k ≡ Accepted → e ≤ maxEmitted
+  over-few (reached h) z = let n = ap numberOf z in absurd (omega arith)
+  over-few (above h g) z = let n = ap numberOf z in absurd (omega arith)
   over-few (within h g) z = g
 
-pub over-told : (d : Bool) (e k : ℕ) → k ≡ over d e → Over d e k
+pub over-told : (d : Bool) (e : ℕ) (k : Verdict) → k ≡ over d e → Over d e k
 over-told d e k k-is = by d refl (ltb maxEmitted e) refl
   where
-    at : {j : ℕ} → Over d e j → Over d e k
+    at : {j : Verdict} → Over d e j → Over d e k
     at w = subst (Over d e) (over-is w ∙ sym k-is) w
 
     by : (a : Bool) → d ≡ a → (b : Bool) → ltb maxEmitted e ≡ b → Over d e k
@@ -57,14 +63,14 @@ over-told d e k k-is = by d refl (ltb maxEmitted e) refl
 -- ---- with m words of scratch and n nodes
 
 -- the refusal is k: an `eval` is reached, too many instructions, too little scratch, or none of these
-pub data Early (d : Bool) (e m n : ℕ) : ℕ → Type 0 where
-  eval : d ≡ true → Early d e m n 9
-  many : d ≡ false → maxEmitted < e → Early d e m n 10
-  short : d ≡ false → e ≤ maxEmitted → m < 16 * e + 16 * n + 4096 → Early d e m n 11
-  none : d ≡ false → e ≤ maxEmitted → 16 * e + 16 * n + 4096 ≤ m → Early d e m n 0
+pub data Early (d : Bool) (e m n : ℕ) : Verdict → Type 0 where
+  eval : d ≡ true → Early d e m n (Refused Eval)
+  many : d ≡ false → maxEmitted < e → Early d e m n (Refused Emitted)
+  short : d ≡ false → e ≤ maxEmitted → m < 16 * e + 16 * n + 4096 → Early d e m n (Refused ScratchShort)
+  none : d ≡ false → e ≤ maxEmitted → 16 * e + 16 * n + 4096 ≤ m → Early d e m n Accepted
 
 module _ {d : Bool} {e m n : ℕ} where
-  pub early-is : {k : ℕ} → Early d e m n k → k ≡ early d e m n
+  pub early-is : {k : Verdict} → Early d e m n k → k ≡ early d e m n
   unfolding early
   early-is (eval h) = rw (h, early)
   early-is (many h g) = rw (h, lt-ltb maxEmitted e g, early)
@@ -72,22 +78,22 @@ module _ {d : Bool} {e m n : ℕ} where
   early-is (none h g l) = rw (h, le-ltb maxEmitted e g, le-ltb m (16 * e + 16 * n + 4096) l, early)
 
   -- a count that is cut off is still over the limit
-  pub early-capped : {k : ℕ} → Early d e m n k → Early d (min e cap) m n k
+  pub early-capped : {k : Verdict} → Early d e m n k → Early d (min e cap) m n k
   early-capped (eval h) = eval h
   early-capped (many h g) = many h (omega arith)
   early-capped (short h g l) = short h (omega arith) (omega arith)
   early-capped (none h g l) = none h (omega arith) (omega arith)
 
-  pub few-emitted : {k : ℕ} → Early d e m n k → k ≡ 0 → e ≤ maxEmitted
-  few-emitted (eval h) z = absurd (omega arith)
-  few-emitted (many h g) z = absurd (omega arith)
+  pub few-emitted : {k : Verdict} → Early d e m n k → k ≡ Accepted → e ≤ maxEmitted
+  few-emitted (eval h) z = let n = ap numberOf z in absurd (omega arith)
+  few-emitted (many h g) z = let n = ap numberOf z in absurd (omega arith)
   few-emitted (short h g l) z = g
   few-emitted (none h g l) z = g
 
-pub early-told : (d : Bool) (e m n k : ℕ) → k ≡ early d e m n → Early d e m n k
+pub early-told : (d : Bool) (e m n : ℕ) (k : Verdict) → k ≡ early d e m n → Early d e m n k
 early-told d e m n k k-is = by d refl (ltb maxEmitted e) refl (ltb m (16 * e + 16 * n + 4096)) refl
   where
-    at : {j : ℕ} → Early d e m n j → Early d e m n k
+    at : {j : Verdict} → Early d e m n j → Early d e m n k
     at w = subst (Early d e m n) (early-is w ∙ sym k-is) w
 
     by : (a : Bool) → d ≡ a → (b : Bool) → ltb maxEmitted e ≡ b → (c : Bool) → ltb m (16 * e + 16 * n + 4096) ≡ c → Early d e m n k
@@ -99,33 +105,33 @@ early-told d e m n k k-is = by d refl (ltb maxEmitted e) refl (ltb m (16 * e + 1
 -- ---- in the shapes of the code: k by the counts, w words of scratch
 
 module _ {d : Bool} {e : ℕ} (m n : ℕ) where
-  pub early-over : {k : ℕ} → Over d e k → (k ≡ 0 → ⊥) → k ≡ early d e m n
-  early-over (reached h) some = early-is (eval h)
-  early-over (above h g) some = early-is (many h g)
-  early-over (within h g) some = absurd (some refl)
+  pub early-over : {k : Verdict} {r : Refusal} → Over d e k → k ≡ Refused r → Refused r ≡ early d e m n
+  early-over (reached h) q = sym q ∙ early-is (eval h)
+  early-over (above h g) q = sym q ∙ early-is (many h g)
+  early-over {r = r} (within h g) q = let n = ap numberOf q in absurd (omega (arith, number-some r))
 
   module _ {w : ℕ} (w-is : w ≡ 16 * e + 16 * n + 4096) where
-    pub early-short : {k : ℕ} → Over d e k → k ≡ 0 → m < w → 11 ≡ early d e m n
-    early-short (reached h) z l = absurd (omega arith)
-    early-short (above h g) z l = absurd (omega arith)
+    pub early-short : {k : Verdict} → Over d e k → k ≡ Accepted → m < w → Refused ScratchShort ≡ early d e m n
+    early-short (reached h) z l = let n = ap numberOf z in absurd (omega arith)
+    early-short (above h g) z l = let n = ap numberOf z in absurd (omega arith)
     early-short (within h g) z l = early-is (short h g (omega arith))
 
-    pub early-none : {k : ℕ} → Over d e k → k ≡ 0 → w ≤ m → 0 ≡ early d e m n
-    early-none (reached h) z l = absurd (omega arith)
-    early-none (above h g) z l = absurd (omega arith)
+    pub early-none : {k : Verdict} → Over d e k → k ≡ Accepted → w ≤ m → Accepted ≡ early d e m n
+    early-none (reached h) z l = let n = ap numberOf z in absurd (omega arith)
+    early-none (above h g) z l = let n = ap numberOf z in absurd (omega arith)
     early-none (within h g) z l = early-is (none h g (omega arith))
 
 -- ---- by the counts as the code has them, cut off
 
 module _ {s : List ℕ} {t : Tally} (C : Counts s t) where
-  pub decided : (m n k : ℕ) → k ≡ early (t .defeated) (t .emitted) m n → Early (total s .defeated) (total s .emitted) m n k
+  pub decided : (m n : ℕ) (k : Verdict) → k ≡ early (t .defeated) (t .emitted) m n → Early (total s .defeated) (total s .emitted) m n k
   unfolding capped takenBack
   decided m n k k-is =
       let way = early-told (total s .defeated) (total s .emitted) m n _ refl in
       let same = k-is ∙ ap (λ (u : Tally). early (u .defeated) (u .emitted) m n) (C .is) in
       subst (Early _ _ _ _) (early-is (early-capped way) ∙ sym same) way
 
-  pub decided-over : (k : ℕ) → k ≡ over (t .defeated) (t .emitted) → Over (total s .defeated) (total s .emitted) k
+  pub decided-over : (k : Verdict) → k ≡ over (t .defeated) (t .emitted) → Over (total s .defeated) (total s .emitted) k
   unfolding capped takenBack
   decided-over k k-is =
       let way = over-told (total s .defeated) (total s .emitted) _ refl in

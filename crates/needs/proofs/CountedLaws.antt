@@ -3,6 +3,8 @@ use Prim.Native.Nat.{ℕ}
 use mathlib.Core.Path.{_≡_, refl, subst}
 use mathlib.Core.Bool.{Bool, true, false}
 use mathlib.Core.List.{List, [], _∷_}
+use lib.Dec.{eqb}
+use Rattle.checks.specs.Checked.{numberOf}
 use Rattle.sheet.specs.Limits.{maxDepth}
 use Rattle.sheet.specs.Layout.{nodeCount}
 use Rattle.sheet.specs.Node.{kind}
@@ -40,11 +42,12 @@ module _ (s w : List ℕ) (r : Tally) where
     exact-switch m h = exact-decides s m (switch-counted s r h exact-total)
 
 -- with no Variable a local, and with all of them
-pub greater-switch : (s w v : List ℕ) (m : ℕ) (t u : Tally) {k l nodes : ℕ} → kind s 0 ≡ switchKind
+pub greater-switch : (s w v : List ℕ) (m : ℕ) (t u : Tally) {k : Bool} {nodes : ℕ} → kind s 0 ≡ switchKind
     → Counted s (tallyBy (answer (0 ∷ []) s) maxDepth s) w u → Counted s (tallyBy (answer (1 ∷ []) s) maxDepth s) v t
-    → nodes ≡ nodeCount s → k ≡ early (t .defeated) (t .emitted) m nodes → l ≡ early (u .defeated) (u .emitted) m nodes → k ≡ l
+    → nodes ≡ nodeCount s
+    → k ≡ eqb (numberOf (early (t .defeated) (t .emitted) m nodes)) (numberOf (early (u .defeated) (u .emitted) m nodes)) → k ≡ true
     → Decides s m u
-greater-switch s w v m t u h high low n-is k-is l-is same =
+greater-switch s w v m t u h high low n-is k-is same =
     let between = switch-between s h in
     greater-decides s m _ _ t u (between .0) (between .1) (by-locals s v t (all-locals s) low .total)
-    (by-locals s w u (no-locals s) high .total) n-is k-is l-is same
+    (by-locals s w u (no-locals s) high .total) n-is k-is same

@@ -4,7 +4,10 @@ use mathlib.Core.Path.{_≡_, refl, sym, ap, _∙_}
 use mathlib.Core.Bool.{Bool, true, false}
 use mathlib.Core.List.{List}
 use native.Mathlib.Omega.{arith}
-use borrow.Author.Tests.{ne-eqb}
+use lib.Dec.{eqb}
+use borrow.Author.Tests.{ne-eqb, eqb-true}
+use Rattle.checks.specs.Checked.{numberOf}
+use Rattle.checks.specs.declared.Verdict.{Verdict}
 use Rattle.sheet.specs.Limits.{maxDepth}
 use Rattle.sheet.specs.Layout.{nodeCount}
 use Rattle.sheet.specs.Node.{kind}
@@ -26,7 +29,8 @@ early-cut : (d : Bool) (e m n : ℕ) → early d e m n ≡ early d (min e cap) m
 early-cut d e m n = early-is (early-capped (early-told d e m n _ refl))
 
 -- so does a count between two that do
-early-between : {d : Bool} {e f g m n k l : ℕ} → e ≤ f → f ≤ g → Early d e m n k → Early d g m n l → k ≡ l → Early d f m n l
+early-between : {d : Bool} {e f g m n : ℕ} {k l : Verdict} → e ≤ f → f ≤ g → Early d e m n k → Early d g m n l → numberOf k ≡ numberOf l
+    → Early d f m n l
 early-between p q (eval h) (eval i) z = eval h
 early-between p q (eval h) (many i j) z = absurd (omega arith)
 early-between p q (eval h) (short i j o) z = absurd (omega arith)
@@ -55,11 +59,12 @@ module _ (s : List ℕ) (m : ℕ) where
   }
 
   -- the greater of two between which they lie, where both are refused alike
-  pub greater-decides : (a b t u : Tally) {k l nodes : ℕ} → Less a (total s) → Less (total s) b → takenBack t ≡ capped (takenBack a)
-      → takenBack u ≡ capped (takenBack b) → nodes ≡ nodeCount s → k ≡ early (t .defeated) (t .emitted) m nodes
-      → l ≡ early (u .defeated) (u .emitted) m nodes → k ≡ l → Decides s m u
+  pub greater-decides : (a b t u : Tally) {k : Bool} {nodes : ℕ} → Less a (total s) → Less (total s) b → takenBack t ≡ capped (takenBack a)
+      → takenBack u ≡ capped (takenBack b) → nodes ≡ nodeCount s
+      → k ≡ eqb (numberOf (early (t .defeated) (t .emitted) m nodes)) (numberOf (early (u .defeated) (u .emitted) m nodes)) → k ≡ true
+      → Decides s m u
   unfolding capped takenBack
-  greater-decides a b t u {nodes = nodes} low high t-is u-is n-is k-is l-is same =
+  greater-decides a b t u {nodes = nodes} low high t-is u-is n-is k-is same =
       let d = total s .defeated in
       let e = total s .emitted in
       let n = nodeCount s in
@@ -73,7 +78,11 @@ module _ (s : List ℕ) (m : ℕ) where
       ap (λ (v : Tally). early (v .defeated) (v .emitted) m n) u-is ∙ ap (λ c. early c y m n) (sym (high .defeated)) in
       let g = low .emitted in
       let h = high .emitted in
-      let alike = sym down ∙ sym k-is ∙ same ∙ l-is ∙ ap (early (u .defeated) (u .emitted) m) n-is ∙ up in
+      let x-is = early (t .defeated) (t .emitted) m nodes in
+      let y-is = early (u .defeated) (u .emitted) m nodes in
+      let equal = eqb-true (numberOf x-is) (numberOf y-is) (sym k-is ∙ same) in
+      let alike =
+      ap numberOf (sym down) ∙ equal ∙ ap numberOf (ap (early (u .defeated) (u .emitted) m) n-is ∙ up) in
       let way =
       early-between {e = x} {f = min e cap} {g = y} (omega arith) (omega arith) (early-told d x m n _ refl) (early-told d y m n _ refl)
       alike in

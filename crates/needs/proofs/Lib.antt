@@ -1,6 +1,6 @@
 -- Laws of the refusals by counts, of a sheet's counts, and of what a need means.
 pub mod CountLaws
 pub mod NeedLaws
-pub mod BoundLaws
-pub mod DecideLaws
-pub mod CountedLaws
+mod BoundLaws
+mod DecideLaws
+mod CountedLaws

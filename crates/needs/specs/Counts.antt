@@ -6,7 +6,9 @@ use mathlib.Core.List.{List}
 use lib.Dec.{ltb}
 use Rattle.sheet.specs.Layout.{nodeCount}
 use Rattle.lowering.specs.Limits.{maxEmitted, scratchPerEmitted, scratchPerNode, scratchBesides}
-use Rattle.lowering.specs.Limits.{evalReached, tooManyEmitted, scratchTooShort}
+use Rattle.refusals.specs.declared.Refusal.the-variants.{Eval, Emitted, ScratchShort}
+use Rattle.checks.specs.declared.Verdict.{Verdict}
+use Rattle.checks.specs.declared.Verdict.the-variants.{Accepted, Refused}
 use Rattle.counting.specs.declared.tallies.Tally.{Tally}
 use Rattle.counting.specs.Limits.{cap}
 use Rattle.counting.specs.Tally.{takenBack, capped}
@@ -18,18 +20,18 @@ pub record Counts (s : List ℕ) (t : Tally) : Type 0 where
   pub is : takenBack t ≡ capped (takenBack (total s))
 
 -- the refusal whatever is lent: d that an `eval` is reached, e instructions
-unfoldable pub over : Bool → ℕ → ℕ
-over d e = elim d [ true ↦ evalReached | false ↦ elim (ltb maxEmitted e) [ true ↦ tooManyEmitted | false ↦ 0 ] ]
+unfoldable pub over : Bool → ℕ → Verdict
+over d e = elim d [ true ↦ Refused Eval | false ↦ elim (ltb maxEmitted e) [ true ↦ Refused Emitted | false ↦ Accepted ] ]
 
 -- the refusal by counts: m words of scratch, n nodes besides
-unfoldable pub early : Bool → ℕ → ℕ → ℕ → ℕ
+unfoldable pub early : Bool → ℕ → ℕ → ℕ → Verdict
 early d e m n =
     elim d [
-      | true ↦ evalReached
+      | true ↦ Refused Eval
       | false ↦
           elim (ltb maxEmitted e) [
-            | true ↦ tooManyEmitted
-            | false ↦ elim (ltb m (scratchPerEmitted * e + scratchPerNode * n + scratchBesides)) [ true ↦ scratchTooShort | false ↦ 0 ]
+            | true ↦ Refused Emitted
+            | false ↦ elim (ltb m (scratchPerEmitted * e + scratchPerNode * n + scratchBesides)) [ true ↦ Refused ScratchShort | false ↦ Accepted ]
           ]
     ]
 

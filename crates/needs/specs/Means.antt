@@ -1,7 +1,11 @@
 -- What a need means for every lowering of its sheet: with an image of i words and a scratch of m.
 use Prim.Native.Nat.{ℕ, _+_, _*_, _≤_, _<_}
 use mathlib.Core.Path.{_≡_}
+use mathlib.Core.Bool.{true}
 use mathlib.Core.List.{List}
+use Rattle.refusals.specs.declared.Refusal.{Refusal}
+use Rattle.refusals.specs.declared.Refusal.the-variants.{ScratchShort, ImageLong}
+use Rattle.refusals.specs.Refusal.{ofSheet}
 use Rattle.sheet.specs.Limits.{maxNodes}
 use Rattle.lowering.specs.Limits.{maxEmitted, scratchPerEmitted, scratchPerNode, scratchBesides}
 use Rattle.lowering.specs.Outcome.{refused, outcome}
@@ -12,8 +16,8 @@ use Rattle.needs.specs.declared.Need.the-variants.{Scratch, Refused}
 abbrev pub scratchMost : ℕ
 scratchMost = scratchPerEmitted * maxEmitted + scratchPerNode * maxNodes + scratchBesides
 
--- a refusal among 1 to 10 meets every lowering; with w words of scratch, 11 is the outcome where fewer are lent, and else no refusal but 12
+-- a refusal of the sheet's own meets every lowering; with w words of scratch, 11 is the outcome where fewer are lent, and else no refusal but 12
 pub data Means (s : List ℕ) : Need → Type 0 where
-  refuses : {k : ℕ} → 1 ≤ k → k ≤ 10 → ((i m : ℕ) → outcome s i m ≡ refused k) → Means s (Refused k)
-  asks : {w : ℕ} → w ≤ scratchMost → ((i m : ℕ) → m < w → outcome s i m ≡ refused 11)
-      → ((i m k : ℕ) → w ≤ m → outcome s i m ≡ refused k → k ≡ 12) → Means s (Scratch w)
+  refuses : {r : Refusal} → ofSheet r ≡ true → ((i m : ℕ) → outcome s i m ≡ refused r) → Means s (Refused r)
+  asks : {w : ℕ} → w ≤ scratchMost → ((i m : ℕ) → m < w → outcome s i m ≡ refused ScratchShort)
+      → ((i m : ℕ) (r : Refusal) → w ≤ m → outcome s i m ≡ refused r → r ≡ ImageLong) → Means s (Scratch w)

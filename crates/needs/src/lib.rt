@@ -1,6 +1,7 @@
 // What a sheet needs before buffers are lent: its counts, the refusals by counts, and the words of scratch that its lowering asks for.
 ghost use Prim.Native.Nat.{_+_, _*_, _≤_};
 ghost use mathlib.Core.Path.{_≡_};
+ghost use lib.Dec.{eqb};
 ghost use lib.ListN.{length};
 ghost use Rattle.checks.specs.Checked as Checked;
 ghost use Rattle.sheet.specs.Limits.{maxDepth};
@@ -14,6 +15,7 @@ ghost use Rattle.tables.specs.Columns as columns;
 ghost use Rattle.plan.specs.Counted.{Counted};
 ghost use Rattle.needs.specs.Counts.{Counts, Decides, Exact, over, early};
 ghost use Rattle.needs.specs.Needed.{needed};
+use checks::Verdict;
 use checks::check;
 use checks::number;
 use counting::exact;
@@ -21,11 +23,9 @@ use counting::greatest;
 use counting::least;
 use counting::tallies::MAX_EMITTED;
 use counting::tallies::Tally;
-use lowering::EVAL_REACHED;
-use lowering::SCRATCH_TOO_SHORT;
-use lowering::TOO_MANY_EMITTED;
 use plan::count;
 use plan::read;
+use refusals::Refusal;
 use sheet::kind;
 use sheet::limits::MAX_DEPTH;
 use sheet::local_count;
@@ -35,7 +35,7 @@ use tables::SIZE;
 // What a sheet needs: so many words of scratch; or it is refused, whatever is lent.
 pub enum Need {
     Scratch { words: u64 },
-    Refused { number: u32 },
+    Refused { by: Refusal },
 }
 
 // The kind of a Switch.
@@ -52,37 +52,47 @@ pub const BESIDES: u64 = 4096;
 const FEW_LOCALS: u32 = 64;
 
 // The words of scratch that number 11 asks for.
-pub fn scratch_words(emitted: u32, nodes: u32) -> u64
+fn scratch_words(emitted: u32, nodes: u32) -> u64
     ensures { λ r. ⌜ r ≡ scratchPerEmitted * emitted + scratchPerNode * nodes + scratchBesides ⌝ }
 {
     PER_EMITTED * (emitted as u64) + PER_NODE * (nodes as u64) + BESIDES
 }
 
-// Refusal 9 or 10 by counts alone, or 0.
-fn over_limits(t: Tally) -> u32
+// Refusal 9 or 10 by counts alone.
+fn over_limits(t: Tally) -> Verdict
     ensures { λ r. ⌜ r ≡ over (t .defeated) (t .emitted) ⌝ }
 {
     if t.defeated {
-        return EVAL_REACHED;
+        return Verdict::Refused(Refusal::Eval);
     }
     if MAX_EMITTED < t.emitted {
-        return TOO_MANY_EMITTED;
+        return Verdict::Refused(Refusal::Emitted);
     }
-    0
+    Verdict::Accepted
 }
 
-// Refusal 9, 10 or 11 by counts alone, or 0.
-pub fn refusal(t: Tally, scratch: usize, nodes: u32) -> u32
+// Refusal 9, 10 or 11 by counts alone.
+pub fn refusal(t: Tally, scratch: usize, nodes: u32) -> Verdict
     ensures { λ r. ⌜ r ≡ early (t .defeated) (t .emitted) scratch nodes ⌝ }
 {
     let k = over_limits(t);
-    if k != 0 {
-        return k;
+    match k {
+        Verdict::Refused(by) => Verdict::Refused(by),
+        Verdict::Accepted => {
+            if (scratch as u64) < scratch_words(t.emitted as u32, nodes) {
+                return Verdict::Refused(Refusal::ScratchShort);
+            }
+            Verdict::Accepted
+        }
     }
-    if (scratch as u64) < scratch_words(t.emitted as u32, nodes) {
-        return SCRATCH_TOO_SHORT;
-    }
-    0
+}
+
+// Both counts are refused alike, or neither is refused.
+fn alike(a: Tally, b: Tally, scratch: usize, nodes: u32) -> bool
+    ensures { λ r. ⌜ r ≡ eqb (Checked.numberOf (early (a .defeated) (a .emitted) scratch nodes))
+        (Checked.numberOf (early (b .defeated) (b .emitted) scratch nodes)) ⌝ }
+{
+    number(refusal(a, scratch, nodes)) == number(refusal(b, scratch, nodes))
 }
 
 // The counts of an accepted expression.
@@ -93,20 +103,22 @@ fn count_plain(s: &[u8]) -> Tally
 }
 
 // An accepted Switch read into the flat table and counted, with the locals that are told.
-fn planned(s: &[u8], told: &[u32], w: &mut [u32]) -> Tally
+fn planned(s: &[u8], told: &[u32], w: &mut [u32; SIZE]) -> Tally
     ensures { λ r. let sheet = now (s .entry) in let t = tallyBy (answer (now (told .entry)) sheet) maxDepth sheet in ⌜
         (length (now (w .entry)) ≡ columns.size → Checked.numberOf (Checked.checked sheet) ≡ 0 → nodes.kind sheet 0 ≡ switchKind
         → Counted sheet t (now (w .exit)) r) ⌝ }
+    ensures { λ _. ⌜ length (now (w .exit)) ≡ length (now (w .entry)) ⌝ }
 {
-    read(s, told, w);
-    count(s, told, w)
+    read(s, told, &mut w[..]);
+    count(s, told, &mut w[..])
 }
 
 // The counts of an accepted Switch, read into the flat table.
-fn count_switch(s: &[u8], w: &mut [u32]) -> Tally
+fn count_switch(s: &[u8], w: &mut [u32; SIZE]) -> Tally
     ensures { λ r. let sheet = now (s .entry) in ⌜ (length (now (w .entry)) ≡ columns.size
         → Checked.numberOf (Checked.checked sheet) ≡ 0 → nodes.kind sheet 0 ≡ switchKind
         → Counted sheet (tally maxDepth sheet) (now (w .exit)) r) ⌝ }
+    ensures { λ _. ⌜ length (now (w .exit)) ≡ length (now (w .entry)) ⌝ }
 {
     let none = [0u32; 0];
     planned(s, &none[..], w)
@@ -118,26 +130,33 @@ fn counts(s: &[u8]) -> Tally
 {
     if kind(s, 0) == SWITCH {
         let mut w = [0u32; SIZE];
-        return count_switch(s, &mut w[..]);
+        return count_switch(s, &mut w);
     }
     count_plain(s)
+}
+
+// What an accepted sheet needs.
+fn need_of(s: &[u8]) -> Need
+    ensures { λ r. let sheet = now (s .entry) in ⌜ (Checked.numberOf (Checked.checked sheet) ≡ 0 → r ≡ needed sheet) ⌝ }
+{
+    let t = counts(s);
+    let k = over_limits(t);
+    match k {
+        Verdict::Refused(by) => Need::Refused { by },
+        Verdict::Accepted => Need::Scratch {
+            words: scratch_words(t.emitted as u32, node_count(s)),
+        },
+    }
 }
 
 // What a sheet needs. Whatever the sheet is, the answer is the definition's.
 pub fn needs(sheet: &[u8]) -> Need
     ensures { λ r. ⌜ r ≡ needed (now (sheet .entry)) ⌝ }
 {
-    let v = number(check(sheet));
-    if v != 0 {
-        return Need::Refused { number: v };
-    }
-    let t = counts(sheet);
-    let k = over_limits(t);
-    if k != 0 {
-        return Need::Refused { number: k };
-    }
-    Need::Scratch {
-        words: scratch_words(t.emitted as u32, node_count(sheet)),
+    let v = check(sheet);
+    match v {
+        Verdict::Refused(by) => Need::Refused { by },
+        Verdict::Accepted => need_of(sheet),
     }
 }
 
@@ -151,17 +170,18 @@ pub fn plain_counts(s: &[u8], scratch: usize) -> Tally
     }
     let n = node_count(s);
     let most = greatest(MAX_DEPTH, s, 0);
-    if refusal(least(MAX_DEPTH, s, 0), scratch, n) == refusal(most, scratch, n) {
+    if alike(least(MAX_DEPTH, s, 0), most, scratch, n) {
         return most;
     }
     count_plain(s)
 }
 
 // The counts by which a Switch is refused or built, as plain_counts has them. Beside few locals its table is counted by them.
-pub fn switch_counts(s: &[u8], scratch: usize, w: &mut [u32]) -> Tally
+pub fn switch_counts(s: &[u8], scratch: usize, w: &mut [u32; SIZE]) -> Tally
     ensures { λ r. let sheet = now (s .entry) in ⌜
         (length (now (w .entry)) ≡ columns.size → Checked.numberOf (Checked.checked sheet) ≡ 0 → nodes.kind sheet 0 ≡ switchKind
         → Decides sheet scratch r × (localCount sheet ≤ 64 → Exact sheet (now (w .exit)))) ⌝ }
+    ensures { λ _. ⌜ length (now (w .exit)) ≡ length (now (w .entry)) ⌝ }
 {
     if local_count(s) <= FEW_LOCALS {
         return count_switch(s, w);
@@ -171,17 +191,18 @@ pub fn switch_counts(s: &[u8], scratch: usize, w: &mut [u32]) -> Tally
     let high = planned(s, &none[..], w);
     let all = [1u32; 1];
     let low = planned(s, &all[..], w);
-    if refusal(low, scratch, n) == refusal(high, scratch, n) {
+    if alike(low, high, scratch, n) {
         return high;
     }
     count_switch(s, w)
 }
 
 // The table of a Switch that is not refused, counted by its own locals.
-pub fn settle(s: &[u8], w: &mut [u32])
+pub fn settle(s: &[u8], w: &mut [u32; SIZE])
     ensures { λ _. let sheet = now (s .entry) in ⌜
         (length (now (w .entry)) ≡ columns.size → Checked.numberOf (Checked.checked sheet) ≡ 0 → nodes.kind sheet 0 ≡ switchKind
         → (localCount sheet ≤ 64 → Exact sheet (now (w .entry))) → Exact sheet (now (w .exit))) ⌝ }
+    ensures { λ _. ⌜ length (now (w .exit)) ≡ length (now (w .entry)) ⌝ }
 {
     if local_count(s) <= FEW_LOCALS {
         return;

@@ -43,7 +43,7 @@ use tables::RUN_PLACE;
 use tables::WANTED;
 
 // A chain: what it adds, and where its list goes (CASE_EXIT).
-pub struct Chain {
+struct Chain {
     pub sum: Tally,
     pub exit: u32,
 }

@@ -20,9 +20,9 @@ ghost use Rattle.plan.specs.Counted.{Counted};
 ghost use Rattle.plan.specs.Finished.{defaultIn, endBy, fallBy, lastOnes, Finished};
 ghost use Rattle.plan.specs.Idle.{Exits, idlesFrom, Second};
 
-pub mod bodies;
-pub mod chained;
-pub mod guards;
+mod bodies;
+mod chained;
+mod guards;
 
 use bodies::bodies;
 use chained::case_chains;

@@ -20,7 +20,8 @@ use Rattle.shape.specs.Shape.{ownRule}
 use Rattle.numbers.specs.Numbers.{namesText, exist}
 use Rattle.support.specs.Support.{refusedKind}
 use Rattle.checks.specs.declared.Verdict.{Verdict}
-use Rattle.checks.specs.declared.Verdict.the-variants.{Accepted, Size, Node, Text, Number, Depth, Entries, Repeated, Unsupported}
+use Rattle.checks.specs.declared.Verdict.the-variants.{Accepted, Refused}
+use Rattle.refusals.specs.declared.Refusal.the-variants.{Size, Shape, Text, Number, Depth, Arms, Twice, Unsupported}
 use Rattle.checks.specs.Checked.{numberOf}
 use Rattle.quick.specs.Parts.{wordsOf, parts, among}
 
@@ -184,27 +185,27 @@ supportedOk g w s = allBelow (w 0) (supported g w s)
 unfoldable pub checkedBy : Fields → Fields → Words → List ℕ → Verdict
 checkedBy bs g w s =
     elim (sizesOk s) [
-      | false ↦ Size
+      | false ↦ Refused Size
       | true ↦
           elim (shapeOk bs g (w 0)) [
-            | false ↦ Node
+            | false ↦ Refused Shape
             | true ↦
                 elim (textsOk w s) [
-                  | false ↦ Text
+                  | false ↦ Refused Text
                   | true ↦
                       elim (numbersOk g w) [
-                        | false ↦ Number
+                        | false ↦ Refused Number
                         | true ↦
                             elim (within maxDepth g 0) [
-                              | false ↦ Depth
+                              | false ↦ Refused Depth
                               | true ↦
                                   elim (entriesOk g) [
-                                    | false ↦ Entries
+                                    | false ↦ Refused Arms
                                     | true ↦
                                         elim (casesOk g w s) [
-                                          | false ↦ Repeated
+                                          | false ↦ Refused Twice
                                           | true ↦
-                                              elim (supportedOk g w s) [ false ↦ Unsupported | true ↦ Accepted ]
+                                              elim (supportedOk g w s) [ false ↦ Refused Unsupported | true ↦ Accepted ]
                                         ]
                                   ]
                             ]
@@ -213,11 +214,16 @@ checkedBy bs g w s =
           ]
     ]
 
--- The number of the check's answer. Whoever says `unfolding quickNumber` has all that is computed unfolded.
-unfoldable pub quickNumber : List ℕ → ℕ
+-- The check's answer. Whoever says `unfolding quickChecked` has all that is computed unfolded.
+unfoldable pub quickChecked : List ℕ → Verdict
 unfolding wordsOf parts word allBelow same isCurry rowIn rowOf utf8Rest utf8 child limitsOk lengthOk padOk paddingOk sizesOk scalar expression caseValue switchChild caseChild childKind ownRule namesText exist refusedKind siblings skip withinBounds tiles nodeOk shapeOk text textOk textsOk numberOk localOk numbersOk within firstCase refsOk countsOk entriesOk sameValue apart distinct casesOk supported supportedOk checkedBy
-quickNumber s =
+quickChecked s =
     let ws = wordsOf s in
     let nodes = parts nodeWords ws (drop headerWords ws) in
     let rows = parts 5 bounds bounds in
-    numberOf (checkedBy (among rows) (among nodes) (λ i. getD ws i 0) s)
+    checkedBy (among rows) (among nodes) (λ i. getD ws i 0) s
+
+-- and its number
+unfoldable pub quickNumber : List ℕ → ℕ
+unfolding quickChecked
+quickNumber s = numberOf (quickChecked s)

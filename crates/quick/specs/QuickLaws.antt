@@ -25,7 +25,8 @@ use Rattle.switches.specs.Switch as Switch
 use Rattle.support.specs.Support as Support
 use Rattle.checks.specs.Checked.{numberOf, treeChecked, checked}
 use Rattle.checks.specs.declared.Verdict.{Verdict}
-use Rattle.checks.specs.declared.Verdict.the-variants.{Accepted, Size, Node, Text, Number, Depth, Entries, Repeated, Unsupported}
+use Rattle.checks.specs.declared.Verdict.the-variants.{Accepted, Refused}
+use Rattle.refusals.specs.declared.Refusal.the-variants.{Size, Shape, Text, Number, Depth, Arms, Twice, Unsupported}
 use Rattle.quick.specs.Parts.{wordsOf, parts, among}
 use Rattle.quick.specs.PartsLaws.{words-are, among-is}
 use Rattle.quick.specs.Quick
@@ -142,27 +143,27 @@ module _ (s : List ℕ) where
   unfolding Quick.checkedBy checked treeChecked
   checked-is =
       λ i. elim (sizesOk s) [
-        | false ↦ Size
+        | false ↦ Refused Size
         | true ↦
             elim (shape-is i) [
-              | false ↦ Node
+              | false ↦ Refused Shape
               | true ↦
                   elim (texts-is i) [
-                    | false ↦ Text
+                    | false ↦ Refused Text
                     | true ↦
                         elim (numbers-is i) [
-                          | false ↦ Number
+                          | false ↦ Refused Number
                           | true ↦
                               elim (depth-is i) [
-                                | false ↦ Depth
+                                | false ↦ Refused Depth
                                 | true ↦
                                     elim (entries-is i) [
-                                      | false ↦ Entries
+                                      | false ↦ Refused Arms
                                       | true ↦
                                           elim (cases-is i) [
-                                            | false ↦ Repeated
+                                            | false ↦ Refused Twice
                                             | true ↦
-                                                elim (supported-is i) [ false ↦ Unsupported | true ↦ Accepted ]
+                                                elim (supported-is i) [ false ↦ Refused Unsupported | true ↦ Accepted ]
                                           ]
                                     ]
                               ]
@@ -186,8 +187,11 @@ bounds-are : (k f : ℕ) → among (parts 5 Kinds.bounds Kinds.bounds) k f ≡ K
 unfolding Kinds.bound
 bounds-are k f = among-is 5 (omega arith) Kinds.bounds Kinds.bounds (le-refl (length Kinds.bounds)) k f
 
+pub quick-checked : (s : List ℕ) → Quick.quickChecked s ≡ checked s
+unfolding Quick.quickChecked
+quick-checked s =
+    (λ i. Quick.checkedBy (λ k f. bounds-are k f i) (λ n f. fields-are s n f i) (λ n. words-are s n i) s) ∙ checked-is s
+
 pub quick-is : (s : List ℕ) → Quick.quickNumber s ≡ numberOf (checked s)
 unfolding Quick.quickNumber
-quick-is s =
-    (λ i. numberOf (Quick.checkedBy (λ k f. bounds-are k f i) (λ n f. fields-are s n f i) (λ n. words-are s n i) s))
-    ∙ ap numberOf (checked-is s)
+quick-is s = ap numberOf (quick-checked s)

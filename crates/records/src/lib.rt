@@ -1,5 +1,5 @@
 // What the programs that replay answers of the oracle share: reading a record, noise in lent buffers, and a line of the result.
-ghost use Prim.Native.Nat.{_≤_};
+ghost use Prim.Native.Nat.{_-_, _≤_};
 ghost use lib.ListN.{length, getD};
 ghost use lib.Dec.{eqb};
 ghost use mathlib.Core.Path.{_≡_};
@@ -61,12 +61,17 @@ pub fn left_as(buf: &[u32], zeroed: bool) -> bool
     true
 }
 
-// Prints how many records were the same, and how many of `most` were not.
-pub fn print_result(same: u64, most: u64)
-    requires { ⌜ same ≤ most ⌝ }
+// `most` less `same`, at least 0.
+fn rest(most: u64, same: u64) -> u64
+    ensures { λ r. ⌜ r ≡ most - same ⌝ }
 {
+    if same < most { most - same } else { 0 }
+}
+
+// Prints how many records were the same, and how many of `most` were not.
+pub fn print_result(same: u64, most: u64) {
     print(b"same ", same);
-    print(b"different ", most - same);
+    print(b"different ", rest(most, same));
 }
 
 fn print(label: &[u8], count: u64) {

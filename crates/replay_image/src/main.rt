@@ -9,7 +9,7 @@ use records::fill;
 use records::left_as;
 use records::print_result;
 use records::put_noise;
-use wellmade::NOT_WELL_MADE;
+use refusals::ILL_MADE;
 
 // Room for the image or the scratch of a record.
 fn room() -> [u32; 8192]
@@ -30,8 +30,8 @@ fn put_words(image: &mut [u32], bytes: &[u8]) {
 // The check of `image` beside `sheet` answers and leaves what it must.
 fn checks_as(sheet: &[u8], image: &[u32], scratch: &mut [u32], number: u32) -> bool {
     put_noise(scratch);
-    let answer = check_image(sheet, image, scratch) == number;
-    let rest = left_as(&scratch[..], (number == 0) | (number == NOT_WELL_MADE));
+    let answer = checks::number(check_image(sheet, image, scratch)) == number;
+    let rest = left_as(&scratch[..], (number == 0) | (number == ILL_MADE));
     answer & rest
 }
 

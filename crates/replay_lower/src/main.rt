@@ -8,8 +8,6 @@ ghost use lib.Dec.{eqb};
 ghost use mathlib.Core.Path.{_≡_};
 ghost use Rattle.words.specs.Count.{allBelow};
 ghost use Rattle.replay_lower.specs.Left as left;
-use lowering::IMAGE_TOO_LONG;
-use lowering::SCRATCH_TOO_SHORT;
 use needs::Need;
 use needs::needs;
 use records::fill;
@@ -17,6 +15,9 @@ use records::left_as;
 use records::noise;
 use records::print_result;
 use records::put_noise;
+use refusals::IMAGE_LONG;
+use refusals::SCRATCH_SHORT;
+use refusals::refusal_number;
 use to_image::Answer;
 use to_image::lower;
 
@@ -31,10 +32,7 @@ fn room() -> [u32; 20480]
 fn answered(a: Answer, number: u32, count: usize) -> bool
     ensures { λ r. ⌜ r ≡ left.answered a number count ⌝ }
 {
-    match a {
-        Answer::Lowered { words } => (number == 0) & (words == count),
-        Answer::Refused { number: n } => (n == number) & (count == 0),
-    }
+    (to_image::number(a) == number) & (to_image::words(a) == count)
 }
 
 // With `room` words of scratch the need of the sheet foretells this number.
@@ -43,10 +41,10 @@ fn foretold(n: Need, room: usize, number: u32) -> bool
 {
     match n {
         Need::Scratch { words } => {
-            (((room as u64) < words) & (number == SCRATCH_TOO_SHORT))
-                | ((words <= (room as u64)) & ((number == 0) | (number == IMAGE_TOO_LONG)))
+            (((room as u64) < words) & (number == SCRATCH_SHORT))
+                | ((words <= (room as u64)) & ((number == 0) | (number == IMAGE_LONG)))
         }
-        Need::Refused { number: k } => k == number,
+        Need::Refused { by } => refusal_number(by) == number,
     }
 }
 
@@ -88,7 +86,7 @@ fn lowers(
     put_noise(scratch);
     let answer = answered(lower(sheet, image, scratch), number, count);
     let words = image_same(&image[..], wanted, count);
-    let rest = left_as(&scratch[..], (number == 0) | (number == IMAGE_TOO_LONG));
+    let rest = left_as(&scratch[..], (number == 0) | (number == IMAGE_LONG));
     let need = foretold(needs(sheet), scratch.len(), number);
     answer & words & rest & need
 }

@@ -1,3 +1,3 @@
-pub mod KeywordLaws
+mod KeywordLaws
 mod ReadLaws
 pub mod ReceiverLaws

@@ -66,7 +66,7 @@ fn first_of(s: &[u8], v: u32) -> First
 }
 
 // The receiver of call `j`. A call with an operator, with capture or with no argument has none.
-pub fn receiver(s: &[u8], j: u32) -> First
+fn receiver(s: &[u8], j: u32) -> First
     ensures { λ r. ⌜ r ≡ answers.firstOf (calls.receiver (now (s .entry)) j) ⌝ }
 {
     let c = field_c(s, j);

@@ -35,7 +35,7 @@ pub struct Read {
 }
 
 // A chain node.
-pub fn is_chain(k: u32) -> bool
+fn is_chain(k: u32) -> bool
     ensures { λ r. ⌜ r ≡ chains.isChain k ⌝ }
 {
     (k == DOT) | (k == INDEX)

@@ -5,11 +5,11 @@ pub const THIS: u32 = 10;
 
 pub const PROPERTY: u32 = 11;
 
-pub const METHOD_CALL: u32 = 12;
+pub(crate) const METHOD_CALL: u32 = 12;
 
 pub const DOT: u32 = 14;
 
-pub const INDEX: u32 = 15;
+pub(crate) const INDEX: u32 = 15;
 
 // How a node is lowered. A kind without a rule stays a residual.
 pub enum Rule {

@@ -5,7 +5,7 @@ ghost use Rattle.rules.specs.Answers as answers;
 
 pub mod calls;
 pub mod chains;
-pub mod keywords;
+mod keywords;
 pub mod kinds;
 
 use kinds::Rule;

@@ -5,7 +5,8 @@ use mathlib.Core.Path.{_≡_}
 use native.Mathlib.Omega.{arith}
 use Rattle.scratch.specs.declared.Layout.{Layout}
 use Rattle.scratch.specs.declared.Index.{Index}
-use Rattle.scratch.specs.Places.{Small, constsAt, tokensAt, chainsAt, namesAt, linksAt, memosAt, memosFrom, headsAt, indexEnd}
+use Rattle.scratch.specs.Places.{Small, constsAt, tokensAt, chainsAt, namesAt, linksAt, memosAt, memosFrom, sumsFrom}
+use Rattle.scratch.specs.Places.{headsAt, indexEnd}
 use Rattle.scratch.specs.Places.{nameHeads, constHeads, tokenHeads, constHeadsAt, tokenHeadsAt, chainHeadsAt}
 use Rattle.scratch.specs.Places.{indexAt, nameIndex, constIndex, tokenIndex, chainIndex}
 
@@ -41,6 +42,11 @@ pub record Lies (ix : Index) (heads count at links : ℕ) : Type 0 where
   pub at-is : ix .at ≡ at
   pub links-is : ix .links ≡ links
 
+-- the kept folds lie behind the memos and before the heads
+pub record SumsLie (l : Layout) : Type 0 where
+  pub behind : memosAt l + 1024 ≤ sumsFrom l
+  pub before : sumsFrom l + 1024 ≤ headsAt l
+
 index-lies :
     (heads count at links : ℕ) → heads < 4294967296 → count < 4294967296 → at < 4294967296 → links < 4294967296
     → Lies (indexAt heads count at links) heads count at links
@@ -75,3 +81,7 @@ module _ {l : Layout} (fit : Small l) where
   pub memos-lie : memosFrom l ≡ memosAt l
   unfolding memosFrom
   memos-lie = let e = end-low in omega arith
+
+  pub sums-lie : SumsLie l
+  unfolding sumsFrom
+  sums-lie = let e = end-low in record { behind = omega arith; before = omega arith }

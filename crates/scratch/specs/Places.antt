@@ -51,9 +51,13 @@ wordsOf l = perEmitted * l .most + perNode * l .nodes
 abbrev pub linksAt : Layout → ℕ
 linksAt l = wordsOf l
 
--- the memos: 512 pairs for names, and as many that are free
+-- the memos: 512 pairs for names
 abbrev pub memosAt : Layout → ℕ
 memosAt l = 6 * l .most + 8 * l .nodes
+
+-- the folds that are kept for long texts: a word for each block of text bytes
+abbrev pub sumsAt : Layout → ℕ
+sumsAt l = memosAt l + 1024
 
 -- the heads of the indexes: a table for each pool, those of the names first
 abbrev pub headsAt : Layout → ℕ
@@ -107,6 +111,10 @@ chainIndex l = indexAt (chainHeadsAt l) (tokenHeads l) (chainsAt l) (linksAt l)
 -- the memos' place as a word
 unfoldable pub memosFrom : Layout → ℕ
 memosFrom l = memosAt l % 4294967296
+
+-- and that of the kept folds
+unfoldable pub sumsFrom : Layout → ℕ
+sumsFrom l = sumsAt l % 4294967296
 
 -- no entry in any index, and nothing told by the memos of names
 unfoldable pub clearedIndex : Layout → List ℕ → List ℕ

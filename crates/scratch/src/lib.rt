@@ -24,13 +24,13 @@ pub struct Index {
 pub const OP: usize = 4;
 
 // Words for each instruction: its four words, its position, a residual.
-pub const PER_EMITTED: usize = 6;
+const PER_EMITTED: usize = 6;
 
 // Words for each node: the keys of a constant, a token, a chain and three names.
-pub const PER_NODE: usize = 6;
+const PER_NODE: usize = 6;
 
-// Words of the memos: 512 pairs for names, and as many that are free.
-pub const MEMOS: usize = 2048;
+// Words of the memos, 512 pairs for names, and of the folds that are kept for long texts, which stand behind them.
+const MEMOS: usize = 2048;
 
 // A word, 0 past the end.
 pub fn get(x: &[u32], i: usize) -> u32
@@ -62,7 +62,7 @@ fn less(a: usize, b: usize) -> usize
 }
 
 // The words from `at` on, `n` of them, are 0.
-pub fn clear(x: &mut [u32], at: u32, n: u32)
+fn clear(x: &mut [u32], at: u32, n: u32)
     ensures { λ r. ⌜ now (x .exit) ≡ cleared at n (now (x .entry)) ⌝ }
 {
     let mut i = at as usize;
@@ -136,29 +136,36 @@ pub fn memos_at(l: Layout) -> u32
     word(PER_EMITTED * (l.most as usize) + (PER_NODE + 2) * (l.nodes as usize))
 }
 
+// The folds that are kept for long texts.
+pub fn sums_at(l: Layout) -> u32
+    ensures { λ r. ⌜ r ≡ places.sumsFrom l ⌝ }
+{
+    word(PER_EMITTED * (l.most as usize) + (PER_NODE + 2) * (l.nodes as usize) + 1024)
+}
+
 // The heads of all indexes.
-pub fn heads_at(l: Layout) -> usize
+fn heads_at(l: Layout) -> usize
     ensures { λ r. ⌜ r ≡ places.headsAt l ⌝ }
 {
     PER_EMITTED * (l.most as usize) + (PER_NODE + 2) * (l.nodes as usize) + MEMOS
 }
 
 // How many heads the names have.
-pub fn name_heads(l: Layout) -> usize
+fn name_heads(l: Layout) -> usize
     ensures { λ r. ⌜ (r ≡ places.nameHeads l) × (r < 10000000000) ⌝ }
 {
     less((l.most as usize) + 1024, 2 * (l.nodes as usize) + 64)
 }
 
 // How many the constants have.
-pub fn const_heads(l: Layout) -> usize
+fn const_heads(l: Layout) -> usize
     ensures { λ r. ⌜ (r ≡ places.constHeads l) × (r < 10000000000) ⌝ }
 {
     less((l.most as usize) / 2 + 256, (l.nodes as usize) + 64)
 }
 
 // How many the tokens have, and the chains as many.
-pub fn token_heads(l: Layout) -> usize
+fn token_heads(l: Layout) -> usize
     ensures { λ r. ⌜ (r ≡ places.tokenHeads l) × (r < 10000000000) ⌝ }
 {
     less((l.most as usize) / 4 + 256, (l.nodes as usize) + 64)

@@ -42,13 +42,13 @@ pub fn local_count(s: &[u8]) -> u32
 }
 
 // Where the sections start, in words.
-pub fn positions_at(s: &[u8]) -> usize
+fn positions_at(s: &[u8]) -> usize
     ensures { λ r. ⌜ (r ≡ positionsAt (now (s .entry))) × (r < 30000000000) ⌝ }
 {
     HEADER_WORDS + NODE_WORDS * (node_count(s) as usize)
 }
 
-pub fn starts_at(s: &[u8]) -> usize
+fn starts_at(s: &[u8]) -> usize
     ensures { λ r. ⌜ (r ≡ startsAt (now (s .entry))) × (r < 40000000000) ⌝ }
 {
     positions_at(s) + (node_count(s) as usize)

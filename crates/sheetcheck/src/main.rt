@@ -1,6 +1,8 @@
 // Reads a sheet from standard input and prints `accepted`, or `refused` and the number. A sheet of over 65,536 bytes is refused with 1.
 use libc::STDIN_FILENO;
 use libc::STDOUT_FILENO;
+use refusals::Refusal;
+use refusals::refusal_number;
 
 fn answer(number: u32) {
     if number == 0 {
@@ -22,7 +24,7 @@ fn main() {
     let mut sheet = io::large_buffer();
     let n = io::read_full(STDIN_FILENO, &mut sheet);
     if more() {
-        answer(1);
+        answer(refusal_number(Refusal::Size));
         return;
     }
     answer(checks::number(checks::check(&sheet[..n])));

@@ -1,2 +1,2 @@
-pub mod BuildLaws
-pub mod LevelLaws
+mod BuildLaws
+mod LevelLaws

@@ -18,7 +18,8 @@ use Rattle.emission.specs.Made.{Made, addConst, addName, addToken}
 use Rattle.scratch.specs.declared.Layout.{Layout}
 use Rattle.store.specs.declared.State.{State}
 use Rattle.scratch.specs.declared.Index.{Index}
-use Rattle.scratch.specs.Places.{constsAt, tokensAt, chainsAt, namesAt, constIndex, tokenIndex, chainIndex, nameIndex, region}
+use Rattle.scratch.specs.Places.{constsAt, tokensAt, chainsAt, namesAt, sumsFrom, constIndex, tokenIndex, chainIndex, nameIndex, region}
+use Rattle.folds.specs.Sums.{BySums}
 use Rattle.index.specs.Table.{headAt, linkAt, tagOf, notedBy}
 use Rattle.index.specs.Lookup.{Finds}
 use Rattle.index.specs.Consts.{constSlot, sameConstOf, constHash, sameTokenOf, tokenHash}
@@ -55,14 +56,17 @@ words-by :
 words-by n v slot xs e g k f y z = rw (z, y, f, e, g, k)
 
 module _
-    (s : List ℕ) (l : Layout) (xs c : List ℕ) (v h i : ℕ) (hashed : h ≡ constHash s v)
+    (s : List ℕ) (l : Layout) (xs c : List ℕ) (v h i : ℕ) (hashed : BySums s (sumsFrom l) xs (constHash s v) h)
     (sought : Finds (sameConstOf s v) (constHash s) constSlot (constIndex l) (stateOf c .consts) h xs i)
   where
     abbrev keys : List ℕ
     keys = region (constsAt l) (stateOf c .consts) xs
 
+    const-hash-is : (a : Made) → Holds s l xs (stateOf c) a → h ≡ constHash s v
+    const-hash-is a q = hashed .is (q .index .sums)
+
     const-fits : (a : Made) → Holds s l xs (stateOf c) a → i ≡ firstWhere (sameConst s (constOf s v)) (map (constOf s) keys)
-    const-fits a q = const-found (q .index) v h i hashed sought ∙ sym (first-map (sameConst s (constOf s v)) (constOf s) keys)
+    const-fits a q = const-found (q .index) v h i (const-hash-is a q) sought ∙ sym (first-map (sameConst s (constOf s v)) (constOf s) keys)
 
     pub const-adds-old :
         i < stateOf c .consts
@@ -82,7 +86,8 @@ module _
       does = λ g. record {
         holds = λ a q _.
             let k = const-fits a q in
-            let words : zs ≡ constAdded s l (stateOf c .consts) v xs = words-by (stateOf c .consts) v (constSlot v) xs x hashed e f y z in
+            let words : zs ≡ constAdded s l (stateOf c .consts) v xs =
+            words-by (stateOf c .consts) v (constSlot v) xs x (const-hash-is a q) e f y z in
             rw (w (held-full c q), words) (const-new v q g (omega arith));
       };
       place = λ a q.
@@ -129,14 +134,14 @@ module _
 
 module _
     (s : List ℕ) (l : Layout) (xs c : List ℕ) (v t h i : ℕ) (m : Bool) (is : nameWith s t m ≡ nameOf s v)
-    (hashed : h ≡ nameHashOf s (nameWith s t m))
+    (hashed : BySums s (sumsFrom l) xs (nameHashOf s (nameWith s t m)) h)
     (sought : Finds (isName s (nameWith s t m)) (nameHash s) nameSlot (nameIndex l) (stateOf c .names) h xs i)
   where
     abbrev name-keys : List ℕ
     name-keys = region (namesAt l) (stateOf c .names) xs
 
-    hash-is : h ≡ nameHash s v
-    hash-is = hashed ∙ ap (nameHashOf s) is
+    name-hash-is : (a : Made) → Holds s l xs (stateOf c) a → h ≡ nameHash s v
+    name-hash-is a q = hashed .is (q .index .sums) ∙ ap (nameHashOf s) is
 
     name-fits : (a : Made) → Holds s l xs (stateOf c) a → i ≡ firstWhere (sameName s (nameOf s v)) (map (nameOf s) name-keys)
     name-fits a q =
@@ -161,7 +166,8 @@ module _
       does = λ g. record {
         holds = λ a q _.
             let k = name-fits a q in
-            let words : zs ≡ nameAdded s l (stateOf c .names) v xs = words-by (stateOf c .names) v (nameSlot v) xs x hash-is e f y z in
+            let words : zs ≡ nameAdded s l (stateOf c .names) v xs =
+            words-by (stateOf c .names) v (nameSlot v) xs x (name-hash-is a q) e f y z in
             rw (w (held-full c q), words) (name-new v q g (omega arith));
       };
       place = λ a q.

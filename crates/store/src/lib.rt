@@ -68,7 +68,7 @@ use states::count_one;
 use states::layout_of;
 use std::num::wrapping_add_u32;
 
-pub mod ops;
+mod ops;
 pub mod states;
 
 // A memo has a text's number plus 1, so this one has none.
@@ -160,7 +160,7 @@ pub fn add_const(s: &[u8], c: &mut [u32; COUNTS], x: &mut [u32], j: u32) -> u32
 {
     let l = layout_of(c);
     let n = c[CONSTS];
-    let h = const_hash(s, j);
+    let h = const_hash(s, &x[..], l, j);
     let ix = const_index(l);
     let i = seek_const(s, &x[..], ix, n, j, h);
     if i < n {
@@ -202,7 +202,7 @@ fn push_name(s: &[u8], c: &mut [u32; COUNTS], x: &mut [u32], k: u32, t: u32, m: 
 {
     let l = layout_of(c);
     let n = c[NAMES];
-    let h = name_hash(s, t, m);
+    let h = name_hash(s, &x[..], l, t, m);
     let ix = name_index(l);
     let i = seek_name(s, &x[..], ix, n, t, m, h);
     if i < n {

@@ -19,25 +19,25 @@ pub const COUNTS: usize = 12;
 
 pub const CODE: usize = 0;
 
-pub const CONSTS: usize = 1;
+pub(crate) const CONSTS: usize = 1;
 
-pub const NAMES: usize = 2;
+pub(crate) const NAMES: usize = 2;
 
-pub const TOKENS: usize = 3;
+pub(crate) const TOKENS: usize = 3;
 
-pub const RESIDUALS: usize = 4;
+pub(crate) const RESIDUALS: usize = 4;
 
-pub const CHAINS: usize = 5;
+pub(crate) const CHAINS: usize = 5;
 
 pub const EMITTED: usize = 6;
 
 pub const DEPTH: usize = 7;
 
-pub const STEPS: usize = 8;
+pub(crate) const STEPS: usize = 8;
 
-pub const MOST: usize = 9;
+const MOST: usize = 9;
 
-pub const NODES: usize = 10;
+const NODES: usize = 10;
 
 pub const DEEPEST: usize = 11;
 
@@ -79,7 +79,7 @@ pub fn start(l: Layout) -> [u32; COUNTS]
 }
 
 // An instruction more, and the depth behind it.
-pub fn count_one(c: &mut [u32; COUNTS], depth: u64)
+pub(crate) fn count_one(c: &mut [u32; COUNTS], depth: u64)
     ensures { λ _. ⌜
         (states.Full (now (c .entry)) → states.stateOf (now (c .exit)) ≡ states.counted (states.stateOf (now (c .entry))) depth) ⌝ }
 {

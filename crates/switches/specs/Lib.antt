@@ -1,3 +1,4 @@
 pub mod Switch
 pub mod SwitchLaws
 pub mod ReadLaws
+pub mod Key

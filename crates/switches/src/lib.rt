@@ -1,8 +1,11 @@
 // Refusals 6 and 7, of a Switch: too many entries; two cases of equal kind and value.
 ghost use mathlib.Core.Path.{_≡_};
-ghost use Prim.Native.Nat.{_+_, _≤_};
+ghost use mathlib.Core.Bool.{true, false};
+ghost use Prim.Native.Nat.{ℕ, _+_, _<_, _≤_};
+ghost use lib.ListN.{length, getD};
 ghost use Rattle.sheet.specs.Walk as walks;
 ghost use Rattle.switches.specs.Switch as switches;
+ghost use Rattle.switches.specs.Key as keys;
 use sheet::child;
 use sheet::count;
 use sheet::field_a;
@@ -12,9 +15,12 @@ use sheet::limits::MAX_ENTRIES;
 use sheet::next;
 use sheet::skip;
 use text::same_bytes;
+use words::byte;
+use words::part;
+use words::word_at;
 
 // Node 0 is a Switch.
-pub fn is_switch(s: &[u8]) -> bool
+fn is_switch(s: &[u8]) -> bool
     ensures { λ r. ⌜ r ≡ switches.isSwitch (now (s .entry)) ⌝ }
 {
     kind(s, 0) == 19
@@ -117,8 +123,8 @@ fn apart_from(s: &[u8], p: u32, m: u32, at: u32) -> bool
     true
 }
 
-// `m` Cases from node `at` on differ, each from each.
-fn distinct(s: &[u8], m: u32, at: u32) -> bool
+// `m` Cases from node `at` on differ: each is compared with all behind it.
+fn each_apart(s: &[u8], m: u32, at: u32) -> bool
     ensures { λ r. ⌜ r ≡ switches.distinct (now (s .entry)) m at ⌝ }
 {
     let mut left = m;
@@ -133,6 +139,78 @@ fn distinct(s: &[u8], m: u32, at: u32) -> bool
         }
     }
     true
+}
+
+// A number that equal texts have in common: the first four bytes and the last four, or the three that there are.
+fn text_key(x: &[u8]) -> u64
+    ensures { λ r. ⌜ r ≡ keys.textKey (now (x .entry)) ⌝ }
+{
+    let n = x.len();
+    if n < 4 {
+        return (byte(x, 0) as u64) + 256 * (byte(x, 1) as u64) + 65536 * (byte(x, 2) as u64);
+    }
+    (word_at(x, 0) as u64) + 4294967296 * (word_at(part(x, n - 4, 4), 0) as u64)
+}
+
+// A number that equal values have in common.
+fn value_key(s: &[u8], v: u32) -> u64
+    ensures { λ r. ⌜ r ≡ keys.valueKey (now (s .entry)) v ⌝ }
+{
+    let a = field_a(s, v);
+    if kind(s, v) == 6 {
+        return text_key(sheet::text(s, a));
+    }
+    (a as u64) + 4294967296 * (field_b(s, v) as u64)
+}
+
+// Whether `key` is among `k`.
+fn among(k: &[u64], key: u64) -> bool
+    ensures { λ r. ⌜ (r ≡ false → (i : ℕ) → i < length (now (k .entry)) → getD (now (k .entry)) i 0 ≡ key → ⊥) ⌝ }
+{
+    let mut i = 0;
+    while i < k.len() {
+        if k[i] == key {
+            return true;
+        }
+        i += 1;
+    }
+    false
+}
+
+// Some Cases, not too few and not too many, from node `at` on differ already by their numbers.
+fn keys_apart(s: &[u8], m: u32, at: u32) -> bool
+    ensures { λ r. ⌜ (r ≡ true → switches.distinct (now (s .entry)) m at ≡ true) ⌝ }
+{
+    if m < 6 {
+        return false;
+    }
+    if 64 < m {
+        return false;
+    }
+    let mut k = [0u64; 64];
+    let mut i: u32 = 0;
+    let mut j = at;
+    while i < m {
+        let n = i as usize;
+        let key = value_key(s, child(j));
+        if among(&k[..n], key) {
+            return false;
+        }
+        k[n] = key;
+        j = next(s, j);
+        i += 1;
+    }
+    true
+}
+
+// `m` Cases from node `at` on differ, each from each.
+fn distinct(s: &[u8], m: u32, at: u32) -> bool
+    ensures { λ r. ⌜ r ≡ switches.distinct (now (s .entry)) m at ⌝ }
+{
+    if keys_apart(s, m, at) {
+        return true;
+    }
+    each_apart(s, m, at)
 }
 
 // Nothing of refusal 7.

@@ -12,7 +12,7 @@ use borrow.Author.Tests.{le-leb, lt-leb}
 use Rattle.text.specs.Utf8.{within, Row, row, rowOf, utf8}
 use Rattle.text.specs.RowLaws.{Leads}
 use Rattle.text.specs.Char.{tailsOk, orZero, charLength}
-use Rattle.text.specs.Utf8Laws.{tails-cons, tails-fit, utf8-stuck, utf8-step, char-fits}
+use Rattle.text.specs.Utf8Laws.{tails-cons, tails-fit}
 
 -- past the end there is no character
 pub char-past : (s : List ℕ) (i : ℕ) → length s ≤ i → charLength (drop i s) ≡ 0

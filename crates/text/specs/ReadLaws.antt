@@ -6,11 +6,11 @@ use mathlib.Core.List.{List, [], _∷_}
 use native.Mathlib.Numerals.{add-one}
 use native.Mathlib.Omega.{arith}
 use lib.ListN.{length, getD, drop, length-drop, drop-of-length-le}
-use lib.Seq.{drop-cons, drop-drop}
+use lib.Seq.{drop-cons}
 use Rattle.text.specs.Utf8.{rowOf, utf8Rest, utf8}
 use Rattle.text.specs.RowLaws.{row-7F}
 use Rattle.text.specs.Char.{charLength}
-use Rattle.text.specs.Utf8Laws.{utf8-stuck, utf8-step, char-fits}
+use Rattle.text.specs.Utf8Laws.{utf8-stuck, char-fits}
 
 -- nothing is left at the end
 pub read-end : (s : List ℕ) (i : ℕ) → length s ≤ i → utf8 (drop i s) ≡ true
@@ -33,7 +33,3 @@ module _ (s : List ℕ) (i n : ℕ) (e : n ≡ charLength (drop i s)) where
   -- where no character starts, the rest is malformed
   pub read-stuck : i < length s → n ≡ 0 → utf8 (drop i s) ≡ false
   read-stuck h z = utf8-stuck (drop i s) (rw length-drop (omega arith)) (sym e ∙ z)
-
-  -- after a character the rest counts
-  pub read-char : (n ≡ 0 → ⊥) → utf8 (drop i s) ≡ utf8 (drop (i + n) s)
-  read-char z = utf8-step (drop i s) (omega arith) ∙ rw (← e, drop-drop)

@@ -91,18 +91,6 @@ utf8-stuck (b ∷ s) p h =
     by n true h = absurd (omega arith)
     by n false h = refl
 
--- after the character that a string starts with, the rest counts
-pub utf8-step : (l : List ℕ) → 0 < charLength l → utf8 l ≡ utf8 (drop (charLength l) l)
-unfolding utf8 utf8Rest charLength
-utf8-step [] h = refl
-utf8-step (b ∷ s) h =
-    let r = rowOf b in
-    rest-tails (r .tails) (r .low) (r .high) s ∙ by (r .tails) (tailsOk (r .tails) (r .low) (r .high) s) h
-  where
-    by : (n : ℕ) (t : Bool) → 0 < orZero t (suc n) → (t && utf8 (drop n s)) ≡ utf8 (drop (orZero t (suc n)) (b ∷ s))
-    by n true h = refl
-    by n false h = absurd (omega arith)
-
 -- tail bytes that a string has lie within it
 pub tails-fit : (n low high : ℕ) (s : List ℕ) → tailsOk n low high s ≡ true → n ≤ length s
 unfolding tailsOk

@@ -5,7 +5,6 @@ ghost use lib.ListN.{length, drop};
 ghost use Rattle.text.specs.Same.{same};
 ghost use Rattle.text.specs.Eight.{fromFour, fourAt, eightAt, blockSame, Agree};
 ghost use Rattle.text.specs.Keyword.{isEval, isFn, isCall, isCurry};
-ghost use Rattle.text.specs.Utf8.{utf8};
 ghost use Rattle.text.specs.Char.{charLength};
 ghost use Rattle.text.specs.RowLaws.{Leads};
 
@@ -197,23 +196,4 @@ pub fn char_len(s: &[u8], i: usize) -> usize
         k += 1;
     }
     n + 1
-}
-
-// Whether `s` is well-formed UTF-8.
-pub fn utf8_ok(s: &[u8]) -> bool
-    ensures { λ r. ⌜ r ≡ utf8 (now (s .entry)) ⌝ }
-{
-    let mut i = 0;
-    while i < s.len() {
-        if s[i] < 0x80 {
-            i += 1;
-        } else {
-            let n = char_len(s, i);
-            if n == 0 {
-                return false;
-            }
-            i += n;
-        }
-    }
-    true
 }

@@ -5,9 +5,10 @@ use mathlib.Core.Bool.{true, false}
 use mathlib.Core.List.{List, _++_}
 use lib.Dec.{ltb}
 use lib.ListN.{length, drop}
+use Rattle.refusals.specs.declared.Refusal.the-variants.{ImageLong}
 use Rattle.sheet.specs.Layout.{nodeCount}
 use Rattle.checks.specs.Checked as Checked
-use Rattle.lowering.specs.Limits.{maxEmitted, scratchPerEmitted, scratchPerNode, scratchBesides, imageTooLong}
+use Rattle.lowering.specs.Limits.{maxEmitted, scratchPerEmitted, scratchPerNode, scratchBesides}
 use Rattle.lowering.specs.Image.{words}
 use Rattle.lowering.specs.Outcome.{lower}
 use Rattle.totals.specs.Total.{total}
@@ -16,7 +17,7 @@ use Rattle.to_image.specs.declared.Answer.the-variants.{Lowered, Refused
 
 -- the answer once n words are made, in an image with room for so many
 unfoldable pub ended : ℕ → ℕ → Answer
-ended room n = elim (ltb room n) [ true ↦ Refused imageTooLong | false ↦ Lowered n ]
+ended room n = elim (ltb room n) [ true ↦ Refused ImageLong | false ↦ Lowered n ]
 
 -- what the making of an image may take for granted: nothing refuses before the image is made
 pub record Ready (s : List ℕ) (e m : ℕ) : Type 0 where

@@ -6,25 +6,27 @@ ghost use Rattle.sheet.specs.Node as nodes;
 ghost use Rattle.lowering.specs.Kinds.{switchKind};
 ghost use Rattle.zeros.specs.Zeros.{Zeroed};
 ghost use Rattle.to_image.specs.Answer.{Answers};
+ghost use Rattle.to_image.specs.Answer as answers;
 ghost use Rattle.to_image.specs.Making as making;
 ghost use Rattle.to_image.specs.Making.{Ready, Built};
 
-pub mod switched;
+mod switched;
 
 use crate::switched::build_switch;
 use bytecode::effects;
+use checks::Verdict;
 use checks::check;
-use checks::number;
 use compile::expression;
 use image::image_len;
 use image::write_front;
 use local_slots::begin;
-use lowering::IMAGE_TOO_LONG;
 use needs::SWITCH;
 use needs::plain_counts;
 use needs::refusal;
 use needs::settle;
 use needs::switch_counts;
+use refusals::Refusal;
+use refusals::refusal_number;
 use scratch::Layout;
 use sheet::kind;
 use sheet::limits::MAX_DEPTH;
@@ -34,14 +36,14 @@ use store::states::state_of;
 use tables::SIZE;
 use zeros::zero;
 
-// What a lowering answers: the image's word count, or 01's refusal number.
+// What a lowering answers: the image's word count, or why it is refused.
 pub enum Answer {
     Lowered { words: usize },
-    Refused { number: u32 },
+    Refused { by: Refusal },
 }
 
 // The image of an expression: its word count; its words are written where they fit.
-pub fn build_plain(s: &[u8], image: &mut [u32], x: &mut [u32], most: u32) -> usize
+fn build_plain(s: &[u8], image: &mut [u32], x: &mut [u32], most: u32) -> usize
     ensures { λ r. let sheet = now (s .entry) in ⌜ (Ready sheet most (length (now (x .entry))) → (nodes.kind sheet 0 ≡ switchKind → ⊥)
         → Built sheet (now (image .entry)) r (now (image .exit))) ⌝ }
 {
@@ -70,7 +72,7 @@ fn ended(scratch: &mut [u32], room: usize, words: usize) -> Answer
     zero(scratch);
     if room < words {
         return Answer::Refused {
-            number: IMAGE_TOO_LONG,
+            by: Refusal::ImageLong,
         };
     }
     Answer::Lowered { words }
@@ -83,11 +85,13 @@ fn lower_plain(sheet: &[u8], image: &mut [u32], scratch: &mut [u32]) -> Answer
 {
     let t = plain_counts(sheet, scratch.len());
     let k = refusal(t, scratch.len(), node_count(sheet));
-    if k != 0 {
-        return Answer::Refused { number: k };
+    match k {
+        Verdict::Refused(by) => Answer::Refused { by },
+        Verdict::Accepted => {
+            let words = build_plain(sheet, image, scratch, t.emitted as u32);
+            ended(scratch, image.len(), words)
+        }
     }
-    let words = build_plain(sheet, image, scratch, t.emitted as u32);
-    ended(scratch, image.len(), words)
 }
 
 // An accepted Switch: read it into the flat table, count, refuse, emit, write.
@@ -96,27 +100,57 @@ fn lower_switch(sheet: &[u8], image: &mut [u32], scratch: &mut [u32]) -> Answer
         → Answers s (now (image .entry)) (now (scratch .entry)) r (now (image .exit)) (now (scratch .exit))) ⌝ }
 {
     let mut w = [0u32; SIZE];
-    let t = switch_counts(sheet, scratch.len(), &mut w[..]);
+    let t = switch_counts(sheet, scratch.len(), &mut w);
     let k = refusal(t, scratch.len(), node_count(sheet));
-    if k != 0 {
-        return Answer::Refused { number: k };
+    match k {
+        Verdict::Refused(by) => Answer::Refused { by },
+        Verdict::Accepted => {
+            settle(sheet, &mut w);
+            let n = build_switch(sheet, image, scratch, t.emitted as u32, &mut w[..]);
+            ended(scratch, image.len(), n)
+        }
     }
-    settle(sheet, &mut w[..]);
-    let n = build_switch(sheet, image, scratch, t.emitted as u32, &mut w[..]);
-    ended(scratch, image.len(), n)
 }
 
-// The image of a sheet, or 01's refusal number. Whatever the sheet and the buffers are, the answer and what is left are the definition's.
-pub fn lower(sheet: &[u8], image: &mut [u32], scratch: &mut [u32]) -> Answer
-    ensures { λ r. ⌜
-        Answers (now (sheet .entry)) (now (image .entry)) (now (scratch .entry)) r (now (image .exit)) (now (scratch .exit)) ⌝ }
+// An accepted sheet, by the kind of node 0.
+fn lower_accepted(sheet: &[u8], image: &mut [u32], scratch: &mut [u32]) -> Answer
+    ensures { λ r. let s = now (sheet .entry) in ⌜ (Checked.numberOf (Checked.checked s) ≡ 0
+        → Answers s (now (image .entry)) (now (scratch .entry)) r (now (image .exit)) (now (scratch .exit))) ⌝ }
 {
-    let v = number(check(sheet));
-    if v != 0 {
-        return Answer::Refused { number: v };
-    }
     if kind(sheet, 0) == SWITCH {
         return lower_switch(sheet, image, scratch);
     }
     lower_plain(sheet, image, scratch)
+}
+
+// The image of a sheet, or why it is refused. Whatever the sheet and the buffers are, the answer and what is left are the definition's.
+pub fn lower(sheet: &[u8], image: &mut [u32], scratch: &mut [u32]) -> Answer
+    ensures { λ r. ⌜
+        Answers (now (sheet .entry)) (now (image .entry)) (now (scratch .entry)) r (now (image .exit)) (now (scratch .exit)) ⌝ }
+{
+    let v = check(sheet);
+    match v {
+        Verdict::Refused(by) => Answer::Refused { by },
+        Verdict::Accepted => lower_accepted(sheet, image, scratch),
+    }
+}
+
+// 01's number of an answer: 0 is success.
+pub fn number(a: Answer) -> u32
+    ensures { λ r. ⌜ r ≡ answers.numberOf a ⌝ }
+{
+    match a {
+        Answer::Lowered { words: _ } => 0,
+        Answer::Refused { by } => refusal_number(by),
+    }
+}
+
+// The image's word count, 0 under a refusal.
+pub fn words(a: Answer) -> usize
+    ensures { λ r. ⌜ r ≡ answers.wordsOf a ⌝ }
+{
+    match a {
+        Answer::Lowered { words: n } => n,
+        Answer::Refused { by: _ } => 0,
+    }
 }

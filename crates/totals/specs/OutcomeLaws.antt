@@ -7,8 +7,10 @@ use lib.Dec.{ltb}
 use lib.ListN.{length}
 use borrow.Author.Tests.{lt-ltb, le-ltb}
 use Rattle.sheet.specs.Layout.{nodeCount}
+use Rattle.refusals.specs.declared.Refusal.the-variants.{Eval, Emitted, ScratchShort, ImageLong}
 use Rattle.checks.specs.Checked.{numberOf, checked}
-use Rattle.lowering.specs.Limits.{maxEmitted, scratchPerEmitted, scratchPerNode, scratchBesides, evalReached, tooManyEmitted, scratchTooShort}
+use Rattle.checks.proofs.VerdictLaws.{accepted-is}
+use Rattle.lowering.specs.Limits.{maxEmitted, scratchPerEmitted, scratchPerNode, scratchBesides}
 use Rattle.lowering.specs.Pools.{Pools}
 use Rattle.lowering.specs.Program.{Program}
 use Rattle.lowering.specs.Image.{words}
@@ -23,13 +25,13 @@ scratchTotal s = scratchPerEmitted * total s .emitted + scratchPerNode * nodeCou
 -- the check of 1 to 8 lets the sheet through
 accepted : (s : List ℕ) (i l : ℕ) → numberOf (checked s) ≡ 0 → outcome s i l ≡ lowered s i l (lower s)
 unfolding outcome outcomeAfter
-accepted s i l h = rw h
+accepted s i l h = rw (accepted-is (checked s) h)
 
 -- four tests, none of which refuses
 none-refuses : (a b c d : Bool) (o : Outcome) → a ≡ false → b ≡ false → c ≡ false → d ≡ false
     → elim a [
-      | true ↦ refused 9
-      | false ↦ elim b [ true ↦ refused 10 | false ↦ elim c [ true ↦ refused 11 | false ↦ elim d [ true ↦ refused 12 | false ↦ o ] ] ]
+      | true ↦ refused Eval
+      | false ↦ elim b [ true ↦ refused Emitted | false ↦ elim c [ true ↦ refused ScratchShort | false ↦ elim d [ true ↦ refused ImageLong | false ↦ o ] ] ]
     ]
     ≡ o
 none-refuses a b c d o h k l m = rw (h, k, l, m)
@@ -39,12 +41,12 @@ unfolding scratchNeeded scratchTotal
 scratch-total s = ap (λ n. scratchPerEmitted * n + scratchPerNode * nodeCount s + scratchBesides) (total-emitted s)
 
 module _ (s : List ℕ) (imageLength scratchLength : ℕ) (ok : numberOf (checked s) ≡ 0) where
-  pub outcome-9 : total s .defeated ≡ true → outcome s imageLength scratchLength ≡ refused 9
+  pub outcome-9 : total s .defeated ≡ true → outcome s imageLength scratchLength ≡ refused Eval
   unfolding lowered
   outcome-9 d = accepted s imageLength scratchLength ok ∙ rw (total-defeated s ∙ d, lowered)
 
   module _ (d : total s .defeated ≡ false) where
-    pub outcome-10 : maxEmitted < total s .emitted → outcome s imageLength scratchLength ≡ refused 10
+    pub outcome-10 : maxEmitted < total s .emitted → outcome s imageLength scratchLength ≡ refused Emitted
     unfolding lowered
     outcome-10 m =
         accepted s imageLength scratchLength ok
@@ -54,7 +56,7 @@ module _ (s : List ℕ) (imageLength scratchLength : ℕ) (ok : numberOf (checke
       few : ltb maxEmitted (lower s .pools .emitted) ≡ false
       few = ap (ltb maxEmitted) (total-emitted s) ∙ le-ltb maxEmitted (total s .emitted) m
 
-      pub outcome-11 : scratchLength < scratchTotal s → outcome s imageLength scratchLength ≡ refused 11
+      pub outcome-11 : scratchLength < scratchTotal s → outcome s imageLength scratchLength ≡ refused ScratchShort
       unfolding lowered
       outcome-11 l =
           let short = ap (ltb scratchLength) (scratch-total s) ∙ lt-ltb scratchLength (scratchTotal s) l in
@@ -65,7 +67,7 @@ module _ (s : List ℕ) (imageLength scratchLength : ℕ) (ok : numberOf (checke
         enough : ltb scratchLength (scratchNeeded s (lower s .pools)) ≡ false
         enough = ap (ltb scratchLength) (scratch-total s) ∙ le-ltb scratchLength (scratchTotal s) l
 
-        pub outcome-12 : imageLength < length (words (lower s)) → outcome s imageLength scratchLength ≡ refused 12
+        pub outcome-12 : imageLength < length (words (lower s)) → outcome s imageLength scratchLength ≡ refused ImageLong
         unfolding lowered
         outcome-12 n =
             accepted s imageLength scratchLength ok

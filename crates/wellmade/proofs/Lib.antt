@@ -1,11 +1,11 @@
 -- From the definition of a well-made image to the theorem of its test, in the order of the proof.
-pub mod Tells
+mod Tells
 pub mod Real
-pub mod EdgeLaws
+mod EdgeLaws
 pub mod ComeLaws
 pub mod Told
 pub mod Right
-pub mod Complete
+mod Complete
 pub mod WordLaws
 pub mod Theorem
 pub mod Accepted

@@ -1,4 +1,3 @@
-pub mod Limits
 pub mod Rules
 pub mod Marks
 pub mod Test

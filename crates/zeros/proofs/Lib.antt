@@ -1,2 +1,2 @@
 -- The law of the loop that writes zeros.
-pub mod ZeroLaws
+mod ZeroLaws

@@ -1,7 +1,7 @@
 -- `api::sheet_needs` meets its contract: the number and the words of the need.
-use Rattle.api.proofs.Foretold.{asked}
+use mathlib.Core.Path.{sym, ap, _∙_}
 use Rattle.needs.specs.Needed.{numberOf, wordsOf}
-use mathlib.Core.Path.{sym, ap}
+use Rattle.api.proofs.Foretold.{asked}
 use borrow.Author.Needs.{needs}
 use Rattle.api.proofs.sheet_needs.Statement.{statement}
 use Rattle.api.proofs.sheet_needs.Tie as tie
@@ -12,19 +12,31 @@ needs-requires c κs = search needs
 enum-known-count : tie.Need-enum-known-count
 enum-known-count c = search needs
 
-enum-known-number : tie.Need-enum-known-number
-enum-known-number c = search needs
+enum-known-by : tie.Need-enum-known-by
+enum-known-by c = search needs
+
+refusal-number-requires : tie.Need-refusal-number-requires
+refusal-number-requires c κs = search needs
 
 returns : tie.Need-returns
 returns c =
-    let count = c .before .count .given .1 in
-    asked _ _ _ _ (c .before .before .before .needs .ensures) (sym (ap numberOf count)) (sym (ap wordsOf count))
+    let match = c .before in
+    let need = match .count .given .1 in
+    asked _ _ _ _ (match .before .before .needs .ensures) (sym (ap numberOf need)) (sym (ap wordsOf need))
 
 returns-2 : tie.Need-returns-2
 returns-2 c =
-    let number = c .before .number .given .1 in
-    asked _ _ _ _ (c .before .before .before .needs .ensures) (sym (ap numberOf number)) (sym (ap wordsOf number))
+    let match = c .before .before in
+    let need = match .by .given .1 in
+    asked _ _ _ _ (match .before .before .needs .ensures) (c .refusal-number .ensures ∙ sym (ap numberOf need)) (sym (ap wordsOf need))
 
 pub sheet-needs-spec : {M : Type 1} → statement M
 sheet-needs-spec =
-    tie.close (tie.spec needs-requires enum-known-count enum-known-number returns returns-2)
+    tie.close
+    (tie.spec
+    needs-requires
+    enum-known-count
+    enum-known-by
+    refusal-number-requires
+    returns
+    returns-2)

@@ -1,7 +1,7 @@
 -- Each function does to the scratch what its definition does. The measure: four times the levels, plus the function's rank among its callers.
 use Rattle.compile.specs.Falls.{sibling-falls, last-falls, one-falls, walk-falls, root-falls, arm-falls, chain-falls, some-left}
 use lib.Dec.{lit<}
-use Rattle.compile.specs.EndDoes.{end-right}
+use Rattle.compile.proofs.EndLaws.{end-held}
 use Rattle.compile.specs.StepDoes.{link-fails, link-nowhere}
 use Rattle.compile.specs.WalkDoes.{walk-starts, walk-done, walk-fails, walk-on, walk-ends}
 use Rattle.compile.specs.ArmDoes.{arm-none, arm-boolean, arm-unit, arm-constant, arm-variable, arm-this, arm-residual, arm-interpolated, arm-array, arm-call, arm-chain, arm-and, arm-or, arm-coalesce}
@@ -491,9 +491,6 @@ expression-returns t c =
     let p5 = p2 .before .before .before in
     λ l table C v. arm-none _ _ (p5 .if1 .taken) (p2 .residual .ensures l table _)
 
-expression-element-copy-out-code : (t : ℕ) → expression-lts.Need-element-copy-out-code (expression-claims t) (expression-at t) expression.Post
-expression-element-copy-out-code t c = search needs
-
 expression-rule-requires : (t : ℕ) → expression-lts.Need-rule-requires (expression-claims t) (expression-at t) expression.Post
 expression-rule-requires t c κs = search needs
 
@@ -523,30 +520,30 @@ expression-enum-told-4 t c = search needs
 
 expression-sub-interpolated : (t : ℕ) → expression-lts.Need-sub-interpolated (expression-claims t) (expression-at t) expression.Post
 expression-sub-interpolated t c =
-    let p4 = c .before .before .before .before in
-    some-left _ (p4 .if1 .left)
+    let p3 = c .before .before .before in
+    some-left _ (p3 .if1 .left)
 
 expression-interpolated-requires : (t : ℕ) → expression-lts.Need-interpolated-requires (expression-claims t) (expression-at t) expression.Post
 expression-interpolated-requires t c κs =
     let p4 = c .before .before .before .before in
-    let p6 = p4 .before .before in
-    let p9 = p6 .before .before .before in
-    (arm-falls _ (p6 .if1 .left) (p9 .pre .0), tt)
+    let p5 = p4 .before in
+    let p8 = p5 .before .before .before in
+    (arm-falls _ (p5 .if1 .left) (p8 .pre .0), tt)
 
 expression-enum-told-5 : (t : ℕ) → expression-lts.Need-enum-told-5 (expression-claims t) (expression-at t) expression.Post
 expression-enum-told-5 t c = search needs
 
 expression-sub-array : (t : ℕ) → expression-lts.Need-sub-array (expression-claims t) (expression-at t) expression.Post
 expression-sub-array t c =
-    let p4 = c .before .before .before .before in
-    some-left _ (p4 .if1 .left)
+    let p3 = c .before .before .before in
+    some-left _ (p3 .if1 .left)
 
 expression-array-requires : (t : ℕ) → expression-lts.Need-array-requires (expression-claims t) (expression-at t) expression.Post
 expression-array-requires t c κs =
     let p4 = c .before .before .before .before in
-    let p6 = p4 .before .before in
-    let p9 = p6 .before .before .before in
-    (arm-falls _ (p6 .if1 .left) (p9 .pre .0), tt)
+    let p5 = p4 .before in
+    let p8 = p5 .before .before .before in
+    (arm-falls _ (p5 .if1 .left) (p8 .pre .0), tt)
 
 expression-enum-told-6 : (t : ℕ) → expression-lts.Need-enum-told-6 (expression-claims t) (expression-at t) expression.Post
 expression-enum-told-6 t c = search needs
@@ -568,38 +565,38 @@ expression-enum-told-8 t c = search needs
 
 expression-sub-call : (t : ℕ) → expression-lts.Need-sub-call (expression-claims t) (expression-at t) expression.Post
 expression-sub-call t c =
-    let p4 = c .before .before .before .before in
-    some-left _ (p4 .if1 .left)
+    let p3 = c .before .before .before in
+    some-left _ (p3 .if1 .left)
 
 expression-call-requires : (t : ℕ) → expression-lts.Need-call-requires (expression-claims t) (expression-at t) expression.Post
 expression-call-requires t c κs =
     let p4 = c .before .before .before .before in
-    let p6 = p4 .before .before in
-    let p9 = p6 .before .before .before in
-    (arm-falls _ (p6 .if1 .left) (p9 .pre .0), tt)
+    let p5 = p4 .before in
+    let p8 = p5 .before .before .before in
+    (arm-falls _ (p5 .if1 .left) (p8 .pre .0), tt)
 
 expression-enum-told-9 : (t : ℕ) → expression-lts.Need-enum-told-9 (expression-claims t) (expression-at t) expression.Post
 expression-enum-told-9 t c = search needs
 
 expression-sub-chain : (t : ℕ) → expression-lts.Need-sub-chain (expression-claims t) (expression-at t) expression.Post
 expression-sub-chain t c =
-    let p4 = c .before .before .before .before in
-    some-left _ (p4 .if1 .left)
+    let p3 = c .before .before .before in
+    some-left _ (p3 .if1 .left)
 
 expression-chain-requires : (t : ℕ) → expression-lts.Need-chain-requires (expression-claims t) (expression-at t) expression.Post
 expression-chain-requires t c κs =
     let p4 = c .before .before .before .before in
-    let p6 = p4 .before .before in
-    let p9 = p6 .before .before .before in
-    (chain-falls _ (p6 .if1 .left) (p9 .pre .0), tt)
+    let p5 = p4 .before in
+    let p8 = p5 .before .before .before in
+    (chain-falls _ (p5 .if1 .left) (p8 .pre .0), tt)
 
 expression-enum-told-10 : (t : ℕ) → expression-lts.Need-enum-told-10 (expression-claims t) (expression-at t) expression.Post
 expression-enum-told-10 t c = search needs
 
 expression-sub-short-circuit : (t : ℕ) → expression-lts.Need-sub-short-circuit (expression-claims t) (expression-at t) expression.Post
 expression-sub-short-circuit t c =
-    let p4 = c .before .before .before .before in
-    some-left _ (p4 .if1 .left)
+    let p3 = c .before .before .before in
+    some-left _ (p3 .if1 .left)
 
 expression-end-of-requires : (t : ℕ) → expression-lts.Need-end-of-requires (expression-claims t) (expression-at t) expression.Post
 expression-end-of-requires t c κs = search needs
@@ -607,17 +604,17 @@ expression-end-of-requires t c κs = search needs
 expression-short-circuit-requires : (t : ℕ) → expression-lts.Need-short-circuit-requires (expression-claims t) (expression-at t) expression.Post
 expression-short-circuit-requires t c κs =
     let p4 = c .before .before .before .before in
-    let p7 = p4 .before .before .before in
-    let p10 = p7 .before .before .before in
-    (arm-falls _ (p7 .if1 .left) (p10 .pre .0), lit< tt)
+    let p8 = p4 .before .before .before .before in
+    let p11 = p8 .before .before .before in
+    (arm-falls _ (p8 .if1 .left) (p11 .pre .0), lit< tt)
 
 expression-enum-told-11 : (t : ℕ) → expression-lts.Need-enum-told-11 (expression-claims t) (expression-at t) expression.Post
 expression-enum-told-11 t c = search needs
 
 expression-sub-short-circuit-2 : (t : ℕ) → expression-lts.Need-sub-short-circuit-2 (expression-claims t) (expression-at t) expression.Post
 expression-sub-short-circuit-2 t c =
-    let p4 = c .before .before .before .before in
-    some-left _ (p4 .if1 .left)
+    let p3 = c .before .before .before in
+    some-left _ (p3 .if1 .left)
 
 expression-end-of-requires-2 : (t : ℕ) → expression-lts.Need-end-of-requires-2 (expression-claims t) (expression-at t) expression.Post
 expression-end-of-requires-2 t c κs = search needs
@@ -625,17 +622,17 @@ expression-end-of-requires-2 t c κs = search needs
 expression-short-circuit-requires-2 : (t : ℕ) → expression-lts.Need-short-circuit-requires-2 (expression-claims t) (expression-at t) expression.Post
 expression-short-circuit-requires-2 t c κs =
     let p4 = c .before .before .before .before in
-    let p7 = p4 .before .before .before in
-    let p10 = p7 .before .before .before in
-    (arm-falls _ (p7 .if1 .left) (p10 .pre .0), lit< tt)
+    let p8 = p4 .before .before .before .before in
+    let p11 = p8 .before .before .before in
+    (arm-falls _ (p8 .if1 .left) (p11 .pre .0), lit< tt)
 
 expression-enum-told-12 : (t : ℕ) → expression-lts.Need-enum-told-12 (expression-claims t) (expression-at t) expression.Post
 expression-enum-told-12 t c = search needs
 
 expression-sub-coalesce : (t : ℕ) → expression-lts.Need-sub-coalesce (expression-claims t) (expression-at t) expression.Post
 expression-sub-coalesce t c =
-    let p4 = c .before .before .before .before in
-    some-left _ (p4 .if1 .left)
+    let p3 = c .before .before .before in
+    some-left _ (p3 .if1 .left)
 
 expression-end-of-requires-3 : (t : ℕ) → expression-lts.Need-end-of-requires-3 (expression-claims t) (expression-at t) expression.Post
 expression-end-of-requires-3 t c κs = search needs
@@ -643,9 +640,9 @@ expression-end-of-requires-3 t c κs = search needs
 expression-coalesce-requires : (t : ℕ) → expression-lts.Need-coalesce-requires (expression-claims t) (expression-at t) expression.Post
 expression-coalesce-requires t c κs =
     let p4 = c .before .before .before .before in
-    let p7 = p4 .before .before .before in
-    let p10 = p7 .before .before .before in
-    (arm-falls _ (p7 .if1 .left) (p10 .pre .0), tt)
+    let p8 = p4 .before .before .before .before in
+    let p11 = p8 .before .before .before in
+    (arm-falls _ (p8 .if1 .left) (p11 .pre .0), tt)
 
 expression-enum-told-13 : (t : ℕ) → expression-lts.Need-enum-told-13 (expression-claims t) (expression-at t) expression.Post
 expression-enum-told-13 t c = search needs
@@ -664,8 +661,8 @@ expression-returns-2 t c =
     let p3 = p2 .before in
     let p6 = p3 .before .before .before in
     let p8 = p6 .before .before in
-    let p10 = p8 .before .before in
-    λ l table C v. arm-boolean _ _ (p10 .if1 .left) _ (p8 .rule .ensures) _ (p6 .enum-told .given .1) (p3 .field-a .ensures) (p2 .emit .ensures l table _ tt)
+    let p9 = p8 .before in
+    λ l table C v. arm-boolean _ _ (p9 .if1 .left) _ (p8 .rule .ensures) _ (p6 .enum-told .given .1) (p3 .field-a .ensures) (p2 .emit .ensures l table _ tt)
 
 expression-same-length-3 : (t : ℕ) → expression-lts.Need-same-length-3 (expression-claims t) (expression-at t) expression.Post
 expression-same-length-3 t c =
@@ -677,8 +674,8 @@ expression-returns-3 t c =
     let p2 = c .before .before in
     let p5 = p2 .before .before .before in
     let p7 = p5 .before .before in
-    let p9 = p7 .before .before in
-    λ l table C v. arm-unit _ _ (p9 .if1 .left) _ (p7 .rule .ensures) (p5 .enum-told2 .given .1) (p2 .emit2 .ensures l table _ tt)
+    let p8 = p7 .before in
+    λ l table C v. arm-unit _ _ (p8 .if1 .left) _ (p7 .rule .ensures) (p5 .enum-told2 .given .1) (p2 .emit2 .ensures l table _ tt)
 
 expression-same-length-4 : (t : ℕ) → expression-lts.Need-same-length-4 (expression-claims t) (expression-at t) expression.Post
 expression-same-length-4 t c =
@@ -690,8 +687,8 @@ expression-returns-4 t c =
     let p2 = c .before .before in
     let p5 = p2 .before .before .before in
     let p7 = p5 .before .before in
-    let p9 = p7 .before .before in
-    λ l table C v. arm-constant _ _ (p9 .if1 .left) _ (p7 .rule .ensures) v (p5 .enum-told3 .given .1) (p2 .constant .ensures l table)
+    let p8 = p7 .before in
+    λ l table C v. arm-constant _ _ (p8 .if1 .left) _ (p7 .rule .ensures) v (p5 .enum-told3 .given .1) (p2 .constant .ensures l table)
 
 expression-same-length-5 : (t : ℕ) → expression-lts.Need-same-length-5 (expression-claims t) (expression-at t) expression.Post
 expression-same-length-5 t c =
@@ -703,8 +700,8 @@ expression-returns-5 t c =
     let p2 = c .before .before in
     let p5 = p2 .before .before .before in
     let p7 = p5 .before .before in
-    let p9 = p7 .before .before in
-    λ l table C v. arm-interpolated _ _ (p9 .if1 .left) _ (p7 .rule .ensures) (p5 .enum-told4 .given .1) (p2 .interpolated .ensures l table C v)
+    let p8 = p7 .before in
+    λ l table C v. arm-interpolated _ _ (p8 .if1 .left) _ (p7 .rule .ensures) (p5 .enum-told4 .given .1) (p2 .interpolated .ensures l table C v)
 
 expression-same-length-6 : (t : ℕ) → expression-lts.Need-same-length-6 (expression-claims t) (expression-at t) expression.Post
 expression-same-length-6 t c =
@@ -716,8 +713,8 @@ expression-returns-6 t c =
     let p2 = c .before .before in
     let p5 = p2 .before .before .before in
     let p7 = p5 .before .before in
-    let p9 = p7 .before .before in
-    λ l table C v. arm-array _ _ (p9 .if1 .left) _ (p7 .rule .ensures) (p5 .enum-told5 .given .1) (p2 .array .ensures l table C v)
+    let p8 = p7 .before in
+    λ l table C v. arm-array _ _ (p8 .if1 .left) _ (p7 .rule .ensures) (p5 .enum-told5 .given .1) (p2 .array .ensures l table C v)
 
 expression-same-length-7 : (t : ℕ) → expression-lts.Need-same-length-7 (expression-claims t) (expression-at t) expression.Post
 expression-same-length-7 t c =
@@ -729,8 +726,8 @@ expression-returns-7 t c =
     let p2 = c .before .before in
     let p5 = p2 .before .before .before in
     let p7 = p5 .before .before in
-    let p9 = p7 .before .before in
-    λ l table C v. arm-variable _ _ (p9 .if1 .left) _ (p7 .rule .ensures) v (p5 .enum-told6 .given .1) (p2 .variable .ensures l table)
+    let p8 = p7 .before in
+    λ l table C v. arm-variable _ _ (p8 .if1 .left) _ (p7 .rule .ensures) v (p5 .enum-told6 .given .1) (p2 .variable .ensures l table)
 
 expression-same-length-8 : (t : ℕ) → expression-lts.Need-same-length-8 (expression-claims t) (expression-at t) expression.Post
 expression-same-length-8 t c =
@@ -743,8 +740,8 @@ expression-returns-8 t c =
     let p3 = p2 .before in
     let p6 = p3 .before .before .before in
     let p8 = p6 .before .before in
-    let p10 = p8 .before .before in
-    λ l table C v. arm-this _ _ (p10 .if1 .left) _ (p8 .rule .ensures) _ (p6 .enum-told7 .given .1) (p3 .position .ensures) (p2 .emit3 .ensures l table _ tt)
+    let p9 = p8 .before in
+    λ l table C v. arm-this _ _ (p9 .if1 .left) _ (p8 .rule .ensures) _ (p6 .enum-told7 .given .1) (p3 .position .ensures) (p2 .emit3 .ensures l table _ tt)
 
 expression-same-length-9 : (t : ℕ) → expression-lts.Need-same-length-9 (expression-claims t) (expression-at t) expression.Post
 expression-same-length-9 t c =
@@ -756,8 +753,8 @@ expression-returns-9 t c =
     let p2 = c .before .before in
     let p5 = p2 .before .before .before in
     let p7 = p5 .before .before in
-    let p9 = p7 .before .before in
-    λ l table C v. arm-call _ _ (p9 .if1 .left) _ (p7 .rule .ensures) (p5 .enum-told8 .given .1) (p2 .call .ensures l table C v)
+    let p8 = p7 .before in
+    λ l table C v. arm-call _ _ (p8 .if1 .left) _ (p7 .rule .ensures) (p5 .enum-told8 .given .1) (p2 .call .ensures l table C v)
 
 expression-same-length-10 : (t : ℕ) → expression-lts.Need-same-length-10 (expression-claims t) (expression-at t) expression.Post
 expression-same-length-10 t c =
@@ -769,8 +766,8 @@ expression-returns-10 t c =
     let p2 = c .before .before in
     let p5 = p2 .before .before .before in
     let p7 = p5 .before .before in
-    let p9 = p7 .before .before in
-    λ l table C v. arm-chain _ _ (p9 .if1 .left) _ (p7 .rule .ensures) C v (p5 .enum-told9 .given .1) (p2 .chain .ensures l table C)
+    let p8 = p7 .before in
+    λ l table C v. arm-chain _ _ (p8 .if1 .left) _ (p7 .rule .ensures) C v (p5 .enum-told9 .given .1) (p2 .chain .ensures l table C)
 
 expression-same-length-11 : (t : ℕ) → expression-lts.Need-same-length-11 (expression-claims t) (expression-at t) expression.Post
 expression-same-length-11 t c =
@@ -781,10 +778,13 @@ expression-returns-11 : (t : ℕ) → expression-lts.Need-returns-11 (expression
 expression-returns-11 t c =
     let p2 = c .before .before in
     let p3 = p2 .before in
-    let p6 = p3 .before .before .before in
-    let p8 = p6 .before .before in
+    let p7 = p3 .before .before .before .before in
+    let p8 = p7 .before in
     let p10 = p8 .before .before in
-    λ l table C v. arm-and _ _ (p10 .if1 .left) _ (p8 .rule .ensures) _ (λ a h f. p3 .end-of .ensures ∙ end-right _ _ h f) (p6 .enum-told10 .given .1) (p2 .short-circuit .ensures l table C v)
+    let p11 = p10 .before in
+    λ l table C v.
+    arm-and _ _ (p11 .if1 .left) _ (p10 .rule .ensures) _ (λ a h f. end-held _ _ (p3 .end-of .ensures) h f)
+    (p8 .enum-told10 .given .1) (p2 .short-circuit .ensures l table C v)
 
 expression-same-length-12 : (t : ℕ) → expression-lts.Need-same-length-12 (expression-claims t) (expression-at t) expression.Post
 expression-same-length-12 t c =
@@ -795,10 +795,13 @@ expression-returns-12 : (t : ℕ) → expression-lts.Need-returns-12 (expression
 expression-returns-12 t c =
     let p2 = c .before .before in
     let p3 = p2 .before in
-    let p6 = p3 .before .before .before in
-    let p8 = p6 .before .before in
+    let p7 = p3 .before .before .before .before in
+    let p8 = p7 .before in
     let p10 = p8 .before .before in
-    λ l table C v. arm-or _ _ (p10 .if1 .left) _ (p8 .rule .ensures) _ (λ a h f. p3 .end-of2 .ensures ∙ end-right _ _ h f) (p6 .enum-told11 .given .1) (p2 .short-circuit2 .ensures l table C v)
+    let p11 = p10 .before in
+    λ l table C v.
+    arm-or _ _ (p11 .if1 .left) _ (p10 .rule .ensures) _ (λ a h f. end-held _ _ (p3 .end-of2 .ensures) h f)
+    (p8 .enum-told11 .given .1) (p2 .short-circuit2 .ensures l table C v)
 
 expression-same-length-13 : (t : ℕ) → expression-lts.Need-same-length-13 (expression-claims t) (expression-at t) expression.Post
 expression-same-length-13 t c =
@@ -809,10 +812,13 @@ expression-returns-13 : (t : ℕ) → expression-lts.Need-returns-13 (expression
 expression-returns-13 t c =
     let p2 = c .before .before in
     let p3 = p2 .before in
-    let p6 = p3 .before .before .before in
-    let p8 = p6 .before .before in
+    let p7 = p3 .before .before .before .before in
+    let p8 = p7 .before in
     let p10 = p8 .before .before in
-    λ l table C v. arm-coalesce _ _ (p10 .if1 .left) _ (p8 .rule .ensures) _ (λ a h f. p3 .end-of3 .ensures ∙ end-right _ _ h f) C v (p6 .enum-told12 .given .1) (p2 .coalesce .ensures l table C v)
+    let p11 = p10 .before in
+    λ l table C v.
+    arm-coalesce _ _ (p11 .if1 .left) _ (p10 .rule .ensures) _ (λ a h f. end-held _ _ (p3 .end-of3 .ensures) h f) C v
+    (p8 .enum-told12 .given .1) (p2 .coalesce .ensures l table C v)
 
 expression-same-length-14 : (t : ℕ) → expression-lts.Need-same-length-14 (expression-claims t) (expression-at t) expression.Post
 expression-same-length-14 t c =
@@ -824,8 +830,8 @@ expression-returns-14 t c =
     let p2 = c .before .before in
     let p5 = p2 .before .before .before in
     let p7 = p5 .before .before in
-    let p9 = p7 .before .before in
-    λ l table C v. arm-residual _ _ (p9 .if1 .left) _ (p7 .rule .ensures) (p5 .enum-told13 .given .1) (p2 .residual2 .ensures l table _)
+    let p8 = p7 .before in
+    λ l table C v. arm-residual _ _ (p8 .if1 .left) _ (p7 .rule .ensures) (p5 .enum-told13 .given .1) (p2 .residual2 .ensures l table _)
 
 interpolated-emit-requires : (t : ℕ) → interpolated-lts.Need-emit-requires (interpolated-claims t) (interpolated-at t) interpolated.Post
 interpolated-emit-requires t c κs = search needs
@@ -1163,7 +1169,6 @@ pub +array+call+chain+coalesce+expression+interpolated+short-circuit+siblings+wa
     (expression-residual-requires t)
     (expression-same-length t)
     (expression-returns t)
-    (expression-element-copy-out-code t)
     (expression-rule-requires t)
     (expression-enum-told t)
     (expression-field-a-requires t)

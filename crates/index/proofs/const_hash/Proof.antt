@@ -10,18 +10,18 @@ kind-requires c κs = search needs
 field-a-requires : tie.Need-field-a-requires
 field-a-requires c κs = search needs
 
-text-requires : tie.Need-text-requires
-text-requires c κs = search needs
+sums-at-requires : tie.Need-sums-at-requires
+sums-at-requires c κs = search needs
 
-hash-bytes-requires : tie.Need-hash-bytes-requires
-hash-bytes-requires c κs = search needs
+hash-text-requires : tie.Need-hash-text-requires
+hash-text-requires c κs = search needs
 
 returns : tie.Need-returns
 returns c =
     let fa = c .before .before .before in
-    let a = fa .before .before .before .args in
-    read-string (a .s .now) (a .j) (fa .before .kind .ensures) (fa .field-a .ensures)
-    (c .before .text .ensures) (c .hash-bytes .ensures) (c .before .before .if1 .taken)
+    let a = fa .before .before .before .before .args in
+    read-string (a .s .now) (a .j) _ (a .x .now) (fa .before .kind .ensures) (fa .field-a .ensures)
+    (c .before .sums-at .ensures) (c .hash-text .ensures) (c .before .before .if1 .taken)
 
 field-b-requires : tie.Need-field-b-requires
 field-b-requires c κs = search needs
@@ -32,8 +32,8 @@ number-hash-requires c κs = search needs
 returns-2 : tie.Need-returns-2
 returns-2 c =
     let fa = c .before .before .before in
-    let a = fa .before .before .before .args in
-    read-number (a .s .now) (a .j) (fa .before .kind .ensures) (fa .field-a .ensures)
+    let a = fa .before .before .before .before .args in
+    read-number (a .s .now) (a .j) _ (a .x .now) (fa .before .kind .ensures) (fa .field-a .ensures)
     (c .before .field-b .ensures) (c .number-hash .ensures) (c .before .before .if1 .left)
 
 pub const-hash-spec : {M : Type 1} → statement M
@@ -42,8 +42,8 @@ const-hash-spec =
     (tie.spec
     kind-requires
     field-a-requires
-    text-requires
-    hash-bytes-requires
+    sums-at-requires
+    hash-text-requires
     returns
     field-b-requires
     number-hash-requires

@@ -1,9 +1,14 @@
 -- `local_slots::begin` meets its contract.
-use mathlib.Core.Path.{_∙_}
 use Rattle.local_slots.proofs.SettleLaws.{begins-few, begins-many}
 use borrow.Author.Needs.{needs}
 use Rattle.local_slots.proofs.begin.Statement.{statement}
 use Rattle.local_slots.proofs.begin.Tie as tie
+
+sums-at-requires : tie.Need-sums-at-requires
+sums-at-requires c κs = search needs
+
+fill-requires : tie.Need-fill-requires
+fill-requires c κs = search needs
 
 local-count-requires : tie.Need-local-count-requires
 local-count-requires c κs = search needs
@@ -18,7 +23,12 @@ returns : tie.Need-returns
 returns c =
     let cleared = c .before .before in
     let test = cleared .before .before in
-    begins-few _ _ (test .before .local-count .ensures) (test .if1 .taken) (cleared .clear-index .ensures) (cleared .clear-index .kept .0)
+    let counted = test .before in
+    let filled = counted .before .before .before in
+    let place = filled .before in
+    let a = place .before .before .before .before .args in
+    begins-few (a .s .now) (a .l) (a .x .now) (place .sums-at .ensures) (filled .fill .ensures) _
+    (counted .local-count .ensures) (test .if1 .taken) (cleared .clear-index .ensures) (cleared .clear-index .kept .0)
 
 prepare-requires : tie.Need-prepare-requires
 prepare-requires c κs = search needs
@@ -33,13 +43,19 @@ returns-2 : tie.Need-returns-2
 returns-2 c =
     let cleared = c .before .before in
     let told = cleared .before .before .before .before in
-    begins-many _ _ _ (told .prepare .kept .1 .0) (told .prepare .ensures) (cleared .clear-index2 .ensures)
-    (cleared .clear-index2 .kept .0 ∙ told .prepare .kept .1 .0)
+    let counted = told .before .before .before in
+    let filled = counted .before .before .before in
+    let place = filled .before in
+    let a = place .before .before .before .before .args in
+    begins-many (a .s .now) (a .l) (a .x .now) (place .sums-at .ensures) (filled .fill .ensures) _ _
+    (told .prepare .kept .1 .0) (told .prepare .ensures) (cleared .clear-index2 .ensures) (cleared .clear-index2 .kept .0)
 
 pub begin-spec : {M : Type 1} → statement M
 begin-spec =
     tie.close
     (tie.spec
+    sums-at-requires
+    fill-requires
     local-count-requires
     clear-index-requires
     same-length

@@ -16,11 +16,11 @@ name-index-requires c κs = search needs
 field-a-requires : tie.Need-field-a-requires
 field-a-requires c κs = search needs
 
-text-requires : tie.Need-text-requires
-text-requires c κs = search needs
+sums-at-requires : tie.Need-sums-at-requires
+sums-at-requires c κs = search needs
 
-hash-bytes-requires : tie.Need-hash-bytes-requires
-hash-bytes-requires c κs = search needs
+hash-text-requires : tie.Need-hash-text-requires
+hash-text-requires c κs = search needs
 
 seek-text-requires : tie.Need-seek-text-requires
 seek-text-requires c κs = search needs
@@ -40,12 +40,13 @@ returns-2 c =
     let place = put .before in
     let sought = place .before .before in
     let hashed = sought .before .before in
-    let bytes = hashed .before in
-    let number = bytes .before in
+    let kept = hashed .before in
+    let number = kept .before .before in
     let index = number .before in
     let test = index .before in
-    meets-old (test .before .kind .ensures) (test .if1 .left) (index .name-index .ensures) (number .field-a .ensures) (bytes .text .ensures)
-    (hashed .hash-bytes .ensures) (sought .seek-text .ensures) (place .chain-place .ensures) (put .put .ensures) (c .if2 .taken)
+    meets-old (test .before .kind .ensures) (test .if1 .left) (index .name-index .ensures) (number .field-a .ensures)
+    (kept .sums-at .ensures) (hashed .hash-text .ensures) (sought .seek-text .ensures) (place .chain-place .ensures)
+    (put .put .ensures) (c .if2 .taken)
 
 token-place-requires : tie.Need-token-place-requires
 token-place-requires c κs = search needs
@@ -84,13 +85,14 @@ returns-3 c =
     let place = put .before in
     let sought = place .before .before in
     let hashed = sought .before .before in
-    let bytes = hashed .before in
-    let number = bytes .before in
+    let kept = hashed .before in
+    let number = kept .before .before in
     let index = number .before in
     let test = index .before in
-    meets-new (test .before .kind .ensures) (test .if1 .left) (index .name-index .ensures) (number .field-a .ensures) (bytes .text .ensures)
-    (hashed .hash-bytes .ensures) (sought .seek-text .ensures) (place .chain-place .ensures) (put .put .ensures)
-    (asked .if2 .left) (zeroed .token-place .ensures) (second .put2 .ensures) (named .name-place .ensures) (third .put3 .ensures)
+    meets-new (test .before .kind .ensures) (test .if1 .left) (index .name-index .ensures) (number .field-a .ensures)
+    (kept .sums-at .ensures) (hashed .hash-text .ensures) (sought .seek-text .ensures) (place .chain-place .ensures)
+    (put .put .ensures) (asked .if2 .left) (zeroed .token-place .ensures) (second .put2 .ensures) (named .name-place .ensures)
+    (third .put3 .ensures)
     (linked .link .ensures) (noted .note .ensures) (c .wrapping-add-u32 .ensures)
 
 pub meet-spec : {M : Type 1} → statement M
@@ -101,8 +103,8 @@ meet-spec =
     returns
     name-index-requires
     field-a-requires
-    text-requires
-    hash-bytes-requires
+    sums-at-requires
+    hash-text-requires
     seek-text-requires
     chain-place-requires
     put-requires

@@ -7,11 +7,11 @@ use Rattle.local_slots.proofs.tell.Tie as tie
 local-text-requires : tie.Need-local-text-requires
 local-text-requires c κs = search needs
 
-text-requires : tie.Need-text-requires
-text-requires c κs = search needs
+sums-at-requires : tie.Need-sums-at-requires
+sums-at-requires c κs = search needs
 
-hash-bytes-requires : tie.Need-hash-bytes-requires
-hash-bytes-requires c κs = search needs
+hash-text-requires : tie.Need-hash-text-requires
+hash-text-requires c κs = search needs
 
 name-index-requires : tie.Need-name-index-requires
 name-index-requires c κs = search needs
@@ -27,8 +27,9 @@ returns c =
     let sought = c .before in
     let index = sought .before in
     let hashed = index .before .before in
-    let bytes = hashed .before in
-    tells-none (bytes .before .local-text .ensures) (bytes .text .ensures) (hashed .hash-bytes .ensures) (index .name-index .ensures)
+    let kept = hashed .before in
+    let number = kept .before .before in
+    tells-none (number .local-text .ensures) (kept .sums-at .ensures) (hashed .hash-text .ensures) (index .name-index .ensures)
     (sought .seek-text .ensures) (c .if1 .taken)
 
 token-place-requires : tie.Need-token-place-requires
@@ -52,8 +53,9 @@ returns-2 c =
     let sought = asked .before in
     let index = sought .before in
     let hashed = index .before .before in
-    let bytes = hashed .before in
-    tells-one (bytes .before .local-text .ensures) (bytes .text .ensures) (hashed .hash-bytes .ensures) (index .name-index .ensures)
+    let kept = hashed .before in
+    let number = kept .before .before in
+    tells-one (number .local-text .ensures) (kept .sums-at .ensures) (hashed .hash-text .ensures) (index .name-index .ensures)
     (sought .seek-text .ensures) (asked .if1 .left) (place .token-place .ensures)
     (more .wrapping-add-u32 .ensures) (put .put .ensures)
 
@@ -62,8 +64,8 @@ tell-spec =
     tie.close
     (tie.spec
     local-text-requires
-    text-requires
-    hash-bytes-requires
+    sums-at-requires
+    hash-text-requires
     name-index-requires
     seek-text-requires
     same-length

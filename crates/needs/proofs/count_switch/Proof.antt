@@ -10,14 +10,9 @@ slice-aggregate-planned c = search needs
 planned-requires : tie.Need-planned-requires
 planned-requires c κs = search needs
 
-same-length : tie.Need-same-length
-same-length c = search needs
-
 returns : tie.Need-returns
-returns c =
-    let plans = c .before .before in
-    λ z ok k. asked-counts _ _ _ (plans .planned .ensures z ok k)
+returns c = (λ z ok k. asked-counts _ _ _ (c .planned .ensures .0 z ok k), c .planned .ensures .1)
 
 pub count-switch-spec : {M : Type 1} → statement M
 count-switch-spec =
-    tie.close (tie.spec slice-aggregate-planned planned-requires same-length returns)
+    tie.close (tie.spec slice-aggregate-planned planned-requires returns)

@@ -9,19 +9,15 @@ use Rattle.needs.proofs.counts.Tie as tie
 kind-requires : tie.Need-kind-requires
 kind-requires c κs = search needs
 
-slice-aggregate-count-switch : tie.Need-slice-aggregate-count-switch
-slice-aggregate-count-switch c = search needs
-
 count-switch-requires : tie.Need-count-switch-requires
 count-switch-requires c κs = search needs
 
 returns : tie.Need-returns
 returns c =
-    let counts = c .before in
-    let test = counts .before .before in
+    let test = c .before .before in
     λ ok.
     let h = sym (test .before .kind .ensures) ∙ test .if1 .taken in
-    switch-counted _ _ h (exact-total _ _ _ (counts .count-switch .ensures refl ok h))
+    switch-counted _ _ h (exact-total _ _ _ (c .count-switch .ensures .0 refl ok h))
 
 count-plain-requires : tie.Need-count-plain-requires
 count-plain-requires c κs = search needs
@@ -36,7 +32,6 @@ counts-spec =
     tie.close
     (tie.spec
     kind-requires
-    slice-aggregate-count-switch
     count-switch-requires
     returns
     count-plain-requires

@@ -22,20 +22,17 @@ greatest-requires c κs = search needs
 least-requires : tie.Need-least-requires
 least-requires c κs = search needs
 
-refusal-requires : tie.Need-refusal-requires
-refusal-requires c κs = search needs
-
-refusal-requires-2 : tie.Need-refusal-requires-2
-refusal-requires-2 c κs = search needs
+alike-requires : tie.Need-alike-requires
+alike-requires c κs = search needs
 
 returns-2 : tie.Need-returns-2
 returns-2 c =
-    let counts = c .before .before .before in
+    let counts = c .before .before in
     let most = counts .before in
     λ h.
     let between = plain-between _ h in
     greater-decides _ _ _ _ _ _ (between .0) (between .1) (cut-back _ (counts .least .ensures)) (cut-back _ (most .greatest .ensures))
-    (most .before .node-count .ensures) (c .before .before .refusal .ensures) (c .before .refusal2 .ensures) (c .if2 .taken)
+    (most .before .node-count .ensures) (c .before .alike .ensures) (c .if2 .taken)
 
 count-plain-requires-2 : tie.Need-count-plain-requires-2
 count-plain-requires-2 c κs = search needs
@@ -53,8 +50,7 @@ plain-counts-spec =
     node-count-requires
     greatest-requires
     least-requires
-    refusal-requires
-    refusal-requires-2
+    alike-requires
     returns-2
     count-plain-requires-2
     returns-3)

@@ -10,14 +10,11 @@ read-requires c κs = search needs
 count-requires : tie.Need-count-requires
 count-requires c κs = search needs
 
-same-length : tie.Need-same-length
-same-length c = search needs
-
 returns : tie.Need-returns
 returns c =
-    let counts = c .before .before in
-    let reads = counts .before .before .before .before in
-    λ z ok k. counts .count .ensures (reads .read .kept .1 .1 .0 ∙ z) ok k (reads .read .ensures z ok k)
+    let reads = c .before .before in
+    let sized = reads .read .kept .1 .1 .0 in
+    (λ z ok k. c .count .ensures (sized ∙ z) ok k (reads .read .ensures z ok k), c .count .kept .1 .1 .0 ∙ sized)
 
 pub planned-spec : {M : Type 1} → statement M
-planned-spec = tie.close (tie.spec read-requires count-requires same-length returns)
+planned-spec = tie.close (tie.spec read-requires count-requires returns)

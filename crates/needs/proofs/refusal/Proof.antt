@@ -7,37 +7,48 @@ use Rattle.needs.proofs.refusal.Tie as tie
 over-limits-requires : tie.Need-over-limits-requires
 over-limits-requires c κs = search needs
 
-returns : tie.Need-returns
-returns c = early-over _ _ (over-told _ _ _ (c .before .over-limits .ensures)) (c .if1 .taken)
+enum-known-k : tie.Need-enum-known-k
+enum-known-k c = search needs
+
+enum-told : tie.Need-enum-told
+enum-told c = search needs
 
 cast-scratch-words : tie.Need-cast-scratch-words
 cast-scratch-words c =
-    let test = c .before in
-    let few = over-few (over-told _ _ _ (test .before .over-limits .ensures)) (test .if1 .left) in
+    let told = c .before in
+    let over = told .before .before in
+    let few = over-few (over-told _ _ _ (over .over-limits .ensures)) (told .enum-told .given .1) in
     search needs
 
 scratch-words-requires : tie.Need-scratch-words-requires
 scratch-words-requires c κs = search needs
 
+returns : tie.Need-returns
+returns c =
+    let told = c .before .before .before in
+    let way = over-told _ _ _ (told .before .before .over-limits .ensures) in
+    early-short _ _ (c .before .scratch-words .ensures) way (told .enum-told .given .1) (c .if1 .taken)
+
 returns-2 : tie.Need-returns-2
 returns-2 c =
-    let test = c .before .before .before in
-    let way = over-told _ _ _ (test .before .over-limits .ensures) in
-    early-short _ _ (c .before .scratch-words .ensures) way (test .if1 .left) (c .if2 .taken)
+    let match = c .before in
+    early-over _ _ (over-told _ _ _ (match .before .before .over-limits .ensures)) (match .k .given .1)
 
 returns-3 : tie.Need-returns-3
 returns-3 c =
-    let test = c .before .before .before in
-    let way = over-told _ _ _ (test .before .over-limits .ensures) in
-    early-none _ _ (c .before .scratch-words .ensures) way (test .if1 .left) (c .if2 .left)
+    let told = c .before .before .before in
+    let way = over-told _ _ _ (told .before .before .over-limits .ensures) in
+    early-none _ _ (c .before .scratch-words .ensures) way (told .enum-told .given .1) (c .if1 .left)
 
 pub refusal-spec : {M : Type 1} → statement M
 refusal-spec =
     tie.close
     (tie.spec
     over-limits-requires
-    returns
+    enum-known-k
+    enum-told
     cast-scratch-words
     scratch-words-requires
+    returns
     returns-2
     returns-3)

@@ -1,5 +1,5 @@
 -- `needs::settle` meets its contract: the table is counted by its own locals already, or it is now.
-use mathlib.Core.Path.{sym, _∙_}
+use mathlib.Core.Path.{refl}
 use native.Mathlib.Omega.{arith}
 use Rattle.needs.proofs.CountedLaws.{exact-table}
 use borrow.Author.Needs.{needs}
@@ -10,20 +10,15 @@ local-count-requires : tie.Need-local-count-requires
 local-count-requires c κs = search needs
 
 returns : tie.Need-returns
-returns c = λ z ok k was. was (omega (arith, c .before .local-count .ensures, c .if1 .taken))
+returns c = (λ z ok k was. was (omega (arith, c .before .local-count .ensures, c .if1 .taken)), refl)
 
 count-switch-requires : tie.Need-count-switch-requires
 count-switch-requires c κs = search needs
 
-same-length : tie.Need-same-length
-same-length c = search needs
-
 returns-2 : tie.Need-returns-2
-returns-2 c =
-    let plans = c .before .before in
-    λ z ok k was. exact-table _ _ _ (plans .count-switch .ensures z ok k)
+returns-2 c = (λ z ok k was. exact-table _ _ _ (c .count-switch .ensures .0 z ok k), c .count-switch .ensures .1)
 
 pub settle-spec : {M : Type 1} → statement M
 settle-spec =
     tie.close
-    (tie.spec local-count-requires returns count-switch-requires same-length returns-2)
+    (tie.spec local-count-requires returns count-switch-requires returns-2)

@@ -1,101 +1,42 @@
--- `slots::resolve` meets its contract. Invariant: the answer among the locals left is the answer among all.
+-- `slots::resolve` meets its contract: by bytes, or by lengths first.
 use borrow.Author.Needs.{needs}
-use native.Mathlib.Omega.{arith}
-use Prim.Native.Nat.{_≤_}
-use mathlib.Core.Path.{_≡_, sym, ap, ap₂, _∙_}
-use Rattle.text.specs.Same.{same}
-use Rattle.sheet.specs.Text.{text}
-use Rattle.lowering.specs.Slots.{resolveBelow, resolve}
+use mathlib.Core.Path.{ap, _∙_}
+use Rattle.lowering.specs.Slots.{resolve}
 use Rattle.slots.specs.Found.{found}
-use Rattle.slots.specs.SlotLaws.{search-starts, search-finds, search-passes, search-ends}
 use Rattle.slots.proofs.resolve.Statement.{statement}
 use Rattle.slots.proofs.resolve.Tie as tie
 
-abbrev Inv-loop : tie.InvT-loop
-Inv-loop s t name left₀ left = (left ≤ left₀) × (found (resolveBelow left s (text s t)) ≡ found (resolve s (text s t)))
-
-abbrev μ-loop : tie.MeasureT-loop
-μ-loop s t name left₀ left = left
-
-text-requires : tie.Need-text-requires Inv-loop μ-loop
+text-requires : tie.Need-text-requires
 text-requires c κs = search needs
 
-local-count-requires : tie.Need-local-count-requires Inv-loop μ-loop
-local-count-requires c κs = search needs
+ends-with-requires : tie.Need-ends-with-requires
+ends-with-requires c κs = search needs
 
-loop-holds : tie.Need-loop-holds Inv-loop μ-loop
-loop-holds c =
-    let a = c .before .before .before .args in
-    (omega arith, cc (search-starts (a .s .now) (text (a .s .now) (a .t))))
+by-bytes-requires : tie.Need-by-bytes-requires
+by-bytes-requires c κs = search needs
 
-sub-left : tie.Need-sub-left Inv-loop μ-loop
-sub-left c = search needs
-
-local-text-requires : tie.Need-local-text-requires Inv-loop μ-loop
-local-text-requires c κs = search needs
-
-text-requires-2 : tie.Need-text-requires-2 Inv-loop μ-loop
-text-requires-2 c κs = search needs
-
-same-bytes-requires : tie.Need-same-bytes-requires Inv-loop μ-loop
-same-bytes-requires c κs = search needs
-
-returns : tie.Need-returns Inv-loop μ-loop
+returns : tie.Need-returns
 returns c =
-    let asked = c .before in
-    let test = asked .before .before .before in
-    let w = test .before .loop in
-    let read = test .before .before .before in
-    let a = read .before .before .args in
-    let s = a .s .now in
-    let name-is = asked .before .text2 .ensures ∙ ap (text s) (asked .before .before .local-text .ensures) in
-    let same-is = asked .same-bytes .ensures ∙ ap₂ same name-is (read .text .ensures) in
-    sym
-    (sym (w .inv .1)
-    ∙ search-finds s (text s (a .t)) (w .left) (test .loop-test .taken)
-    (sym same-is ∙ c .if1 .taken))
-
-loop-less : tie.Need-loop-less Inv-loop μ-loop
-loop-less c = search needs
-
-loop-again : tie.Need-loop-again Inv-loop μ-loop
-loop-again c =
-    let asked = c .before in
-    let test = asked .before .before .before in
-    let w = test .before .loop in
-    let read = test .before .before .before in
-    let a = read .before .before .args in
-    let s = a .s .now in
-    let name-is = asked .before .text2 .ensures ∙ ap (text s) (asked .before .before .local-text .ensures) in
-    let same-is = asked .same-bytes .ensures ∙ ap₂ same name-is (read .text .ensures) in (
-      omega arith,
-      sym
-          (search-passes s (text s (a .t)) (w .left) (test .loop-test .taken)
-          (sym same-is ∙ c .if1 .left))
-          ∙ w .inv .1,
-    )
-
-returns-2 : tie.Need-returns-2 Inv-loop μ-loop
-returns-2 c =
-    let w = c .before .loop in
     let read = c .before .before .before in
-    let a = read .before .before .args in
-    sym (sym (w .inv .1) ∙ search-ends (a .s .now) (text (a .s .now) (a .t)) (w .left) (c .loop-test .left))
+    let s = read .before .before .args .s .now in
+    c .by-bytes .ensures ∙ ap (λ x. found (resolve s x)) (read .text .ensures)
+
+by-length-requires : tie.Need-by-length-requires
+by-length-requires c κs = (c .before .before .text .ensures, c .before .ends-with .ensures (c .if1 .left))
+
+returns-2 : tie.Need-returns-2
+returns-2 c =
+    let read = c .before .before .before in
+    let s = read .before .before .args .s .now in
+    c .by-length .ensures ∙ ap (λ x. found (resolve s x)) (read .text .ensures)
 
 pub resolve-spec : {M : Type 1} → statement M
 resolve-spec =
     tie.close
     (tie.spec
-    Inv-loop
-    μ-loop
     text-requires
-    local-count-requires
-    loop-holds
-    sub-left
-    local-text-requires
-    text-requires-2
-    same-bytes-requires
+    ends-with-requires
+    by-bytes-requires
     returns
-    loop-less
-    loop-again
+    by-length-requires
     returns-2)

@@ -27,10 +27,10 @@ same-length c = search needs
 returns : tie.Need-returns
 returns c =
     let p4 = c .before .before .before .before in
-    let p6 = p4 .before .before in
-    let p10 = p6 .before .before .before .before in
-    adds-any (p6 .layout-of .ensures)
-    (const-adds-old (p10 .args .s .now) (p6 .layout-of .result) (p10 .args .x .now) (p10 .args .c .now) (p10 .args .j) _ _
+    let p7 = p4 .before .before .before in
+    let p11 = p7 .before .before .before .before in
+    adds-any (p7 .layout-of .ensures)
+    (const-adds-old (p11 .args .s .now) (p7 .layout-of .result) (p11 .args .x .now) (p11 .args .c .now) (p11 .args .j) _ _
     (p4 .const-hash .ensures) (finds-at (c .before .before .before .const-index .ensures) (c .before .seek-const .ensures)) (c .if1 .taken))
 
 const-place-requires : tie.Need-const-place-requires
@@ -63,15 +63,15 @@ returns-2 c =
     let p11 = p9 .before .before in
     let p14 = p11 .before .before .before in
     let p15 = p14 .before in
-    let p17 = p15 .before .before in
-    let p21 = p17 .before .before .before .before in
-    adds-any (p17 .layout-of .ensures)
-    (const-adds-new (p21 .args .s .now) (p17 .layout-of .result) (p21 .args .x .now) (p21 .args .c .now) (p21 .args .j) _ _
+    let p18 = p15 .before .before .before in
+    let p22 = p18 .before .before .before .before in
+    adds-any (p18 .layout-of .ensures)
+    (const-adds-new (p22 .args .s .now) (p18 .layout-of .result) (p22 .args .x .now) (p22 .args .c .now) (p22 .args .j) _ _
     (p15 .const-hash .ensures)
     (finds-at (p14 .const-index .ensures) (p11 .before .seek-const .ensures)) _ (p11 .if1 .left) (p9 .const-place .ensures)
     (p8 .put .ensures)
     (p14 .const-index .ensures) (p4 .link .ensures) (p3 .note .ensures)
-    (λ full. const-of (p21 .args .c .now) full _ (c .wrapping-add-u32 .ensures)))
+    (λ full. const-of (p22 .args .c .now) full _ (c .wrapping-add-u32 .ensures)))
 
 pub add-const-spec : {M : Type 1} → statement M
 add-const-spec =

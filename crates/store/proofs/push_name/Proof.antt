@@ -28,12 +28,12 @@ same-length c = search needs
 returns : tie.Need-returns
 returns c = λ l text mark.
     let p4 = c .before .before .before .before in
-    let p6 = p4 .before .before in
-    let p10 = p6 .before .before .before .before in
-    let s = p10 .args .s .now in
-    adds-any (p6 .layout-of .ensures)
-    (name-adds-old s (p6 .layout-of .result) (p10 .args .x .now) (p10 .args .c .now) (p10 .args .k) (p10 .args .t) _ _
-    (p10 .args .m) (name-read s (p10 .args .k) text mark) (p4 .name-hash .ensures) (finds-at
+    let p7 = p4 .before .before .before in
+    let p11 = p7 .before .before .before .before in
+    let s = p11 .args .s .now in
+    adds-any (p7 .layout-of .ensures)
+    (name-adds-old s (p7 .layout-of .result) (p11 .args .x .now) (p11 .args .c .now) (p11 .args .k) (p11 .args .t) _ _
+    (p11 .args .m) (name-read s (p11 .args .k) text mark) (p4 .name-hash .ensures) (finds-at
     (c .before .before .before .name-index .ensures) (c .before .seek-name .ensures)) (c .if1 .taken)) l
 
 name-place-requires : tie.Need-name-place-requires
@@ -66,15 +66,15 @@ returns-2 c = λ l text mark.
     let p11 = p9 .before .before in
     let p14 = p11 .before .before .before in
     let p15 = p14 .before in
-    let p17 = p15 .before .before in
-    let p21 = p17 .before .before .before .before in
-    let s = p21 .args .s .now in
-    adds-any (p17 .layout-of .ensures)
-    (name-adds-new s (p17 .layout-of .result) (p21 .args .x .now) (p21 .args .c .now) (p21 .args .k) (p21 .args .t) _ _
-    (p21 .args .m) (name-read s (p21 .args .k) text mark) (p15 .name-hash .ensures)
+    let p18 = p15 .before .before .before in
+    let p22 = p18 .before .before .before .before in
+    let s = p22 .args .s .now in
+    adds-any (p18 .layout-of .ensures)
+    (name-adds-new s (p18 .layout-of .result) (p22 .args .x .now) (p22 .args .c .now) (p22 .args .k) (p22 .args .t) _ _
+    (p22 .args .m) (name-read s (p22 .args .k) text mark) (p15 .name-hash .ensures)
     (finds-at (p14 .name-index .ensures) (p11 .before .seek-name .ensures)) _ (p11 .if1 .left)
     (p9 .name-place .ensures) (p8 .put .ensures) (p14 .name-index .ensures) (p4 .name-link .ensures) (p3 .note .ensures)
-    (λ full. name-of (p21 .args .c .now) full _ (c .wrapping-add-u32 .ensures))) l
+    (λ full. name-of (p22 .args .c .now) full _ (c .wrapping-add-u32 .ensures))) l
 
 pub push-name-spec : {M : Type 1} → statement M
 push-name-spec =

@@ -14,16 +14,16 @@ node-count-requires c κs = search needs
 refusal-requires : tie.Need-refusal-requires
 refusal-requires c κs = search needs
 
-returns : tie.Need-returns
-returns c =
-    let counted = c .before .before .before in
-    λ ok h. refused-early _ _ _ _ _ _ ok (counted .plain-counts .ensures h) (c .before .before .node-count .ensures)
-    (c .before .refusal .ensures) (c .if1 .taken)
+enum-known-k : tie.Need-enum-known-k
+enum-known-k c = search needs
+
+enum-told : tie.Need-enum-told
+enum-told c = search needs
 
 cast-build-plain : tie.Need-cast-build-plain
 cast-build-plain c =
-    let test = c .before .before .before in
-    let few = few-emitted (early-told _ _ _ _ _ (test .before .refusal .ensures)) (test .if1 .left) in
+    let told = c .before .before .before in
+    let few = few-emitted (early-told _ _ _ _ _ (told .before .before .refusal .ensures)) (told .enum-told .given .1) in
     search needs
 
 build-plain-requires : tie.Need-build-plain-requires
@@ -31,6 +31,14 @@ build-plain-requires c κs = search needs
 
 ended-requires : tie.Need-ended-requires
 ended-requires c κs = search needs
+
+returns : tie.Need-returns
+returns c =
+    let match = c .before in
+    let refused = match .before .before in
+    let nodes = refused .before in
+    λ ok h. refused-early _ _ _ _ _ _ ok (nodes .before .plain-counts .ensures h) (nodes .node-count .ensures) (refused .refusal .ensures) _
+    (match .k .given .1)
 
 same-length : tie.Need-same-length
 same-length c = search needs
@@ -42,11 +50,11 @@ returns-2 : tie.Need-returns-2
 returns-2 c =
     let end = c .before .before in
     let built = end .before .before .before .before .before .before in
-    let test = built .before .before .before .before in
-    let refused = test .before in
-    let counted = refused .before .before in
-    λ ok h. answered _ _ _ _ _ _ ok (counted .plain-counts .ensures h) (refused .before .node-count .ensures)
-    (refused .refusal .ensures) (test .if1 .left) _ _ _ _ _ (λ R. built .build-plain .ensures R h) (end .ended .ensures .1)
+    let told = built .before .before .before .before in
+    let refused = told .before .before in
+    let nodes = refused .before in
+    λ ok h. answered _ _ _ _ _ _ ok (nodes .before .plain-counts .ensures h) (nodes .node-count .ensures)
+    (refused .refusal .ensures) (told .enum-told .given .1) _ _ _ _ _ (λ R. built .build-plain .ensures R h) (end .ended .ensures .1)
     (built .build-plain .kept .1 .1 .0) (built .build-plain .kept .1 .0) (end .ended .ensures .0)
 
 pub lower-plain-spec : {M : Type 1} → statement M
@@ -56,10 +64,12 @@ lower-plain-spec =
     plain-counts-requires
     node-count-requires
     refusal-requires
-    returns
+    enum-known-k
+    enum-told
     cast-build-plain
     build-plain-requires
     ended-requires
+    returns
     same-length
     same-length-2
     returns-2)

@@ -1,26 +1,21 @@
--- The sum does not wrap, since the tally is cut off.
-use native.Mathlib.Omega.{arith}
-use Rattle.compile.specs.EndDoes.{capped-len, end-is}
+-- Where the code ends, by the layout that the counts tell.
+use Rattle.compile.proofs.EndLaws.{ends-at}
 use borrow.Author.Needs.{needs}
 use Rattle.compile.proofs.ends.end_of.Statement.{statement}
 use Rattle.compile.proofs.ends.end_of.Tie as tie
 
-exact-requires : tie.Need-exact-requires
-exact-requires c κs = search needs
+layout-of-requires : tie.Need-layout-of-requires
+layout-of-requires c κs = search needs
 
-add-e : tie.Need-add-e
-add-e c =
-    let p1 = c .before in
-    omega (arith, capped-len _ _ (p1 .exact .ensures))
+element-copy-out-behind : tie.Need-element-copy-out-behind
+element-copy-out-behind c = search needs
 
-cast-result : tie.Need-cast-result
-cast-result c = search needs
+behind-requires : tie.Need-behind-requires
+behind-requires c κs = search needs
 
 returns : tie.Need-returns
-returns c =
-    let p1 = c .before in
-    let p3 = p1 .before .before in
-    end-is (p3 .args .code) _ _ (p1 .exact .ensures)
+returns c = ends-at _ _ (c .before .before .layout-of .ensures) (c .behind .ensures)
 
 pub end-of-spec : {M : Type 1} → statement M
-end-of-spec = tie.close (tie.spec exact-requires add-e cast-result returns)
+end-of-spec =
+    tie.close (tie.spec layout-of-requires element-copy-out-behind behind-requires returns)

@@ -2,8 +2,9 @@
 use mathlib.Core.Path.{sym, ap, _∙_}
 use Prim.Native.Nat.{_*_}
 use mathlib.Core.Bool.{not}
+use native.Mathlib.Omega.{arith}
 use lib.Dec.{eqb}
-use Rattle.counting.specs.LocalLaws.{told-none, told-all, told-each}
+use Rattle.counting.specs.LocalLaws.{told-none, told-all, told-each, told-outside}
 use borrow.Author.Needs.{needs}
 use Rattle.counting.proofs.locals.is_local.Statement.{statement}
 use Rattle.counting.proofs.locals.is_local.Tie as tie
@@ -24,6 +25,9 @@ returns-2 c =
     let a = c .before .before .before .before .before .args in
     ap (λ n. not (eqb n 0)) (c .get .ensures) ∙ told-all (a .told .now) (a .s .now) (a .v) (c .before .if2 .taken)
 
+node-count-requires : tie.Need-node-count-requires
+node-count-requires c κs = search needs
+
 mul-get : tie.Need-mul-get
 mul-get c = search needs
 
@@ -32,11 +36,37 @@ get-requires-2 c κs = search needs
 
 returns-3 : tie.Need-returns-3
 returns-3 c =
-    let a = c .before .before .before .before .before .args in
+    let p2 = c .before .before in
+    let p3 = p2 .before in
+    let p4 = p3 .before in
+    let a = p4 .before .before .before .args in
     ap (λ n. not (eqb n 0)) (c .get2 .ensures)
-    ∙ told-each (a .told .now) (a .s .now) (a .v) (c .before .before .if1 .left) (c .before .if2 .left)
+    ∙ told-each (a .told .now) (a .s .now) (a .v) (p4 .if1 .left) (p3 .if2 .left) (p2 .node-count .ensures) (c .before .if3 .taken)
+
+asked-requires-2 : tie.Need-asked-requires-2
+asked-requires-2 c κs = search needs
+
+returns-4 : tie.Need-returns-4
+returns-4 c =
+    let p2 = c .before .before in
+    let p3 = p2 .before in
+    let p4 = p3 .before in
+    let a = p4 .before .before .before .args in
+    c .asked2 .ensures
+    ∙ told-outside (a .told .now) (a .s .now) (a .v) (p4 .if1 .left) (p3 .if2 .left) (p2 .node-count .ensures)
+    (let n = c .before .if3 .left in omega arith)
 
 pub is-local-spec : {M : Type 1} → statement M
 is-local-spec =
     tie.close
-    (tie.spec asked-requires returns get-requires returns-2 mul-get get-requires-2 returns-3)
+    (tie.spec
+    asked-requires
+    returns
+    get-requires
+    returns-2
+    node-count-requires
+    mul-get
+    get-requires-2
+    returns-3
+    asked-requires-2
+    returns-4)

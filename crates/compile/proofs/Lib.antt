@@ -1,0 +1,2 @@
+-- Laws of where a node's code ends.
+mod EndLaws

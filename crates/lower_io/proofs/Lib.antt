@@ -1,0 +1,2 @@
+-- An image that was lowered fits into its buffer.
+mod FitLaws

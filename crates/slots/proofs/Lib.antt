@@ -1,0 +1,2 @@
+-- Laws of names by their lengths.
+pub mod LengthLaws

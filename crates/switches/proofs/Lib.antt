@@ -1,0 +1,2 @@
+-- Laws of the numbers of cases.
+pub mod KeyLaws
