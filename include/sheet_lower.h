@@ -7,7 +7,8 @@
  *  - what is not `const` is writable, and overlaps no other area of the call;
  *  - until the call returns, nothing else writes to any of the areas, or reads one that is not `const`.
  *
- * There is no other duty: any bytes are taken as a sheet, and any words as an image to check. The functions use no heap and no global variable,
+ * There is no other duty: any bytes are taken as a sheet, and any words as an image to check. How long a hostile sheet may take, and how to bound it
+ * by its size, is in docs/FORMAT.md, with what each refusal means and how to cure it. The functions use no heap and no global variable,
  * make no system call, keep nothing between calls and always return, so they may run in several threads at once, each with its own buffers, and
  * again from an interrupted call. Of the C library they need memcpy and memset alone. The compiled code uses SSE registers to move data.
  */
@@ -16,6 +17,12 @@
 
 #include <stddef.h>
 #include <stdint.h>
+
+/* The version of this header and of the archive, which is for x86-64 (CHANGELOG.md). */
+#define SHEET_LOWER_VERSION "0.3.0"
+#define SHEET_LOWER_VERSION_MAJOR 0
+#define SHEET_LOWER_VERSION_MINOR 3
+#define SHEET_LOWER_VERSION_PATCH 0
 
 #ifdef __cplusplus
 extern "C" {
@@ -61,7 +68,7 @@ uint32_t sheet_check(const uint8_t *sheet, size_t sheet_len);
  *              needs of scratch
  *   1 to 10    0                      returns the same number
  *
- * *scratch_words is always written, and never above SHEET_SCRATCH_MOST. The sheet is only read. How long the image will be is not told.
+ * *scratch_words is always written, and never above SHEET_SCRATCH_MOST. The sheet is only read. How long the image will be is not answered.
  */
 uint32_t sheet_needs(const uint8_t *sheet, size_t sheet_len, uint64_t *scratch_words);
 

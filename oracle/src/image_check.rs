@@ -125,7 +125,7 @@ pub fn first_failing(sheet: &Sheet<'_>, image: &[u32]) -> Option<Clause> {
     faults(sheet, image).iter().map(|fault| fault.clause).min()
 }
 
-/// Everything that is wrong, as far as it can be told.
+/// Everything that is wrong, as far as it can be said.
 pub fn faults(sheet: &Sheet<'_>, image: &[u32]) -> Vec<Fault> {
     let mut found = Faults::default();
     if !sizes_agree(image) {

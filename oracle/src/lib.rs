@@ -17,6 +17,7 @@ pub mod image_selftest;
 pub mod limits;
 pub mod random;
 pub mod runs;
+pub mod samples;
 pub mod selftest;
 pub mod sheet;
 pub mod tree;
@@ -80,7 +81,7 @@ fn emitted(sheet: &sheet::Sheet<'_>) -> Result<u64, u32> {
 }
 
 /// What a sheet needs before buffers are lent: 0 and the scratch words that
-/// number 11 asks for, or which of the numbers 1 to 10 turns it down, and 0.
+/// number 11 asks for, or which of the numbers 1 to 10 refuses it, and 0.
 pub fn needs(sheet: &[u8]) -> (u32, u64) {
     let words = |sheet: sheet::Sheet<'_>| {
         let emitted = emitted(&sheet)?;

@@ -317,7 +317,7 @@ fn repeated(draft: &mut Draft, random: &mut Random, emitted: usize) {
     draft.close();
 }
 
-/// 64 cases of 64 Refs and 64 staggered ranges over one dear guard: about
+/// 64 cases of 64 Refs and 64 staggered ranges over one long guard: about
 /// 4,100,000,000 instructions. Nothing of a sheet emits over 4 for a node, and
 /// at most 8,192 mentions are in distinct lists, so there is little above it.
 fn far_too_many(draft: &mut Draft, random: &mut Random, with_eval: bool) {

@@ -57,6 +57,8 @@ oracle bench [--rounds R] FILE...
     time the sheet check and the lowering, in nanoseconds for each sheet
 oracle edges
     print what the program `edges` must print
+oracle sample NAME [--out FILE]
+    write a sheet of samples/: unit, port or twice
 oracle table --seed S --count N --profile P [SIZE] [--out FILE]
     one line for each sheet: its bytes ; image words ; scratch words ; number ;
     the image's words
@@ -532,6 +534,16 @@ fn run_image_vectors(arguments: &Arguments) -> Result<(), String> {
     Ok(())
 }
 
+fn run_sample(arguments: &Arguments) -> Result<(), String> {
+    let name = arguments.rest.first().map_or("", String::as_str);
+    let sheet = oracle::samples::sample(name)
+        .ok_or(format!("no sample {name}; there are unit, port and twice"))?;
+    write_file(
+        arguments.options.get("--out").map_or("-", String::as_str),
+        &sheet,
+    )
+}
+
 fn run_bench(arguments: &Arguments) -> Result<(), String> {
     let rounds = arguments.number("--rounds", 0)?;
     let sheets: Vec<Vec<u8>> = arguments
@@ -691,6 +703,7 @@ fn main() -> ExitCode {
             print!("{}", oracle::edges::lines());
             Ok(true)
         }
+        "sample" => run_sample(&arguments).map(|()| true),
         "bench" => run_bench(&arguments).map(|()| true),
         "compare" => run_compare(&arguments),
         _ => Err(format!("no command {command}; see --help")),

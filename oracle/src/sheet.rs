@@ -448,7 +448,7 @@ fn character_length(bytes: &[u8]) -> usize {
     }
 }
 
-/// Read a sheet, or say which of the numbers 1 to 8 turns it down.
+/// Read a sheet, or say which of the numbers 1 to 8 refuses it.
 pub fn read(sheet: &[u8]) -> Result<Sheet<'_>, u32> {
     let sheet = Sheet::sized(sheet).ok_or(REFUSED_SIZE)?;
     if !sheet.shape_ok() {

@@ -1,4 +1,4 @@
-//! Sheets made to be dear: they must still get their answer soon.
+//! Sheets made to be slow: they must still get their answer soon.
 
 mod common;
 use common::*;

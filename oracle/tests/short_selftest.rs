@@ -80,7 +80,7 @@ fn faults_are_found() {
 }
 
 #[test]
-fn the_dearest_guards() {
+fn the_longest_guards() {
     // Edge 13 of the limits; see there.
     let bytes = oracle::gen::sheet("limits", 1, 26, Size::NORMAL);
     let sheet = oracle::sheet::read(&bytes).unwrap();

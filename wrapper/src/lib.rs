@@ -82,7 +82,7 @@ impl fmt::Display for Refused {
 
 impl core::error::Error for Refused {}
 
-/// Checks a sheet: which of the numbers 1 to 8 turns it down, if any does. `lower` makes the same check by itself.
+/// Checks a sheet: which of the numbers 1 to 8 refuses it, if any does. `lower` makes the same check by itself.
 pub fn check(sheet: &[u8]) -> Result<(), Refused> {
     // The pointer and the length are those of a slice, and the function only reads.
     match unsafe { sys::sheet_check(sheet.as_ptr(), sheet.len()) } {

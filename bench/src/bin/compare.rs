@@ -206,7 +206,7 @@ impl Driver {
         self.differs(sheet, [image, scratch, usable], random)
     }
 
-    /// The same with the sizes told: words of the image, of the scratch, and those of the scratch that may be used.
+    /// The same with the sizes given: words of the image, of the scratch, and those of the scratch that may be used.
     fn differs(&mut self, sheet: &[u8], sizes: [usize; 3], random: &mut Random) -> Option<String> {
         let difference = self.run(sheet, sizes, random)?;
         let [image, scratch, _] = sizes;

@@ -181,7 +181,7 @@ fn worst(options: &Options) {
         "hostile image", "no", "words", "ms tenth", "ns/word", "ms whole", "ns/word", "growth"
     );
     let sheet = images::sheet();
-    let (mut dearest, mut steepest) = ((0.0, String::new()), (0.0, String::new()));
+    let (mut slowest, mut steepest) = ((0.0, String::new()), (0.0, String::new()));
     for maker in images::hostile() {
         if !options.wants(&maker.name) {
             continue;
@@ -201,16 +201,16 @@ fn worst(options: &Options) {
             "{:<54}{:>4}{:>9}{line}{growth:>8.2}",
             maker.name, maker.number, words
         );
-        if each[1] > dearest.0 {
-            dearest = (each[1], maker.name.clone());
+        if each[1] > slowest.0 {
+            slowest = (each[1], maker.name.clone());
         }
         if growth > steepest.0 {
             steepest = (growth, maker.name);
         }
     }
     println!(
-        "dearest: {} ({:.2} ns/word); steepest: {} ({:.2})",
-        dearest.1, dearest.0, steepest.1, steepest.0
+        "slowest: {} ({:.2} ns/word); steepest: {} ({:.2})",
+        slowest.1, slowest.0, steepest.1, steepest.0
     );
 }
 
