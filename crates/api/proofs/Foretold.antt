@@ -11,7 +11,7 @@ use native.Mathlib.Omega.{arith}
 use lib.ListN.{length}
 use Rattle.lowering.specs.Outcome.{Outcome, refused, image, outcome}
 use Rattle.needs.specs.declared.Need.{Need}
-use Rattle.needs.specs.Needed.{numberOf, wordsOf, needed}
+use Rattle.needs.specs.Needed.{needNumber, wordsOf, needed}
 use Rattle.needs.specs.Means.{Means, refuses, asks}
 use Rattle.needs.proofs.NeedLaws.{means}
 use Rattle.to_image.specs.Answer as answers
@@ -20,12 +20,12 @@ use Rattle.api.specs.Given.{Given}
 use Rattle.api.specs.Asked.{Asked, Foretold}
 
 -- the need's number and words are those of the sheet
-pub asked : (s : List ℕ) (r : Need) (number words : ℕ) → r ≡ needed s → number ≡ numberOf r → words ≡ wordsOf r → Asked s number words
-asked s r number words r-is n-is w-is = record { number-is = n-is ∙ ap numberOf r-is; words-is = w-is ∙ ap wordsOf r-is }
+pub asked : (s : List ℕ) (r : Need) (number words : ℕ) → r ≡ needed s → number ≡ needNumber r → words ≡ wordsOf r → Asked s number words
+asked s r number words r-is n-is w-is = record { number-is = n-is ∙ ap needNumber r-is; words-is = w-is ∙ ap wordsOf r-is }
 
 -- 01's number of an outcome
 abbrev number : Outcome → ℕ
-number o = answers.numberOf (answer o)
+number o = answers.answerNumber (answer o)
 
 number-refused : {o : Outcome} {r : Refusal} → o ≡ refused r → number o ≡ refusalNumber r
 unfolding answer
@@ -37,7 +37,7 @@ unfolding answer
 lowered-or-long (refused r) only = inr (ap refusalNumber (only r refl))
 lowered-or-long (image xs) only = inl refl
 
-foretells : {s : List ℕ} {r : Need} (i m : ℕ) → Means s r → Foretold (numberOf r) (wordsOf r) m (number (outcome s i m))
+foretells : {s : List ℕ} {r : Need} (i m : ℕ) → Means s r → Foretold (needNumber r) (wordsOf r) m (number (outcome s i m))
 foretells i m (refuses {r} own alike) = record {
   not-scratch = λ e. own-number r own .0 e;
   not-image = λ e. own-number r own .1 e;

@@ -5,15 +5,15 @@ use mathlib.Core.Logic.{_⊎_}
 use mathlib.Core.List.{List}
 use Rattle.refusals.specs.declared.Refusal.the-variants.{ScratchShort, ImageLong}
 use Rattle.refusals.specs.Refusal.{refusalNumber}
-use Rattle.needs.specs.Needed.{numberOf, wordsOf, needed}
+use Rattle.needs.specs.Needed.{needNumber, wordsOf, needed}
 use Rattle.needs.specs.Means.{scratchMost}
 
 pub record Asked (s : List ℕ) (number words : ℕ) : Type 0 where
-  pub number-is : number ≡ numberOf (needed s)
+  pub number-is : number ≡ needNumber (needed s)
   pub words-is : words ≡ wordsOf (needed s)
 
--- the answer k with w words, beside the answer of a lowering with a scratch of m words: a refusal is the lowering's too, and none of a buffer's;
--- where k is 0, the lowering answers 11 exactly where fewer than w words are lent, and else 0 or 12
+-- the answer k with w words, beside the answer of a lowering with a scratch of m words: a refusal is the lowering's too, and none of a
+-- buffer's; where k is 0, the lowering answers 11 exactly where fewer than w words are lent, and else 0 or 12
 pub record Foretold (k w m answer : ℕ) : Type 0 where
   pub not-scratch : k ≡ refusalNumber ScratchShort → ⊥
   pub not-image : k ≡ refusalNumber ImageLong → ⊥

@@ -1,6 +1,6 @@
 // What programs in other languages link: numbers and slices only.
 ghost use mathlib.Core.Path.{_≡_};
-ghost use Rattle.checks.specs.Checked.{numberOf, checked};
+ghost use Rattle.checks.specs.Checked.{verdictNumber, checked};
 ghost use Rattle.api.specs.Given.{Given};
 ghost use Rattle.api.specs.Asked.{Asked};
 ghost use Rattle.api.specs.Judged.{Judged};
@@ -13,7 +13,7 @@ use to_image::lower;
 // The number of the first refusal among 1 to 8 that fits the bytes of `sheet`, or 0.
 #[no_mangle]
 pub extern "C" fn sheet_check(sheet: &[u8]) -> u32
-    ensures { λ r. ⌜ r ≡ numberOf (checked (now (sheet .entry))) ⌝ }
+    ensures { λ r. ⌜ r ≡ verdictNumber (checked (now (sheet .entry))) ⌝ }
 {
     checks::number(checks::check(sheet))
 }
@@ -36,7 +36,8 @@ pub extern "C" fn sheet_needs(sheet: &[u8], words: &mut u64) -> u32
     }
 }
 
-// Lowers `sheet` into `image`: 0, or the number of the first refusal among 1 to 12 that fits. `words` gets the image's word count, 0 under a refusal.
+// Lowers `sheet` into `image`: 0, or the number of the first refusal among 1 to 12 that fits. `words` gets the image's
+// word count, 0 under a refusal.
 #[no_mangle]
 pub extern "C" fn sheet_lower(
     sheet: &[u8],
@@ -44,7 +45,8 @@ pub extern "C" fn sheet_lower(
     scratch: &mut [u32],
     words: &mut u64,
 ) -> u32
-    ensures { λ r. ⌜ Given (now (sheet .entry)) (now (image .entry)) (now (scratch .entry)) r (now (words .exit)) (now (image .exit)) (now (scratch .exit)) ⌝ }
+    ensures { λ r. ⌜ Given (now (sheet .entry)) (now (image .entry)) (now (scratch .entry)) r (now (words .exit)) (now (image .exit))
+        (now (scratch .exit)) ⌝ }
 {
     let a = lower(sheet, image, scratch);
     *words = to_image::words(a) as u64;

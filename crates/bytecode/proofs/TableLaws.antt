@@ -8,8 +8,9 @@ use borrow.Author.Tests.{eq-eqb, ne-eqb, eqb-true, eqb-false, ltb-true, ltb-fals
 use lib.Dec.{eqb, ltb, leb}
 use lib.ListN.{getD, List·getD-eq-default}
 use Rattle.words.specs.Count.{allBelow}
-use Rattle.words.specs.CountLaws.{all-at}
+use Rattle.words.proofs.CountLaws.{all-at}
 use Rattle.bytecode.specs.Effect.{Effect, row, effects, effect, refArgc, Count, fixed, argc, argcRef, popsA, needsA, operands, on}
+use Rattle.bytecode.specs.Effect.{jump, branch, table, Flow}
 use Rattle.bytecode.specs.Effect.{popped}
 use Rattle.bytecode.specs.Effect as effect-of
 use Rattle.bytecode.specs.Table.{countNumber, flowNumber, numbersOf, numbers, effectTable, entry, counted, kept}
@@ -103,18 +104,6 @@ kept-is popsA a = refl
 kept-is needsA a = refl
 kept-is operands a = refl
 
--- every number is small, and one push is the most
-small-at : (i : ℕ) → getD effectTable i 0 ≤ 5
-unfolding numbers numbersOf countNumber flowNumber allBelow
-small-at i = by (ltb i 125) refl
-  where
-    by : (t : Bool) → ltb i 125 ≡ t → getD effectTable i 0 ≤ 5
-    by true h = leb-true (getD effectTable i 0) 5 (all-at (λ (k : ℕ). leb (getD effectTable k 0) 5) 125 i refl (ltb-true i 125 h))
-    by false h = let z = List·getD-eq-default effectTable 0 (ltb-false i 125 h) in omega arith
-
-pub entry-small : (kind f : ℕ) → f < 5 → entry kind f ≤ 5
-entry-small kind f h = subst (λ (x : ℕ). x ≤ 5) (table-entry kind f h) (small-at (5 * kind + f))
-
 none-pushes : none .pushes ≤ 1
 unfolding none
 none-pushes = omega arith
@@ -200,3 +189,11 @@ kept-none which a h = rw (ne-eqb which 4 h, kept)
 -- an element that was read, of a table that is the definition's
 pub entry-is : (t : List ℕ) (kind f x : ℕ) → x ≡ getD t (5 * kind + f) 0 → t ≡ effectTable → f < 5 → x ≡ entry kind f
 entry-is t kind f x e q h = e ∙ ap (λ (l : List ℕ). getD l (5 * kind + f) 0) q ∙ table-entry kind f h
+
+-- a flow of number 3 goes by a table
+pub by-table : (F : Flow) → flowNumber F ≡ 3 → F ≡ table
+unfolding flowNumber
+by-table on e = absurd (omega arith)
+by-table jump e = absurd (omega arith)
+by-table branch e = absurd (omega arith)
+by-table table e = refl

@@ -4,7 +4,10 @@ use mathlib.Core.List.{List, [], _∷_}
 use Rattle.bytecode.specs.declared.Receiver.{Receiver}
 use Rattle.bytecode.specs.declared.Receiver.the-variants.{Local, Named, This}
 use Rattle.bytecode.specs.declared.Op.{Op}
-use Rattle.bytecode.specs.declared.Op.the-variants.{Const, Unit, Bool, LoadLocal, LoadNamed, LoadThis, Pop, Jump, JumpIfTrue, JumpIfFalse, SkipIfNotUnit, Call, CallRef, Rotate, Switch, MakeFnPtr, CallFnPtr, InterpolateStart, InterpolateAppend, InterpolateEnd, MakeArray, CheckSize, Chain, EvalAst}
+use Rattle.bytecode.specs.declared.Op.the-variants.{Const, Unit, Bool, LoadLocal, LoadNamed, LoadThis, Pop, Jump, JumpIfTrue}
+use Rattle.bytecode.specs.declared.Op.the-variants.{JumpIfFalse, SkipIfNotUnit, Call, CallRef, Rotate, Switch, MakeFnPtr, CallFnPtr}
+use Rattle.bytecode.specs.declared.Op.the-variants.{InterpolateStart, InterpolateAppend, InterpolateEnd, MakeArray, CheckSize, Chain}
+use Rattle.bytecode.specs.declared.Op.the-variants.{EvalAst}
 
 -- a receiver's number, and the word that names it
 unfoldable pub receiverKind : Receiver → ℕ

@@ -1,3 +1,3 @@
 pub mod Checked
-pub mod CheckedLaws
+pub mod Compute
 pub mod Rest

@@ -2,18 +2,18 @@
 ghost use mathlib.Core.Path.{_≡_};
 ghost use Rattle.checks.specs.Checked as answers;
 ghost use Rattle.checks.specs.Rest.{restChecked};
-use depth::depth_ok;
-use numbers::locals_ok;
-use numbers::numbers_ok;
-use one_pass::passes;
+use check_depth::depth_ok;
+use check_numbers::locals_ok;
+use check_numbers::numbers_ok;
+use check_pass::passes;
+use check_shape::shape_ok;
+use check_sizes::sizes_ok;
+use check_support::supported_ok;
+use check_switches::cases_ok;
+use check_switches::entries_ok;
+use check_texts::texts_ok;
 use refusals::Refusal;
 use refusals::refusal_number;
-use shape::shape_ok;
-use sizes::sizes_ok;
-use support::supported_ok;
-use switches::cases_ok;
-use switches::entries_ok;
-use texts::texts_ok;
 
 // What is answered: nothing refuses, or the first cause that fits.
 pub enum Verdict {
@@ -23,7 +23,7 @@ pub enum Verdict {
 
 // The number of an answer: 0, or the refusal's.
 pub fn number(v: Verdict) -> u32
-    ensures { λ r. ⌜ r ≡ answers.numberOf v ⌝ }
+    ensures { λ r. ⌜ r ≡ answers.verdictNumber v ⌝ }
 {
     match v {
         Verdict::Accepted => 0,
@@ -32,13 +32,13 @@ pub fn number(v: Verdict) -> u32
 }
 
 // From refusal 5 on.
-fn tree(s: &[u8]) -> Verdict
-    ensures { λ r. ⌜ r ≡ answers.treeChecked (now (s .entry)) ⌝ }
+fn tree(sheet: &[u8]) -> Verdict
+    ensures { λ r. ⌜ r ≡ answers.treeChecked (now (sheet .entry)) ⌝ }
 {
-    if depth_ok(s) {
-        if entries_ok(s) {
-            if cases_ok(s) {
-                if supported_ok(s) {
+    if depth_ok(sheet) {
+        if entries_ok(sheet) {
+            if cases_ok(sheet) {
+                if supported_ok(sheet) {
                     return Verdict::Accepted;
                 }
                 return Verdict::Refused(Refusal::Unsupported);
@@ -51,14 +51,14 @@ fn tree(s: &[u8]) -> Verdict
 }
 
 // The answer for any byte string, refusal by refusal.
-fn by_number(s: &[u8]) -> Verdict
-    ensures { λ r. ⌜ r ≡ answers.checked (now (s .entry)) ⌝ }
+fn by_number(sheet: &[u8]) -> Verdict
+    ensures { λ r. ⌜ r ≡ answers.checked (now (sheet .entry)) ⌝ }
 {
-    if sizes_ok(s) {
-        if shape_ok(s) {
-            if texts_ok(s) {
-                if numbers_ok(s) {
-                    return tree(s);
+    if sizes_ok(sheet) {
+        if shape_ok(sheet) {
+            if texts_ok(sheet) {
+                if numbers_ok(sheet) {
+                    return tree(sheet);
                 }
                 return Verdict::Refused(Refusal::Number);
             }
@@ -70,14 +70,14 @@ fn by_number(s: &[u8]) -> Verdict
 }
 
 // What is left where nothing of refusals 1, 2, 4 (of nodes), 5 and 8 holds.
-fn rest(s: &[u8]) -> Verdict
-    ensures { λ r. ⌜ r ≡ restChecked (now (s .entry)) ⌝ }
+fn rest(sheet: &[u8]) -> Verdict
+    ensures { λ r. ⌜ r ≡ restChecked (now (sheet .entry)) ⌝ }
 {
-    let texts = texts_ok(s);
+    let texts = texts_ok(sheet);
     if texts {
-        if locals_ok(s) {
-            if entries_ok(s) {
-                if cases_ok(s) {
+        if locals_ok(sheet) {
+            if entries_ok(sheet) {
+                if cases_ok(sheet) {
                     return Verdict::Accepted;
                 }
                 return Verdict::Refused(Refusal::Twice);
@@ -90,14 +90,14 @@ fn rest(s: &[u8]) -> Verdict
 }
 
 // The answer for any byte string: in one pass over the nodes where all of them are well, and refusal by refusal where not.
-pub fn check(s: &[u8]) -> Verdict
-    ensures { λ r. ⌜ r ≡ answers.checked (now (s .entry)) ⌝ }
+pub fn check(sheet: &[u8]) -> Verdict
+    ensures { λ r. ⌜ r ≡ answers.checked (now (sheet .entry)) ⌝ }
 {
-    if sizes_ok(s) {
-        if passes(s) {
-            return rest(s);
+    if sizes_ok(sheet) {
+        if passes(sheet) {
+            return rest(sheet);
         }
-        return by_number(s);
+        return by_number(sheet);
     }
     Verdict::Refused(Refusal::Size)
 }

@@ -1,6 +1,8 @@
--- Noise, checksums and needs of the edges.
+-- Noise, checksums, needs and lengths of the edges.
 use Prim.Native.Nat.{ℕ, _+_, _-_, _*_, _%_}
 use mathlib.Core.List.{List, [], _∷_}
+use Rattle.sheet.specs.Limits.{headerWords, nodeWords}
+use Rattle.lowering.specs.Limits.{scratchPerEmitted, scratchPerNode, scratchBesides}
 
 -- word i of a buffer before a lowering
 abbrev pub noise : ℕ → ℕ
@@ -20,4 +22,8 @@ checksum ws = mixedAll 0 ws
 
 -- the scratch for e instructions and n nodes
 abbrev pub needed : ℕ → ℕ → ℕ
-needed e n = 16 * e + 16 * n + 4096
+needed e n = scratchPerEmitted * e + scratchPerNode * n + scratchBesides
+
+-- the bytes of a sheet of n nodes and x texts of up to four bytes, without locals
+abbrev pub sheetBytes : ℕ → ℕ → ℕ
+sheetBytes n x = 4 * (headerWords + (nodeWords + 1) * n + 3 * x)

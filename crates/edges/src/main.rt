@@ -9,7 +9,18 @@ ghost use Rattle.edges.specs.Sums as sums;
 mod sheets;
 
 use libc::STDOUT_FILENO;
+use lowering::SIZES;
+use needs::BESIDES;
+use needs::PER_EMITTED;
+use needs::PER_NODE;
 use to_image::lower;
+
+// words of scratch for each emitted instruction, for each node, and besides
+const EMITTED: usize = PER_EMITTED as usize;
+
+const NODE: usize = PER_NODE as usize;
+
+const MORE: usize = BESIDES as usize;
 
 // the names of calls as words: `g`, `call`
 const G: u32 = 103;
@@ -67,7 +78,7 @@ fn word(words: &[u32], i: usize) -> u32
 fn print_sizes(image: &[u32]) {
     io::write_all(STDOUT_FILENO, b", sizes");
     let mut i = 0;
-    while i < 12 {
+    while i < SIZES {
         print_number(b" ", word(image, i) as u64);
         i += 1;
     }
@@ -95,10 +106,10 @@ fn edge(label: &[u8], sheet: &[u8], image: &mut [u32], scratch: &mut [u32]) -> u
     words
 }
 
-// The same for the sheet in the first `n` bytes of `s`.
-fn try_one(label: &[u8], s: &[u8], n: usize, image: &mut [u32], scratch: &mut [u32]) -> usize {
-    if n <= s.len() {
-        return edge(label, &s[..n], image, scratch);
+// The same for the sheet in the first `n` bytes of `sheet`.
+fn try_one(label: &[u8], sheet: &[u8], n: usize, image: &mut [u32], scratch: &mut [u32]) -> usize {
+    if n <= sheet.len() {
+        return edge(label, &sheet[..n], image, scratch);
     }
     0
 }
@@ -106,7 +117,7 @@ fn try_one(label: &[u8], s: &[u8], n: usize, image: &mut [u32], scratch: &mut [u
 // The same with an image of `x` words and a scratch of `y` words.
 fn within(
     label: &[u8],
-    s: &[u8],
+    sheet: &[u8],
     n: usize,
     image: &mut [u32],
     x: usize,
@@ -115,73 +126,73 @@ fn within(
 ) {
     if x <= image.len() {
         if y <= scratch.len() {
-            try_one(label, s, n, &mut image[..x], &mut scratch[..y]);
+            try_one(label, sheet, n, &mut image[..x], &mut scratch[..y]);
         }
     }
 }
 
 // The depth of the tree.
-fn depths(s: &mut [u8], image: &mut [u32], scratch: &mut [u32]) {
-    let a = sheets::size(sheets::deep(s, 63), 0);
-    try_one(b"depth 64", &s[..], a, image, scratch);
-    let b = sheets::size(sheets::deep(s, 64), 0);
-    try_one(b"depth 65", &s[..], b, image, scratch);
+fn depths(sheet: &mut [u8], image: &mut [u32], scratch: &mut [u32]) {
+    let a = sheets::size(sheets::deep(sheet, 63), 0);
+    try_one(b"depth 64", &sheet[..], a, image, scratch);
+    let b = sheets::size(sheets::deep(sheet, 64), 0);
+    try_one(b"depth 65", &sheet[..], b, image, scratch);
 }
 
 // Ranges of a switch.
-fn many_ranges(s: &mut [u8], image: &mut [u32], scratch: &mut [u32]) {
-    let a = sheets::size(sheets::ranges(s, 64), 0);
-    try_one(b"ranges 64", &s[..], a, image, scratch);
-    let b = sheets::size(sheets::ranges(s, 65), 0);
-    try_one(b"ranges 65", &s[..], b, image, scratch);
+fn many_ranges(sheet: &mut [u8], image: &mut [u32], scratch: &mut [u32]) {
+    let a = sheets::size(sheets::ranges(sheet, 64), 0);
+    try_one(b"ranges 64", &sheet[..], a, image, scratch);
+    let b = sheets::size(sheets::ranges(sheet, 65), 0);
+    try_one(b"ranges 65", &sheet[..], b, image, scratch);
 }
 
 // Instructions emitted. With 262,143 of them the scratch here is too short, so that 11 is the answer, and with one more it is 10.
-fn emitted(s: &mut [u8], image: &mut [u32], scratch: &mut [u32]) {
-    let a = sheets::size(sheets::coalesce(s, 3, 65534), 0);
-    try_one(b"emitted 262143", &s[..], a, image, scratch);
-    let b = sheets::size(sheets::coalesce(s, 2, 65535), 0);
-    try_one(b"emitted 262144", &s[..], b, image, scratch);
+fn emitted(sheet: &mut [u8], image: &mut [u32], scratch: &mut [u32]) {
+    let a = sheets::size(sheets::coalesce(sheet, 3, 65534), 0);
+    try_one(b"emitted 262143", &sheet[..], a, image, scratch);
+    let b = sheets::size(sheets::coalesce(sheet, 2, 65535), 0);
+    try_one(b"emitted 262144", &sheet[..], b, image, scratch);
 }
 
 // Arguments of a call.
-fn arguments(s: &mut [u8], image: &mut [u32], scratch: &mut [u32]) {
-    let a = sheets::size(sheets::call(s, 1, G, 255), 1);
-    try_one(b"arguments 255", &s[..], a, image, scratch);
-    let b = sheets::size(sheets::call(s, 1, G, 256), 1);
-    try_one(b"arguments 256", &s[..], b, image, scratch);
+fn arguments(sheet: &mut [u8], image: &mut [u32], scratch: &mut [u32]) {
+    let a = sheets::size(sheets::call(sheet, 1, G, 255), 1);
+    try_one(b"arguments 255", &sheet[..], a, image, scratch);
+    let b = sheets::size(sheets::call(sheet, 1, G, 256), 1);
+    try_one(b"arguments 256", &sheet[..], b, image, scratch);
 }
 
 // Arguments of `call`, the first of which is the function pointer.
-fn call_arguments(s: &mut [u8], image: &mut [u32], scratch: &mut [u32]) {
-    let a = sheets::size(sheets::call(s, 4, CALL, 256), 1);
-    try_one(b"arguments of call 256", &s[..], a, image, scratch);
-    let b = sheets::size(sheets::call(s, 4, CALL, 257), 1);
-    try_one(b"arguments of call 257", &s[..], b, image, scratch);
+fn call_arguments(sheet: &mut [u8], image: &mut [u32], scratch: &mut [u32]) {
+    let a = sheets::size(sheets::call(sheet, 4, CALL, 256), 1);
+    try_one(b"arguments of call 256", &sheet[..], a, image, scratch);
+    let b = sheets::size(sheets::call(sheet, 4, CALL, 257), 1);
+    try_one(b"arguments of call 257", &sheet[..], b, image, scratch);
 }
 
 // Arguments of a method.
-fn method_arguments(s: &mut [u8], image: &mut [u32], scratch: &mut [u32]) {
-    let a = sheets::size(sheets::method(s, 1, G, 255), 1);
-    try_one(b"arguments of a method 255", &s[..], a, image, scratch);
-    let b = sheets::size(sheets::method(s, 1, G, 256), 1);
-    try_one(b"arguments of a method 256", &s[..], b, image, scratch);
+fn method_arguments(sheet: &mut [u8], image: &mut [u32], scratch: &mut [u32]) {
+    let a = sheets::size(sheets::method(sheet, 1, G, 255), 1);
+    try_one(b"arguments of a method 255", &sheet[..], a, image, scratch);
+    let b = sheets::size(sheets::method(sheet, 1, G, 256), 1);
+    try_one(b"arguments of a method 256", &sheet[..], b, image, scratch);
 }
 
 // Arguments of the method `call`.
-fn method_call_arguments(s: &mut [u8], image: &mut [u32], scratch: &mut [u32]) {
-    let a = sheets::size(sheets::method(s, 4, CALL, 255), 1);
+fn method_call_arguments(sheet: &mut [u8], image: &mut [u32], scratch: &mut [u32]) {
+    let a = sheets::size(sheets::method(sheet, 4, CALL, 255), 1);
     try_one(
         b"arguments of the method call 255",
-        &s[..],
+        &sheet[..],
         a,
         image,
         scratch,
     );
-    let b = sheets::size(sheets::method(s, 4, CALL, 256), 1);
+    let b = sheets::size(sheets::method(sheet, 4, CALL, 256), 1);
     try_one(
         b"arguments of the method call 256",
-        &s[..],
+        &sheet[..],
         b,
         image,
         scratch,
@@ -189,18 +200,18 @@ fn method_call_arguments(s: &mut [u8], image: &mut [u32], scratch: &mut [u32]) {
 }
 
 // Elements of an array. 65,535 emit 131,071 instructions, for which the scratch here is too short: 11. 65,536 are kept as one residual.
-fn elements(s: &mut [u8], image: &mut [u32], scratch: &mut [u32]) {
-    let a = sheets::size(sheets::array(s, 65535), 0);
-    try_one(b"elements 65535", &s[..], a, image, scratch);
-    let b = sheets::size(sheets::array(s, 65536), 0);
-    try_one(b"elements 65536", &s[..], b, image, scratch);
+fn elements(sheet: &mut [u8], image: &mut [u32], scratch: &mut [u32]) {
+    let a = sheets::size(sheets::array(sheet, 65535), 0);
+    try_one(b"elements 65535", &sheet[..], a, image, scratch);
+    let b = sheets::size(sheets::array(sheet, 65536), 0);
+    try_one(b"elements 65536", &sheet[..], b, image, scratch);
 }
 
 // The scratch that a sheet of so many nodes asks for.
 fn needed(emitted: u32, nodes: u32) -> usize
     ensures { λ r. ⌜ r ≡ sums.needed emitted nodes ⌝ }
 {
-    16 * emitted as usize + 16 * nodes as usize + 4096
+    EMITTED * emitted as usize + NODE * nodes as usize + MORE
 }
 
 // One less, and 0 for 0.
@@ -211,72 +222,88 @@ fn less(n: usize) -> usize
 }
 
 // Each buffer with one word less.
-fn short(s: &[u8], n: usize, image: &mut [u32], x: usize, scratch: &mut [u32], y: usize) {
-    within(b"image one word short", s, n, image, less(x), scratch, y);
-    within(b"scratch one word short", s, n, image, x, scratch, less(y));
+fn short(sheet: &[u8], n: usize, image: &mut [u32], x: usize, scratch: &mut [u32], y: usize) {
+    within(
+        b"image one word short",
+        sheet,
+        n,
+        image,
+        less(x),
+        scratch,
+        y,
+    );
+    within(
+        b"scratch one word short",
+        sheet,
+        n,
+        image,
+        x,
+        scratch,
+        less(y),
+    );
 }
 
 // An image that is exactly full with a scratch that is exactly enough; then each with one word less.
-fn exact(s: &[u8], n: usize, image: &mut [u32], x: usize, scratch: &mut [u32], y: usize) {
+fn exact(sheet: &[u8], n: usize, image: &mut [u32], x: usize, scratch: &mut [u32], y: usize) {
     within(
         b"image exactly full, scratch exactly enough",
-        s,
+        sheet,
         n,
         image,
         x,
         scratch,
         y,
     );
-    short(s, n, image, x, scratch, y);
+    short(sheet, n, image, x, scratch, y);
 }
 
 // The buffers that a sheet asks for: word 10 is what was emitted, where that is not capped.
-fn rooms(s: &mut [u8], image: &mut [u32], scratch: &mut [u32]) {
-    let nodes = sheets::ranges(s, 20);
+fn rooms(sheet: &mut [u8], image: &mut [u32], scratch: &mut [u32]) {
+    let nodes = sheets::ranges(sheet, 20);
     let n = sheets::size(nodes, 0);
-    let x = try_one(b"ranges 20", &s[..], n, image, scratch);
+    let x = try_one(b"ranges 20", &sheet[..], n, image, scratch);
     let y = needed(word(&image[..], 10), nodes);
-    exact(&s[..], n, image, x, scratch, y);
+    exact(&sheet[..], n, image, x, scratch, y);
 }
 
 // The edges of trees.
-fn trees(s: &mut [u8], image: &mut [u32], scratch: &mut [u32]) {
-    depths(s, image, scratch);
-    many_ranges(s, image, scratch);
+fn trees(sheet: &mut [u8], image: &mut [u32], scratch: &mut [u32]) {
+    depths(sheet, image, scratch);
+    many_ranges(sheet, image, scratch);
 }
 
 // The edges of counts.
-fn counts(s: &mut [u8], image: &mut [u32], scratch: &mut [u32]) {
-    emitted(s, image, scratch);
-    elements(s, image, scratch);
+fn counts(sheet: &mut [u8], image: &mut [u32], scratch: &mut [u32]) {
+    emitted(sheet, image, scratch);
+    elements(sheet, image, scratch);
 }
 
 // The edges of functions.
-fn functions(s: &mut [u8], image: &mut [u32], scratch: &mut [u32]) {
-    arguments(s, image, scratch);
-    call_arguments(s, image, scratch);
+fn functions(sheet: &mut [u8], image: &mut [u32], scratch: &mut [u32]) {
+    arguments(sheet, image, scratch);
+    call_arguments(sheet, image, scratch);
 }
 
 // The edges of methods.
-fn methods(s: &mut [u8], image: &mut [u32], scratch: &mut [u32]) {
-    method_arguments(s, image, scratch);
-    method_call_arguments(s, image, scratch);
+fn methods(sheet: &mut [u8], image: &mut [u32], scratch: &mut [u32]) {
+    method_arguments(sheet, image, scratch);
+    method_call_arguments(sheet, image, scratch);
 }
 
-fn first_half(s: &mut [u8], image: &mut [u32], scratch: &mut [u32]) {
-    trees(s, image, scratch);
-    counts(s, image, scratch);
+fn first_half(sheet: &mut [u8], image: &mut [u32], scratch: &mut [u32]) {
+    trees(sheet, image, scratch);
+    counts(sheet, image, scratch);
 }
 
-fn second_half(s: &mut [u8], image: &mut [u32], scratch: &mut [u32]) {
-    functions(s, image, scratch);
-    methods(s, image, scratch);
+fn second_half(sheet: &mut [u8], image: &mut [u32], scratch: &mut [u32]) {
+    functions(sheet, image, scratch);
+    methods(sheet, image, scratch);
 }
 
-fn all(s: &mut [u8], image: &mut [u32], scratch: &mut [u32]) {
-    first_half(s, image, scratch);
-    second_half(s, image, scratch);
-    rooms(s, image, scratch);
+fn all(sheet: &mut [u8], image: &mut [u32], scratch: &mut [u32]) {
+    first_half(sheet, image, scratch);
+    second_half(sheet, image, scratch);
+    rooms(sheet, image, scratch);
 }
 
 // The same with room for the longest sheet, of 65,538 nodes, and for the scratch that 65,537 nodes and one instruction ask for.

@@ -1,4 +1,4 @@
--- One law for each way that the check ends, and what the answer says by the theorem of `wellmade`.
+-- One law for each way that the check ends, and what the answer says by the theorem of crate image_rule.
 use Prim.Native.Nat.{ℕ, _≤_, _<_}
 use mathlib.Core.Path.{_≡_, refl, sym, ap, _∙_, subst}
 use mathlib.Core.Bool.{Bool, true, false}
@@ -12,13 +12,13 @@ use Rattle.refusals.specs.declared.Refusal.{Refusal}
 use Rattle.refusals.specs.declared.Refusal.the-variants.{ScratchShort, IllMade}
 use Rattle.refusals.specs.Refusal.{leaves}
 use Rattle.refusals.proofs.RefusalLaws.{own-keeps}
-use Rattle.checks.specs.Checked.{numberOf, checked}
+use Rattle.checks.specs.Checked.{verdictNumber, checked}
 use Rattle.checks.specs.declared.Verdict.{Verdict}
 use Rattle.checks.specs.declared.Verdict.the-variants.{Accepted, Refused}
 use Rattle.checks.proofs.VerdictLaws.{refused-own}
-use Rattle.wellmade.specs.WellMade.{WellMade}
-use Rattle.wellmade.specs.Test.{wellMade}
-use Rattle.wellmade.proofs.Theorem.{well-made}
+use Rattle.image_rule.specs.WellMade.{WellMade}
+use Rattle.image_rule.specs.Test.{wellMade}
+use Rattle.image_rule.proofs.Theorem.{well-made}
 use Rattle.image_check.specs.Answer.{judgedAfter, judged, scratchAfter, Asked, Says, Answers}
 
 -- the answer, way by way
@@ -49,7 +49,7 @@ unmade-false s w h = by (wellMade s w) refl
     by false e = e
 
 not-both : {v : Verdict} → v ≡ Accepted → v ≡ Refused IllMade → ⊥
-not-both e f = let n = ap numberOf (sym e ∙ f) in omega arith
+not-both e f = let n = ap verdictNumber (sym e ∙ f) in omega arith
 
 accepts : (s w xs : List ℕ) → Asked s w (length xs) → judged s w (length xs) ≡ Accepted → WellMade s w
 accepts s w xs a z = by (wellMade s w) refl
@@ -90,7 +90,8 @@ ends-short s w xs ok h = by-answer s w xs xs (Refused ScratchShort) (judged-shor
 all-zeros : (xs ys xs′ : List ℕ) → Zeroed ys xs′ → length xs′ ≡ length xs → xs′ ≡ zeros (length xs)
 all-zeros xs ys xs′ e h = e .is ∙ ap zeros (sym (length-replicate {A = ℕ} (length ys) 0) ∙ sym (ap length (e .is)) ∙ h)
 
-module _ (s w xs ys xs′ : List ℕ) (ok : checked s ≡ Accepted) (h : length w ≤ length xs) (f : Zeroed ys xs′) (g : length xs′ ≡ length xs) where
+module _ (s w xs ys xs′ : List ℕ) (ok : checked s ≡ Accepted) (h : length w ≤ length xs) (f : Zeroed ys xs′)
+    (g : length xs′ ≡ length xs) where
   pub ends-made : wellMade s w ≡ true → Answers s w xs Accepted xs′
   unfolding scratchAfter leaves
   ends-made t = by-answer s w xs xs′ Accepted (judged-made s w xs ok h t) (all-zeros xs ys xs′ f g)

@@ -7,13 +7,14 @@ use native.Mathlib.Omega.{arith}
 use borrow.Author.Tests.{leb-true, eqb-true}
 use lib.Dec.{leb, eqb}
 use lib.ListN.{length}
+use Rattle.laws.proofs.Bool.{left-fails}
 use Rattle.lowering.specs.Limits.{sizesWords}
 use Rattle.lowering.specs.Words.{instructions}
-use Rattle.wellmade.specs.Rules.{endAt}
-use Rattle.wellmade.specs.Marks.{marked, marksThere, marksRight}
-use Rattle.wellmade.specs.Test as test
-use Rattle.wellmade.specs.Test.{operandsRight, wordsRight, targetsRight, wellMade}
-use Rattle.wellmade.proofs.WordLaws.{tells-words, tells-targets}
+use Rattle.image_rule.specs.Rules.{endAt}
+use Rattle.image_rule.specs.Marks.{marked, marksThere, marksRight}
+use Rattle.image_rule.specs.Test as test
+use Rattle.image_rule.specs.Test.{operandsRight, wordsRight, targetsRight, wellMade}
+use Rattle.image_rule.proofs.WordLaws.{tells-words, tells-targets}
 use Rattle.image_fields.specs.Fields.{fieldsRight}
 use Rattle.image_spans.specs.Premises.{Sized, ChainsLie, RowsLie}
 use Rattle.image_spans.proofs.LieLaws.{chains-lie, rows-lie}
@@ -49,9 +50,6 @@ three a b c d e f g h i j t =
     let two = and-eq-true-iff (a && b) c .0 more .0 in
     (and-eq-true-iff a b .0 two .0, (five .1, seven .1))
 
-and-false : (a b : Bool) → a ≡ false → (a && b) ≡ false
-and-false a b e = ap (λ (x : Bool). x && b) e
-
 and-true : (a b : Bool) → a ≡ true → (a && b) ≡ b
 and-true a b e = ap (λ (x : Bool). x && b) e
 
@@ -83,7 +81,7 @@ module _ (s w : List ℕ) where
   pub sizes-fail : sizesAgree w ≡ false → false ≡ wellMade s w
   sizes-fail z =
       sym (made-is
-      ∙ and-false _ (depthsRight w) (and-false _ (targetsRight w) (and-false (sizesAgree w) (fieldsRight s w && operandsRight w) z)))
+      ∙ left-fails _ (depthsRight w) (left-fails _ (targetsRight w) (left-fails (sizesAgree w) (fieldsRight s w && operandsRight w) z)))
 
   module _ (a : sizesAgree w ≡ true) where
     after-sizes : wellMade s w ≡ ((fieldsRight s w && operandsRight w) && targetsRight w && depthsRight w)
@@ -91,7 +89,7 @@ module _ (s w : List ℕ) where
 
     pub fields-fail : fieldsRight s w ≡ false → false ≡ wellMade s w
     fields-fail z =
-        sym (after-sizes ∙ and-false _ (depthsRight w) (and-false _ (targetsRight w) (and-false (fieldsRight s w) (operandsRight w) z)))
+        sym (after-sizes ∙ left-fails _ (depthsRight w) (left-fails _ (targetsRight w) (left-fails (fieldsRight s w) (operandsRight w) z)))
 
     module _ (f : fieldsRight s w ≡ true) where
       after-fields : wellMade s w ≡ (operandsRight w && targetsRight w && depthsRight w)
@@ -110,14 +108,14 @@ module _ (s w : List ℕ) where
       rows = rows-lie s w (sections .0) (sections .1 .1)
 
       pub operands-fail : operandsRight w ≡ false → false ≡ wellMade s w
-      operands-fail z = sym (after-fields ∙ and-false _ (depthsRight w) (and-false (operandsRight w) (targetsRight w) z))
+      operands-fail z = sym (after-fields ∙ left-fails _ (depthsRight w) (left-fails (operandsRight w) (targetsRight w) z))
 
       module _ (o : operandsRight w ≡ true) where
         after-operands : wellMade s w ≡ (targetsRight w && depthsRight w)
         after-operands = after-fields ∙ ap (λ (x : Bool). x && targetsRight w && depthsRight w) o
 
         pub targets-fail : targetsRight w ≡ false → false ≡ wellMade s w
-        targets-fail z = sym (after-operands ∙ and-false (targetsRight w) (depthsRight w) z)
+        targets-fail z = sym (after-operands ∙ left-fails (targetsRight w) (depthsRight w) z)
 
         module _ (t : targetsRight w ≡ true) where
           pub depths-are : depthsRight w ≡ wellMade s w

@@ -11,8 +11,8 @@ use Rattle.refusals.specs.Refusal.{zeroed, leaves, scratchLeft}
 use Rattle.checks.specs.Checked.{checked}
 use Rattle.checks.specs.declared.Verdict.{Verdict}
 use Rattle.checks.specs.declared.Verdict.the-variants.{Accepted, Refused}
-use Rattle.wellmade.specs.WellMade.{WellMade}
-use Rattle.wellmade.specs.Test.{wellMade}
+use Rattle.image_rule.specs.WellMade.{WellMade}
+use Rattle.image_rule.specs.Test.{wellMade}
 
 -- the answer, where v is that of the sheet's check: one of 1 to 8; then 11; then 13; else nothing refuses
 unfoldable pub judgedAfter : Verdict → List ℕ → List ℕ → ℕ → Verdict

@@ -5,7 +5,7 @@ use mathlib.Core.List.{List}
 use lib.Dec.{leb, eqb}
 use lib.ListN.{length}
 use Rattle.lowering.specs.Limits.{sizesWords}
-use Rattle.wellmade.specs.Rules.{endAt}
+use Rattle.image_rule.specs.Rules.{endAt}
 
 unfoldable pub sizesAgree : List ℕ → Bool
 sizesAgree w = leb sizesWords (length w) && eqb (length w) (endAt w)

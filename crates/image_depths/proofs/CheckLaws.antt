@@ -6,24 +6,20 @@ use mathlib.Core.List.{List}
 use native.Mathlib.Omega.{arith}
 use lib.Dec.{eqb, leb}
 use lib.ListN.{length}
+use Rattle.image_rule.proofs.WordLaws.{row-there, default-there}
+use Rattle.laws.proofs.Bool.{and-lazy}
 use Rattle.words.specs.Count.{allBelow}
-use Rattle.words.specs.CountLaws.{all-suc, all-same, all-fails}
+use Rattle.words.proofs.CountLaws.{all-suc, all-same, all-fails}
 use Rattle.bytecode.specs.Effect.{Flow, on, jump, branch, table}
 use Rattle.bytecode.specs.Table.{flowNumber}
 use Rattle.lowering.specs.Words.{instructions, greatestDepth, constsAt, chainsAt, switchesAt, casesAt, rangesAt, aAt, switchWord}
 use Rattle.lowering.specs.Run.{needs, branchTarget, rowTarget, tableTarget}
-use Rattle.wellmade.specs.Rules.{tables, cases, ranges, endAt}
-use Rattle.wellmade.specs.Marks.{mark, marksThere, tableNode, flowAt, after, edges, edge, placeBy, tableBy, most, marked, marksRight}
+use Rattle.image_rule.specs.Rules.{tables, cases, ranges, endAt}
+use Rattle.image_rule.specs.Marks.{mark, marksThere, tableNode, flowAt, after, edges, edge, placeBy, tableBy, most, marked, marksRight}
 use Rattle.image_rows.specs.Scratch.{marksOf, Counted}
 use Rattle.image_depths.specs.Checked.{Checked}
 use Rattle.image_depths.specs.Passing.{leads, placesRight, tablesRight, MarkedAll}
-use Rattle.image_depths.proofs.MarkLaws.{table-row, table-default}
 use Rattle.image_depths.proofs.DeepLaws.{deep-false}
-
--- a test that stops at the first false is the joined one
-and-lazy : (a b : Bool) → elim a [ true ↦ b | false ↦ false ] ≡ (a && b)
-and-lazy true b = refl
-and-lazy false b = refl
 
 -- where the edges lead, by the number of the flow
 pub leads-table : (F : Flow) (w l : List ℕ) (p m a t x : ℕ) → flowNumber F ≡ 3 → a ≡ aAt w p → t ≡ tableNode w a → x ≡ mark l t
@@ -126,8 +122,8 @@ table-by w l i m d x r e z h g k =
     ap₂ _&&_
     (h
     ∙ all-same (λ j. eqb (mark l (rowTarget w i j)) m) (rowsTo w l i m) n
-    (λ j b. ap (λ (t : ℕ). eqb (mark l t) m) (sym (table-row w i j b))))
-    (ap (λ (y : ℕ). eqb y m) (k ∙ ap (mark l) (g ∙ sym (table-default w i))))
+    (λ j b. ap (λ (t : ℕ). eqb (mark l t) m) (sym (row-there w i j b))))
+    (ap (λ (y : ℕ). eqb y m) (k ∙ ap (mark l) (g ∙ sym (default-there w i))))
     ∙ sym (all-suc (rowsTo w l i m) n) ∙ table-some w l i m e z
 
 -- the greatest mark

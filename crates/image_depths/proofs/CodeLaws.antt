@@ -10,25 +10,26 @@ use Rattle.bytecode.specs.Effect.{effect}
 use Rattle.bytecode.specs.Table.{effectTable, entry, counted, kept}
 use Rattle.bytecode.proofs.TableLaws.{entry-pops, entry-pushes, entry-keeps, entry-count, entry-flow}
 use Rattle.bytecode.proofs.TableLaws.{counted-is, kept-is, counted-argc, counted-ref, counted-a, counted-none}
+use Rattle.lowering.specs.Limits.{chainWidth}
 use Rattle.lowering.specs.Words.{word, chainsAt, kindAt, aAt, bAt, chainWord}
 use Rattle.lowering.specs.Run.{chainTakes, pops, pushes, needs}
 use Rattle.image_rows.specs.declared.Starts.{Starts}
-use Rattle.image_rows.specs.Rows.{Placed}
+use Rattle.image_rows.specs.AllRows.{Placed}
 use Rattle.image_depths.specs.Passing.{Read}
 
-module _ (w : List ℕ) (o : Starts) (i n k : ℕ) (operands : n ≡ word w (o .chains + (6 * i + 5)))
-    (root : k ≡ word w (o .chains + 6 * i)) where
+module _ (w : List ℕ) (o : Starts) (i n k : ℕ) (operands : n ≡ word w (o .chains + (chainWidth * i + 5)))
+    (root : k ≡ word w (o .chains + chainWidth * i)) where
   -- the words of chain i that were read
   operands-is : Placed w o → n ≡ chainWord w i 5
   unfolding chainWord
   operands-is P =
-      let same : o .chains + (6 * i + 5) ≡ chainsAt w + 6 * i + 5 = omega (arith, P .chains) in
+      let same : o .chains + (chainWidth * i + 5) ≡ chainsAt w + chainWidth * i + 5 = omega (arith, P .chains) in
       operands ∙ ap (word w) same
 
   root-is : Placed w o → k ≡ chainWord w i 0
   unfolding chainWord
   root-is P =
-      let same : o .chains + 6 * i ≡ chainsAt w + 6 * i + 0 = omega (arith, P .chains) in
+      let same : o .chains + chainWidth * i ≡ chainsAt w + chainWidth * i + 0 = omega (arith, P .chains) in
       root ∙ ap (word w) same
 
   -- a chain from the stack takes one more than its operands

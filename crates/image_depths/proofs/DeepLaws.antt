@@ -7,12 +7,13 @@ use mathlib.Core.List.{List}
 use native.Mathlib.Omega.{arith}
 use borrow.Author.Tests.{ltb-true}
 use lib.Dec.{ltb}
+use Rattle.lowering.proofs.RunsRight.{goes-on, stays}
 use Rattle.lowering.specs.Words.{instructions, kindAt}
 use Rattle.lowering.specs.Run.{State, step, stepOn, run, next, pushes}
-use Rattle.wellmade.specs.Marks.{mark, marksThere, marked, marksRight}
-use Rattle.wellmade.proofs.Real.{Real, goes-on, stays}
-use Rattle.wellmade.proofs.Told.{Aims, by-keeps, marked-start, marked-told}
-use Rattle.wellmade.proofs.Right.{Right, TablesNamed, tells-right, right-next}
+use Rattle.image_rule.specs.Marks.{mark, marksThere, marked, marksRight}
+use Rattle.image_rule.proofs.Real.{Real}
+use Rattle.image_rule.proofs.Told.{Aims, by-keeps, marked-start, marked-told}
+use Rattle.image_rule.proofs.Right.{Right, TablesNamed, tells-right, right-next}
 use Rattle.bytecode.proofs.TableLaws.{pushes-one}
 use Rattle.image_depths.specs.Passing.{DeepAt}
 
@@ -39,7 +40,7 @@ small-run w A ways zero = omega arith
 small-run w A ways (suc n) = small-step w A (ways n) (run w ways n) (small-run w A ways n)
 
 -- the depth at a place is at most the place
-pub real-small : (w : List ℕ) → Aims w → (t d : ℕ) → Real w t d → d ≤ t
+real-small : (w : List ℕ) → Aims w → (t d : ℕ) → Real w t d → d ≤ t
 real-small w A t d x = subst (λ (st : State). st .depth ≤ st .place) (x .there) (small-run w A (x .ways) (x .count))
 
 -- later places lose no mark

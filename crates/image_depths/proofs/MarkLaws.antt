@@ -7,18 +7,20 @@ use native.Mathlib.Omega.{arith}
 use native.Mathlib.Numerals.{add-one}
 use lib.ListN.{getD, take}
 use lib.Seq.{getD-drop}
-use borrow.Author.Tests.{eq-eqb, ne-eqb, lt-ltb, le-ltb}
+use borrow.Author.Tests.{eq-eqb, ne-eqb}
+use Rattle.image_rule.proofs.WordLaws.{row-there, default-there}
+use Rattle.bytecode.proofs.TableLaws.{by-table}
 use Rattle.zeros.specs.Zeros.{zeros}
 use Rattle.bytecode.specs.Effect.{Flow, on, jump, branch, table}
 use Rattle.bytecode.specs.Table.{flowNumber}
 use Rattle.lowering.specs.Words.{instructions, aAt, switchWord}
 use Rattle.lowering.specs.Run.{pops, rowTarget, tableTarget, branchTarget}
-use Rattle.wellmade.specs.Marks.{mark, marksThere, tableNode, flowAt, after, edge, edges}
-use Rattle.wellmade.specs.Marks.{come, comes, enter, opened, handOn, passBy, marked}
-use Rattle.wellmade.proofs.ComeLaws.{come-new, come-old}
-use Rattle.wellmade.proofs.Right.{TablesNamed}
+use Rattle.image_rule.specs.Marks.{mark, marksThere, tableNode, flowAt, after, edge, edges}
+use Rattle.image_rule.specs.Marks.{come, comes, enter, opened, handOn, passBy, marked}
+use Rattle.image_rule.proofs.ComeLaws.{come-new, come-old}
+use Rattle.image_rule.proofs.Right.{TablesNamed}
 use Rattle.image_rows.specs.declared.Starts.{Starts}
-use Rattle.image_rows.specs.Rows.{Placed, Pooled}
+use Rattle.image_rows.specs.AllRows.{Placed, Pooled}
 use Rattle.image_rows.specs.Scratch.{marksOf, noted, Seen, Does, Left}
 use Rattle.image_rows.proofs.ScratchLaws.{size-is}
 use Rattle.image_rows.proofs.SeenLaws.{comes-same, did-none, did-come, did-both}
@@ -30,15 +32,6 @@ use Rattle.image_depths.specs.Passing.{Read, PooledAt, Deep, Passed, Mar
 did-same : (w : List ℕ) (F G : List ℕ → List ℕ) (l l′ : List ℕ) → F (marksOf w l) ≡ G (marksOf w l) → Does w F l l′ → Does w G l l′
 did-same w F G l l′ e D S = let d = D S in record { marks = d .marks ∙ e; seen = d .seen }
 
--- a table is come to
-pub table-row : (w : List ℕ) (i r : ℕ) → r < switchWord w i 2 → tableTarget w i r ≡ rowTarget w i r
-unfolding tableTarget
-table-row w i r h = rw (lt-ltb r (switchWord w i 2) h, tableTarget)
-
-pub table-default : (w : List ℕ) (i : ℕ) → tableTarget w i (switchWord w i 2) ≡ switchWord w i 3
-unfolding tableTarget
-table-default w i = rw (le-ltb (switchWord w i 2) (switchWord w i 2) (omega arith), tableTarget)
-
 -- a table without a mark: its rows and its default are come to
 enter-new : (w : List ℕ) (i m : ℕ) (l : List ℕ) → mark l (tableNode w i) ≡ 0
     → come m (comes m (rowTarget w i) (switchWord w i 2) l) (switchWord w i 3) ≡ enter w i m l
@@ -46,8 +39,8 @@ unfolding enter comes
 enter-new w i m l z =
     let n = switchWord w i 2 in
     rw (eq-eqb (mark l (tableNode w i)) 0 z, enter)
-    (ap (λ (x : List ℕ). come m x (switchWord w i 3)) (comes-same m (rowTarget w i) (tableTarget w i) n l (λ r h. sym (table-row w i r h)))
-    ∙ ap (come m (comes m (tableTarget w i) n l)) (sym (table-default w i)))
+    (ap (λ (x : List ℕ). come m x (switchWord w i 3)) (comes-same m (rowTarget w i) (tableTarget w i) n l (λ r h. sym (row-there w i r h)))
+    ∙ ap (come m (comes m (tableTarget w i) n l)) (sym (default-there w i)))
 
 -- a table with a mark: nothing changes
 enter-old : (w : List ℕ) (i m : ℕ) (l : List ℕ) → (mark l (tableNode w i) ≡ 0 → ⊥) → enter w i m l ≡ l
@@ -87,14 +80,6 @@ module _ (w : List ℕ) (o : Starts) (m i size x : ℕ) (l : List ℕ) (s : size
       (did-both w rows (λ a. come m a d) l l₁ l₂ (R P Q p) (did-come w size m d l₁ l₂ sz D))
       (did-come w size m (o .places + 1 + i) l₂ l₃ sz N))
 
--- handing on, by the number of the flow
-flow-table : (F : Flow) → flowNumber F ≡ 3 → F ≡ table
-unfolding flowNumber
-flow-table on e = absurd (omega arith)
-flow-table jump e = absurd (omega arith)
-flow-table branch e = absurd (omega arith)
-flow-table table e = refl
-
 is-table : (F : Flow) (w : List ℕ) (p m : ℕ) (l : List ℕ) → flowNumber F ≡ 3
     → come m (enter w (aAt w p) m l) (tableNode w (aAt w p)) ≡ handOn F w p m l
 unfolding flowNumber handOn opened comes edges edge
@@ -131,7 +116,7 @@ module _ (w : List ℕ) (o : Starts) (c : Code) (p m size : ℕ) (l : List ℕ) 
       → Placed w o → Read w p c → PooledAt w p → 0 < m → Does w (handOn (flowAt w p) w p m) l l₁
   hand-table l₁ f D P R Q h =
       let three = sym (R .flow) ∙ f in
-      let pooled : Pooled w (c .a) = subst (Pooled w) (sym (R .a)) (Q (flow-table (flowAt w p) three)) in
+      let pooled : Pooled w (c .a) = subst (Pooled w) (sym (R .a)) (Q (by-table (flowAt w p) three)) in
       did-same w (λ a. come m (enter w (c .a) m a) (tableNode w (c .a))) (handOn (flowAt w p) w p m) l l₁
       (ap (λ (i : ℕ). come m (enter w i m (marksOf w l)) (tableNode w i)) (R .a) ∙ is-table (flowAt w p) w p m (marksOf w l) three)
       (D P pooled h)

@@ -4,10 +4,10 @@ use mathlib.Core.Path.{_≡_}
 use mathlib.Core.List.{List}
 use lib.ListN.{length}
 use Rattle.lowering.specs.Limits.{sizesWords}
-use Rattle.wellmade.specs.Rules.{tables, endAt}
-use Rattle.wellmade.proofs.Told.{Aims}
-use Rattle.wellmade.proofs.Right.{TablesNamed}
-use Rattle.image_rows.specs.Rows.{Pooled}
+use Rattle.image_rule.specs.Rules.{tables, endAt}
+use Rattle.image_rule.proofs.Told.{Aims}
+use Rattle.image_rule.proofs.Right.{TablesNamed}
+use Rattle.image_rows.specs.AllRows.{Pooled}
 
 abbrev pub RowsPooled : List ℕ → Type 0
 RowsPooled w = (i : ℕ) → i < tables w → Pooled w i

@@ -9,9 +9,9 @@ use Rattle.bytecode.specs.Effect.{Flow, table}
 use Rattle.bytecode.specs.Table.{flowNumber}
 use Rattle.lowering.specs.Words.{instructions, aAt}
 use Rattle.lowering.specs.Run.{pops, pushes, needs}
-use Rattle.wellmade.specs.Rules.{tables}
-use Rattle.wellmade.specs.Marks.{mark, marksThere, tableNode, flowAt, after, edges, edge, passBy, marked, placeBy, tableBy}
-use Rattle.image_rows.specs.Rows.{Pooled}
+use Rattle.image_rule.specs.Rules.{tables}
+use Rattle.image_rule.specs.Marks.{mark, marksThere, tableNode, flowAt, after, edges, edge, passBy, marked, placeBy, tableBy}
+use Rattle.image_rows.specs.AllRows.{Pooled}
 use Rattle.image_rows.specs.Scratch.{marksOf, Does}
 use Rattle.image_depths.specs.declared.Code.{Code}
 

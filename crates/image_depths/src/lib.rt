@@ -7,9 +7,9 @@ ghost use Rattle.bytecode.specs.Table.{effectTable};
 ghost use Rattle.bytecode.specs.Table as table;
 ghost use Rattle.lowering.specs.Words as words;
 ghost use Rattle.lowering.specs.Run as runs;
-ghost use Rattle.wellmade.specs.Marks as marks;
-ghost use Rattle.wellmade.proofs.Right.{TablesNamed};
-ghost use Rattle.image_rows.specs.Rows.{Placed, Pooled};
+ghost use Rattle.image_rule.specs.Marks as marks;
+ghost use Rattle.image_rule.proofs.Right.{TablesNamed};
+ghost use Rattle.image_rows.specs.AllRows.{Placed, Pooled};
 ghost use Rattle.image_rows.specs.Scratch.{marksOf, Does, Runs};
 ghost use Rattle.image_depths.specs.Checked.{Checked, RowsPooled};
 ghost use Rattle.image_depths.specs.Passing.{Read, PooledAt, Passed, MarkedAll, leads, placesRight, tablesRight};
@@ -17,7 +17,6 @@ use bytecode::counted;
 use bytecode::effects;
 use bytecode::entry;
 use bytecode::kept;
-use image_read::SIZES;
 use image_read::word_of;
 use image_rows::Starts;
 use image_rows::come;
@@ -29,6 +28,9 @@ use image_rows::rows_right;
 use image_rows::starts_of;
 use image_rows::table_word;
 use image_rows::word_from;
+use lowering::CHAIN_WIDTH;
+use lowering::OP_WIDTH;
+use lowering::SIZES;
 use zeros::zero;
 
 // An instruction: its word a, where it goes, and what it pushes, pops and needs to find.
@@ -41,38 +43,38 @@ struct Code {
 }
 
 // What chain `i` takes: its operands, and one more for a Temporary root.
-fn chain_takes(w: &[u32], o: Starts, i: u32) -> u64
-    ensures value { λ r. ⌜ (Placed (now (w .entry)) o → r ≡ runs.chainTakes (now (w .entry)) i) ⌝ }
+fn chain_takes(image: &[u32], o: Starts, i: u32) -> u64
+    ensures value { λ r. ⌜ (Placed (now (image .entry)) o → r ≡ runs.chainTakes (now (image .entry)) i) ⌝ }
     ensures small { λ r. ⌜ r ≤ 4294967296 ⌝ }
 {
-    let n = word_from(w, o.chains, 6 * (i as usize) + 5) as u64;
-    if word_from(w, o.chains, 6 * (i as usize)) == 3 {
+    let n = word_from(image, o.chains, CHAIN_WIDTH * (i as usize) + 5) as u64;
+    if word_from(image, o.chains, CHAIN_WIDTH * (i as usize)) == 3 {
         return n + 1;
     }
     n
 }
 
 // The count that is popped on top; the chain is looked at only where it counts.
-fn on_top(w: &[u32], o: Starts, which: u32, a: u32, b: u32) -> u64
-    ensures value { λ r. let image = now (w .entry) in
+fn on_top(image: &[u32], o: Starts, which: u32, a: u32, b: u32) -> u64
+    ensures value { λ r. let image = now (image .entry) in
         ⌜ (Placed image o → r ≡ table.counted which a b (runs.chainTakes image a)) ⌝ }
     ensures small { λ r. ⌜ r ≤ 4294967296 ⌝ }
 {
     if which == 5 {
-        return chain_takes(w, o, a);
+        return chain_takes(image, o, a);
     }
     counted(which, a, b, 0)
 }
 
 // The instruction at `p`.
-fn code_at(w: &[u32], o: Starts, t: &[u8; 125], p: u32) -> Code
-    ensures { λ r. ⌜ (Placed (now (w .entry)) o → now (t .entry) ≡ effectTable → Read (now (w .entry)) p r) ⌝ }
+fn code_at(image: &[u32], o: Starts, t: &[u8; 125], p: u32) -> Code
+    ensures { λ r. ⌜ (Placed (now (image .entry)) o → now (t .entry) ≡ effectTable → Read (now (image .entry)) p r) ⌝ }
 {
-    let at = SIZES + 4 * (p as usize);
-    let kind = word_of(w, at);
-    let a = word_of(w, at + 1);
+    let at = SIZES + OP_WIDTH * (p as usize);
+    let kind = word_of(image, at);
+    let a = word_of(image, at + 1);
     let which = entry(t, kind, 3);
-    let top = on_top(w, o, which, a, word_of(w, at + 2));
+    let top = on_top(image, o, which, a, word_of(image, at + 2));
     let pops = (entry(t, kind, 0) as u64) + top;
     let needs = pops + (entry(t, kind, 2) as u64) + (kept(which, a) as u64);
     Code {
@@ -97,83 +99,84 @@ fn after(c: Code, d: u32) -> u64
 }
 
 // A Switch hands the mark `m` to its table. If none has come to the table before, its rows and its default are come to.
-fn open_table(w: &[u32], o: Starts, m: u32, l: &mut [u32], i: u32)
-    ensures { λ _. let image = now (w .entry) in
+fn open_table(image: &[u32], o: Starts, m: u32, scratch: &mut [u32], i: u32)
+    ensures { λ _. let image = now (image .entry) in
         ⌜ (Placed image o
         → Pooled image i
         → 0 < m
-        → Does image (λ a. marks.come m (marks.enter image i m a) (marks.tableNode image i)) (now (l .entry)) (now (l .exit))) ⌝ }
+        → Does image (λ a. marks.come m (marks.enter image i m a) (marks.tableNode image i)) (now (scratch .entry))
+        (now (scratch .exit))) ⌝ }
 {
     let size = marks_there(o);
     let node = (o.places as usize) + 1 + (i as usize);
-    if mark_of(l, size, node) != 0 {
+    if mark_of(scratch, size, node) != 0 {
         return;
     }
-    come_rows(w, o, m, l, i);
-    let d = table_word(w, o, i, 3);
-    come(m, l, size, d as usize);
-    come(m, l, size, node);
+    come_rows(image, o, m, scratch, i);
+    let d = table_word(image, o, i, 3);
+    come(m, scratch, size, d as usize);
+    come(m, scratch, size, node);
 }
 
 // Place `p` hands on the mark `m`.
-fn hand_on(w: &[u32], o: Starts, c: Code, p: u32, m: u32, l: &mut [u32])
-    ensures { λ _. let image = now (w .entry) in
-        let done = Does image (marks.handOn (marks.flowAt image p) image p m) (now (l .entry)) (now (l .exit)) in
+fn hand_on(image: &[u32], o: Starts, c: Code, p: u32, m: u32, scratch: &mut [u32])
+    ensures { λ _. let image = now (image .entry) in
+        let done = Does image (marks.handOn (marks.flowAt image p) image p m) (now (scratch .entry)) (now (scratch .exit)) in
         ⌜ (Placed image o → Read image p c → PooledAt image p → 0 < m → done) ⌝ }
 {
     let size = marks_there(o);
     let next = (p as usize) + 1;
     if c.flow == 3 {
-        open_table(w, o, m, l, c.a);
+        open_table(image, o, m, scratch, c.a);
         return;
     }
     if c.flow == 2 {
-        come(m, l, size, next);
-        come(m, l, size, c.a as usize);
+        come(m, scratch, size, next);
+        come(m, scratch, size, c.a as usize);
         return;
     }
     if c.flow == 1 {
-        come(m, l, size, c.a as usize);
+        come(m, scratch, size, c.a as usize);
         return;
     }
-    come(m, l, size, next);
+    come(m, scratch, size, next);
 }
 
 // Place `p` hands on its mark; false where the mark to hand on has no room in a word.
-fn pass(w: &[u32], o: Starts, t: &[u8; 125], p: u32, l: &mut [u32]) -> bool
-    ensures { λ r. let image = now (w .entry) in
-        let done = Passed image p (now (l .entry)) (now (l .exit)) r in
+fn pass(image: &[u32], o: Starts, t: &[u8; 125], p: u32, scratch: &mut [u32]) -> bool
+    ensures { λ r. let image = now (image .entry) in
+        let done = Passed image p (now (scratch .entry)) (now (scratch .exit)) r in
         ⌜ (Placed image o → now (t .entry) ≡ effectTable → PooledAt image p → done) ⌝ }
 {
-    let m = mark_of(l, marks_there(o), p as usize);
+    let m = mark_of(scratch, marks_there(o), p as usize);
     if m == 0 {
         return true;
     }
-    let c = code_at(w, o, t, p);
+    let c = code_at(image, o, t, p);
     let n = after(c, m - 1) + 1;
     if 4294967295 < n {
         return false;
     }
-    hand_on(w, o, c, p, n as u32, l);
+    hand_on(image, o, c, p, n as u32, scratch);
     true
 }
 
 // The marks of the whole code.
-fn mark_all(w: &[u32], o: Starts, t: &[u8; 125], l: &mut [u32]) -> bool
-    ensures { λ r. let image = now (w .entry) in
+fn mark_all(image: &[u32], o: Starts, t: &[u8; 125], scratch: &mut [u32]) -> bool
+    ensures { λ r. let image = now (image .entry) in
         ⌜ (Placed image o
         → now (t .entry) ≡ effectTable
         → TablesNamed image
         → RowsPooled image
-        → marks.marksThere image ≤ length (now (l .entry))
-        → MarkedAll image (now (l .exit)) r) ⌝ }
+        → marks.marksThere image ≤ length (now (scratch .entry))
+        → MarkedAll image (now (scratch .exit)) r) ⌝ }
 {
-    zero(l);
-    come(1, l, marks_there(o), 0);
+    zero(scratch);
+    come(1, scratch, marks_there(o), 0);
     let n = o.places;
     let mut p: u32 = 0;
     while p < n {
-        if pass(w, o, t, p, l) {
+        if pass(image, o, t, p, scratch) {
             p += 1;
         } else {
             return false;
@@ -183,48 +186,48 @@ fn mark_all(w: &[u32], o: Starts, t: &[u8; 125], l: &mut [u32]) -> bool
 }
 
 // Each way from `p` leads to the mark `m`.
-fn leads(o: Starts, c: Code, l: &[u32], p: u32, m: u64) -> bool
+fn leads(o: Starts, c: Code, scratch: &[u32], p: u32, m: u64) -> bool
     ensures { λ r.
-        ⌜ ((w : List ℕ) → Placed w o → Read w p c → r ≡ leads (marks.flowAt w p) w (marksOf w (now (l .entry))) p m) ⌝ }
+        ⌜ ((w : List ℕ) → Placed w o → Read w p c → r ≡ leads (marks.flowAt w p) w (marksOf w (now (scratch .entry))) p m) ⌝ }
 {
     let size = marks_there(o);
     let next = (p as usize) + 1;
     if c.flow == 3 {
-        return (mark_of(l, size, (o.places as usize) + 1 + (c.a as usize)) as u64) == m;
+        return (mark_of(scratch, size, (o.places as usize) + 1 + (c.a as usize)) as u64) == m;
     }
     if c.flow == 2 {
-        return ((mark_of(l, size, next) as u64) == m)
-            & ((mark_of(l, size, c.a as usize) as u64) == m);
+        return ((mark_of(scratch, size, next) as u64) == m)
+            & ((mark_of(scratch, size, c.a as usize) as u64) == m);
     }
     if c.flow == 1 {
-        return (mark_of(l, size, c.a as usize) as u64) == m;
+        return (mark_of(scratch, size, c.a as usize) as u64) == m;
     }
-    (mark_of(l, size, next) as u64) == m
+    (mark_of(scratch, size, next) as u64) == m
 }
 
 // Place `p` finds what it needs, and leads to its own mark.
-fn place_right(w: &[u32], o: Starts, t: &[u8; 125], l: &[u32], p: u32) -> bool
-    ensures { λ r. let image = now (w .entry) in
-        let found = marksOf image (now (l .entry)) in
+fn place_right(image: &[u32], o: Starts, t: &[u8; 125], scratch: &[u32], p: u32) -> bool
+    ensures { λ r. let image = now (image .entry) in
+        let found = marksOf image (now (scratch .entry)) in
         ⌜ (Placed image o → now (t .entry) ≡ effectTable → r ≡ marks.placeBy (marks.mark found p) image found p) ⌝ }
 {
-    let m = mark_of(l, marks_there(o), p as usize);
+    let m = mark_of(scratch, marks_there(o), p as usize);
     if m == 0 {
         return true;
     }
-    let c = code_at(w, o, t, p);
+    let c = code_at(image, o, t, p);
     let n = after(c, m - 1) + 1;
-    (c.needs <= ((m - 1) as u64)) & leads(o, c, l, p, n)
+    (c.needs <= ((m - 1) as u64)) & leads(o, c, scratch, p, n)
 }
 
-fn places_right(w: &[u32], o: Starts, t: &[u8; 125], l: &[u32]) -> bool
-    ensures { λ r. let image = now (w .entry) in
-        ⌜ (Placed image o → now (t .entry) ≡ effectTable → r ≡ placesRight image (marksOf image (now (l .entry)))) ⌝ }
+fn places_right(image: &[u32], o: Starts, t: &[u8; 125], scratch: &[u32]) -> bool
+    ensures { λ r. let image = now (image .entry) in
+        ⌜ (Placed image o → now (t .entry) ≡ effectTable → r ≡ placesRight image (marksOf image (now (scratch .entry)))) ⌝ }
 {
     let n = o.places;
     let mut p: u32 = 0;
     while p < n {
-        if place_right(w, o, t, l, p) {
+        if place_right(image, o, t, scratch, p) {
             p += 1;
         } else {
             return false;
@@ -234,31 +237,31 @@ fn places_right(w: &[u32], o: Starts, t: &[u8; 125], l: &[u32]) -> bool
 }
 
 // The rows and the default of table `i` have its mark.
-fn table_right(w: &[u32], o: Starts, l: &[u32], i: u32) -> bool
-    ensures { λ r. let image = now (w .entry) in
-        let found = marksOf image (now (l .entry)) in
+fn table_right(image: &[u32], o: Starts, scratch: &[u32], i: u32) -> bool
+    ensures { λ r. let image = now (image .entry) in
+        let found = marksOf image (now (scratch .entry)) in
         let right = marks.tableBy (marks.mark found (marks.tableNode image i)) image found i in
-        ⌜ (Placed image o → Pooled image i → Runs image (now (l .entry)) → r ≡ right) ⌝ }
+        ⌜ (Placed image o → Pooled image i → Runs image (now (scratch .entry)) → r ≡ right) ⌝ }
 {
     let size = marks_there(o);
-    let m = mark_of(l, size, (o.places as usize) + 1 + (i as usize));
+    let m = mark_of(scratch, size, (o.places as usize) + 1 + (i as usize));
     if m == 0 {
         return true;
     }
-    let rows = rows_right(w, o, l, i, m);
-    let d = table_word(w, o, i, 3);
-    rows & (mark_of(l, size, d as usize) == m)
+    let rows = rows_right(image, o, scratch, i, m);
+    let d = table_word(image, o, i, 3);
+    rows & (mark_of(scratch, size, d as usize) == m)
 }
 
-fn tables_right(w: &[u32], o: Starts, l: &[u32]) -> bool
-    ensures { λ r. let image = now (w .entry) in
-        let found = marksOf image (now (l .entry)) in
-        ⌜ (Placed image o → RowsPooled image → Runs image (now (l .entry)) → r ≡ tablesRight image found) ⌝ }
+fn tables_right(image: &[u32], o: Starts, scratch: &[u32]) -> bool
+    ensures { λ r. let image = now (image .entry) in
+        let found = marksOf image (now (scratch .entry)) in
+        ⌜ (Placed image o → RowsPooled image → Runs image (now (scratch .entry)) → r ≡ tablesRight image found) ⌝ }
 {
     let n = o.tables;
     let mut i: u32 = 0;
     while i < n {
-        if table_right(w, o, l, i) {
+        if table_right(image, o, scratch, i) {
             i += 1;
         } else {
             return false;
@@ -274,47 +277,50 @@ fn larger(x: u32, y: u32) -> u32
 }
 
 // The greatest of the marks 0 to `n`.
-fn most(l: &[u32], size: usize, n: u32) -> u32
-    ensures { λ r. ⌜ r ≡ marks.most (take size (now (l .entry))) n ⌝ }
+fn most(scratch: &[u32], size: usize, n: u32) -> u32
+    ensures { λ r. ⌜ r ≡ marks.most (take size (now (scratch .entry))) n ⌝ }
 {
-    let mut x = mark_of(l, size, 0);
+    let mut x = mark_of(scratch, size, 0);
     let mut i: u32 = 0;
     while i < n {
         i += 1;
-        x = larger(x, mark_of(l, size, i as usize));
+        x = larger(x, mark_of(scratch, size, i as usize));
     }
     x
 }
 
 // The marks agree everywhere, one value remains, and the reported depth is the greatest.
-fn marks_right(w: &[u32], o: Starts, t: &[u8; 125], l: &[u32]) -> bool
-    ensures { λ r. let image = now (w .entry) in
+fn marks_right(image: &[u32], o: Starts, t: &[u8; 125], scratch: &[u32]) -> bool
+    ensures { λ r. let image = now (image .entry) in
         ⌜ (Placed image o
         → now (t .entry) ≡ effectTable
         → RowsPooled image
-        → Runs image (now (l .entry))
-        → r ≡ marks.marksRight image (marksOf image (now (l .entry)))) ⌝ }
+        → Runs image (now (scratch .entry))
+        → r ≡ marks.marksRight image (marksOf image (now (scratch .entry)))) ⌝ }
 {
     let size = marks_there(o);
     let n = o.places;
-    let d = (word_of(w, 11) as u64) + 1;
-    let places = places_right(w, o, t, l);
-    let tables = tables_right(w, o, l);
-    places & tables & (mark_of(l, size, n as usize) == 2) & ((most(l, size, n) as u64) == d)
+    let d = (word_of(image, 11) as u64) + 1;
+    let places = places_right(image, o, t, scratch);
+    let tables = tables_right(image, o, scratch);
+    places
+        & tables
+        & (mark_of(scratch, size, n as usize) == 2)
+        & ((most(scratch, size, n) as u64) == d)
 }
 
 // Whether runs agree on the depth at each place, find what they need, end with one value, and reach the depth that the image reports.
 // What the scratch holds in the end is not said.
-pub fn depths_right(w: &[u32], l: &mut [u32]) -> bool
-    ensures { λ r. let image = now (w .entry) in
+pub fn depths_right(image: &[u32], scratch: &mut [u32]) -> bool
+    ensures { λ r. let image = now (image .entry) in
         let marked = marks.marked image (marks.marksThere image) (words.instructions image) in
-        ⌜ (Checked image → length (now (l .entry)) ≡ length image → r ≡ marks.marksRight image marked) ⌝ }
+        ⌜ (Checked image → length (now (scratch .entry)) ≡ length image → r ≡ marks.marksRight image marked) ⌝ }
 {
-    let o = starts_of(w);
+    let o = starts_of(image);
     let t = effects();
-    if mark_all(w, o, &t, l) {
-        count_runs(w, o, l);
-        return marks_right(w, o, &t, l);
+    if mark_all(image, o, &t, scratch) {
+        count_runs(image, o, scratch);
+        return marks_right(image, o, &t, scratch);
     }
     false
 }

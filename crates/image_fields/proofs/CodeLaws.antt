@@ -1,29 +1,25 @@
 -- The test of an instruction's words, over the bounds of a by kind, is the test of its rules.
 use Prim.Native.Nat.{ℕ, zero, suc, _+_, _*_, _/_, _%_, _<_, _≤_}
 use mathlib.Core.Path.{_≡_, refl, sym, ap, ap₂, _∙_, subst}
-use mathlib.Core.Bool.{Bool, true, false, _&&_}
+use mathlib.Core.Bool.{Bool, true, false, _&&_, and-true, and-false, and-assoc}
 use mathlib.Core.List.{List, [], _∷_}
 use native.Mathlib.Omega.{arith}
 use borrow.Author.Tests.{eqb-true, eqb-false, ltb-true, ltb-false, ne-eqb, lt-ltb, le-ltb, le-leb, lt-leb}
 use lib.Dec.{ltb, leb, eqb, leb·suc-suc}
 use lib.ListN.{getD}
-use Rattle.sheet.specs.Layout.{localCount}
-use Rattle.lowering.specs.Limits.{maxArgs, maxElements}
+use Rattle.sheet.specs.Sections.{localCount}
+use Rattle.lowering.specs.Limits.{maxArgs, maxElements, sizesWords, opWidth}
 use Rattle.lowering.specs.Words.{word, codeAt}
-use Rattle.wellmade.specs.Rules.{constants, names, tokens, residuals, chains, tables, receiverRule, only, codeTable, codeRules}
-use Rattle.wellmade.specs.Rules.{Rule, free, unused, below, upTo, between, packed}
-use Rattle.wellmade.specs.Test.{fits, obeys}
+use Rattle.image_rule.specs.Rules.{constants, names, tokens, residuals, chains, tables, receiverRule, only, codeTable, codeRules}
+use Rattle.image_rule.specs.Rules.{Rule, free, unused, below, upTo, between, packed}
+use Rattle.image_rule.specs.Test.{fits, obeys}
 use Rattle.image_fields.specs.Fields.{any, boundsBy, codeBounds, refFits, restFits, codeFits}
 use Rattle.image_fields.proofs.FitLaws.{code-none}
-use Rattle.image_fields.proofs.ObeysLaws.{and-true, and-false, obeys-4, obeys-none}
+use Rattle.image_fields.proofs.ObeysLaws.{obeys-4, obeys-none}
 
 -- instruction p obeys its rules
 abbrev pub instructionRight : List ℕ → List ℕ → ℕ → Bool
-instructionRight s w p = obeys (codeRules s w p) w (codeAt + 4 * p)
-
-and-right : (a b c : Bool) → (a && (b && c)) ≡ (a && b && c)
-and-right true b c = refl
-and-right false b c = refl
+instructionRight s w p = obeys (codeRules s w p) w (codeAt + opWidth * p)
 
 -- being below a bound is fitting a rule
 unused-is : (a : ℕ) → ltb a 1 ≡ eqb a 0
@@ -70,7 +66,7 @@ module _ (s w : List ℕ) (b : ℕ) where
     r₂ = unused;
     r₃ = unused;
     row = o .0;
-    same = λ a c h. o .1 a c ∙ ap (λ (t : Bool). t && (eqb b 0 && eqb c 0)) (law a h) ∙ and-right (fits r a) (eqb b 0) (eqb c 0);
+    same = λ a c h. o .1 a c ∙ ap (λ (t : Bool). t && (eqb b 0 && eqb c 0)) (law a h) ∙ sym (and-assoc (fits r a) (eqb b 0) (eqb c 0));
   }
 
   free-row : (k : ℕ) → Only free any k → Row k
@@ -99,7 +95,7 @@ module _ (s w : List ℕ) (b : ℕ) where
     row = refl;
     same = λ a c h.
         ap (λ (t : Bool). ltb a (names w) && (t && ltb (b / 256) 2 && leb c (tokens w))) (sym (le-leb 0 (b % 256) (omega arith)))
-        ∙ and-right (ltb a (names w)) (leb 0 (b % 256) && ltb (b / 256) 2) (leb c (tokens w));
+        ∙ sym (and-assoc (ltb a (names w)) (leb 0 (b % 256) && ltb (b / 256) 2) (leb c (tokens w)));
   }
 
   -- c of CallRef, by the receiver
@@ -123,7 +119,7 @@ module _ (s w : List ℕ) (b : ℕ) where
     row = refl;
     same = λ a c h.
         ap (λ (t : Bool). ltb a (names w) && t) (receiver-is (leb 1 (b % 256)) (b / 256) c)
-        ∙ and-right (ltb a (names w)) (leb 1 (b % 256) && ltb (b / 256) 3) (fits (receiverRule s w (b / 256)) c);
+        ∙ sym (and-assoc (ltb a (names w)) (leb 1 (b % 256) && ltb (b / 256) 3) (fits (receiverRule s w (b / 256)) c));
   }
 
   ptr-row : Row 17
@@ -133,7 +129,8 @@ module _ (s w : List ℕ) (b : ℕ) where
     r₂ = upTo 1;
     r₃ = unused;
     row = refl;
-    same = λ a c h. ap (λ (t : Bool). t && (leb b 1 && eqb c 0)) (leb·suc-suc a maxArgs) ∙ and-right (leb a maxArgs) (leb b 1) (eqb c 0);
+    same =
+        λ a c h. ap (λ (t : Bool). t && (leb b 1 && eqb c 0)) (leb·suc-suc a maxArgs) ∙ sym (and-assoc (leb a maxArgs) (leb b 1) (eqb c 0));
   }
 
   -- every kind has its row
@@ -215,6 +212,7 @@ module _ (s w : List ℕ) (at a b c : ℕ) (small : a < any)
 -- the answer for instruction p, over the words that were read
 pub code-right : (s w : List ℕ) (p : ℕ) {bounds : List ℕ} {tokens′ k a b c : ℕ} {r : Bool}
     → r ≡ codeFits bounds tokens′ k a b c → bounds ≡ codeBounds s w → tokens′ ≡ tokens w
-    → k ≡ word w (12 + 4 * p) → a ≡ word w (12 + 4 * p + 1) → b ≡ word w (12 + 4 * p + 2) → c ≡ word w (12 + 4 * p + 3)
+    → k ≡ word w (sizesWords + opWidth * p) → a ≡ word w (sizesWords + opWidth * p + 1) → b ≡ word w (sizesWords + opWidth * p + 2)
+    → c ≡ word w (sizesWords + opWidth * p + 3)
     → a < any → r ≡ instructionRight s w p
-code-right s w p {k = k} {a} {b} {c} q m t e₀ e₁ e₂ e₃ small = cc (kind-any s w (12 + 4 * p) a b c small e₁ e₂ e₃ k e₀)
+code-right s w p {k = k} {a} {b} {c} q m t e₀ e₁ e₂ e₃ small = cc (kind-any s w (sizesWords + opWidth * p) a b c small e₁ e₂ e₃ k e₀)

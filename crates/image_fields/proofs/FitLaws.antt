@@ -6,10 +6,10 @@ use mathlib.Core.List.{List}
 use lib.Dec.{leb, ltb, eqb}
 use lib.ListN.{getD}
 use borrow.Author.Tests.{eq-eqb, ne-eqb, lt-ltb, le-ltb}
-use Rattle.sheet.specs.Layout.{localCount}
-use Rattle.wellmade.specs.Rules.{constants, names, tables, chains, residuals}
-use Rattle.wellmade.specs.Test.{codeRight, constsRight, namesRight, tokensRight, residualsRight}
-use Rattle.wellmade.specs.Test.{chainsRight, stepsRight, switchesRight, casesRight, rangesRight}
+use Rattle.sheet.specs.Sections.{localCount}
+use Rattle.image_rule.specs.Rules.{constants, names, tables, chains, residuals}
+use Rattle.image_rule.specs.Test.{codeRight, constsRight, namesRight, tokensRight, residualsRight}
+use Rattle.image_rule.specs.Test.{chainsRight, stepsRight, switchesRight, casesRight, rangesRight}
 use Rattle.image_fields.specs.Fields.{fieldsRight, boundsBy, codeBounds, refFits, restFits, codeFits}
 
 -- the bounds by the sizes that were read

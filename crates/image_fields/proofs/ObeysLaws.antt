@@ -1,28 +1,16 @@
 -- When a record of so many words obeys its rules, over the words that were read.
 use Prim.Native.Nat.{ℕ, _+_}
 use mathlib.Core.Path.{_≡_, refl, sym, ap, ap₂, _∙_}
-use mathlib.Core.Bool.{Bool, true, false, _&&_, _||_}
+use mathlib.Core.Bool.{Bool, false, _&&_}
 use mathlib.Core.List.{List, [], _∷_}
 use native.Mathlib.Omega.{arith}
 use native.Mathlib.Nat.{add-zero}
 use lib.ListN.{length, getD}
 use Rattle.words.specs.Count.{allBelow}
-use Rattle.words.specs.CountLaws.{all-suc, all-fails}
+use Rattle.words.proofs.CountLaws.{all-suc, all-fails}
 use Rattle.lowering.specs.Words.{word}
-use Rattle.wellmade.specs.Rules.{Rule, free}
-use Rattle.wellmade.specs.Test.{fits, obeys}
-
-pub and-true : (b : Bool) → (b && true) ≡ b
-and-true true = refl
-and-true false = refl
-
-pub and-false : (b : Bool) → (b && false) ≡ false
-and-false true = refl
-and-false false = refl
-
-pub or-false : (b : Bool) → (b || false) ≡ b
-or-false true = refl
-or-false false = refl
+use Rattle.image_rule.specs.Rules.{Rule, free}
+use Rattle.image_rule.specs.Test.{fits, obeys}
 
 -- a test of so many numbers
 module _ (f : ℕ → Bool) where

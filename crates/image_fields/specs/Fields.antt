@@ -1,16 +1,16 @@
 -- The words of all records, and each record's test over numbers as the code makes it. Only `fieldsRight` is to be believed: the laws show
--- that the others are the tests of `wellmade`.
+-- that the others are the tests of crate image_rule.
 use Prim.Native.Nat.{ℕ, _+_, _/_, _%_}
 use mathlib.Core.Bool.{Bool, true, false, _&&_, _||_}
 use mathlib.Core.List.{List, [], _∷_}
 use lib.Dec.{leb, ltb, eqb}
 use lib.ListN.{getD}
-use Rattle.sheet.specs.Layout.{localCount}
-use Rattle.shape.specs.Kinds as Kinds
+use Rattle.sheet.specs.Sections.{localCount}
+use Rattle.check_shape.specs.Kinds as Kinds
 use Rattle.lowering.specs.Limits.{maxArgs, maxElements}
-use Rattle.wellmade.specs.Rules.{constants, names, residuals, chains, tables}
-use Rattle.wellmade.specs.Test.{codeRight, constsRight, namesRight, tokensRight, residualsRight}
-use Rattle.wellmade.specs.Test.{chainsRight, stepsRight, switchesRight, casesRight, rangesRight}
+use Rattle.image_rule.specs.Rules.{constants, names, residuals, chains, tables}
+use Rattle.image_rule.specs.Test.{codeRight, constsRight, namesRight, tokensRight, residualsRight}
+use Rattle.image_rule.specs.Test.{chainsRight, stepsRight, switchesRight, casesRight, rangesRight}
 
 -- the words of each record of each section, but for what steps ask of the operands of the chains that have them
 unfoldable pub fieldsRight : List ℕ → List ℕ → Bool

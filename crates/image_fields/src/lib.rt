@@ -1,9 +1,9 @@
 // The words of every record of an image: kinds, flags, counts, unused words, and indexes into its pools and its sheet. Each section is
 // gone through once. What the steps of a chain ask of its operands is left out.
 ghost use mathlib.Core.Path.{_≡_};
-ghost use Rattle.wellmade.specs.Test as tests;
+ghost use Rattle.image_rule.specs.Test as tests;
 ghost use Rattle.image_fields.specs.Fields as fields;
-use image_read::SIZES;
+use check_shape::scalar;
 use image_read::cases_at;
 use image_read::chains_at;
 use image_read::consts_at;
@@ -15,9 +15,18 @@ use image_read::steps_at;
 use image_read::switches_at;
 use image_read::tokens_at;
 use image_read::word_of;
+use lowering::CASE_WIDTH;
+use lowering::CHAIN_WIDTH;
+use lowering::CONST_WIDTH;
 use lowering::MAX_ARGS;
 use lowering::MAX_ELEMENTS;
-use shape::scalar;
+use lowering::NAME_WIDTH;
+use lowering::OP_WIDTH;
+use lowering::RANGE_TARGET;
+use lowering::RANGE_WIDTH;
+use lowering::SIZES;
+use lowering::STEP_WIDTH;
+use lowering::SWITCH_WIDTH;
 use sheet::local_count;
 use sheet::node_count;
 use sheet::text_count;
@@ -36,18 +45,18 @@ const CALL_REF: u32 = 13;
 const CALL_FN_PTR: u32 = 17;
 
 // For the kinds 0 to 24: what a must be below. Kind 0 is none.
-fn code_bounds(s: &[u8], w: &[u32]) -> [u64; 25]
-    ensures { λ r. ⌜ r ≡ fields.codeBounds (now (s .entry)) (now (w .entry)) ⌝ }
+fn code_bounds(sheet: &[u8], image: &[u32]) -> [u64; 25]
+    ensures { λ r. ⌜ r ≡ fields.codeBounds (now (sheet .entry)) (now (image .entry)) ⌝ }
 {
-    let names = word_of(w, 2) as u64;
+    let names = word_of(image, 2) as u64;
     let args = (MAX_ARGS as u64) + 1;
     let elements = (MAX_ELEMENTS as u64) + 1;
     [
         0,
-        word_of(w, 1) as u64, // Const
+        word_of(image, 1) as u64, // Const
         1, // Unit
         2, // Bool
-        local_count(s) as u64, // LoadLocal
+        local_count(sheet) as u64, // LoadLocal
         names, // LoadNamed
         1, // LoadThis
         1, // Pop
@@ -58,7 +67,7 @@ fn code_bounds(s: &[u8], w: &[u32]) -> [u64; 25]
         names, // Call
         names, // CallRef
         args, // Rotate
-        word_of(w, 7) as u64, // Switch
+        word_of(image, 7) as u64, // Switch
         1, // MakeFnPtr
         args, // CallFnPtr
         1, // InterpolateStart
@@ -66,8 +75,8 @@ fn code_bounds(s: &[u8], w: &[u32]) -> [u64; 25]
         1, // InterpolateEnd
         elements, // MakeArray
         elements, // CheckSize
-        word_of(w, 5) as u64, // Chain
-        word_of(w, 4) as u64, // EvalAst
+        word_of(image, 5) as u64, // Chain
+        word_of(image, 4) as u64, // EvalAst
     ]
 }
 
@@ -109,19 +118,19 @@ fn code_fits(bounds: &[u64; 25], tokens: u32, kind: u32, a: u32, b: u32, c: u32)
     ((a as u64) < below) & rest_fits(bounds, tokens, kind, b, c)
 }
 
-fn code_right(s: &[u8], w: &[u32]) -> bool
-    ensures { λ r. ⌜ r ≡ tests.codeRight (now (s .entry)) (now (w .entry)) ⌝ }
+fn code_right(sheet: &[u8], image: &[u32]) -> bool
+    ensures { λ r. ⌜ r ≡ tests.codeRight (now (sheet .entry)) (now (image .entry)) ⌝ }
 {
-    let bounds = code_bounds(s, w);
-    let tokens = word_of(w, 3);
-    let n = size_of(w, 0);
+    let bounds = code_bounds(sheet, image);
+    let tokens = word_of(image, 3);
+    let n = size_of(image, 0);
     let mut p: usize = 0;
     while p < n {
-        let at = SIZES + 4 * p;
-        let kind = word_of(w, at);
-        let a = word_of(w, at + 1);
-        let b = word_of(w, at + 2);
-        let c = word_of(w, at + 3);
+        let at = SIZES + OP_WIDTH * p;
+        let kind = word_of(image, at);
+        let a = word_of(image, at + 1);
+        let b = word_of(image, at + 2);
+        let c = word_of(image, at + 3);
         if code_fits(&bounds, tokens, kind, a, b, c) {
             p += 1;
         } else {
@@ -140,18 +149,18 @@ fn const_fits(texts: u32, kind: u32, a: u32, b: u32) -> bool
     (kind == 3) | (kind == 4) | char | string
 }
 
-fn consts_right(s: &[u8], w: &[u32]) -> bool
-    ensures { λ r. ⌜ r ≡ tests.constsRight (now (s .entry)) (now (w .entry)) ⌝ }
+fn consts_right(sheet: &[u8], image: &[u32]) -> bool
+    ensures { λ r. ⌜ r ≡ tests.constsRight (now (sheet .entry)) (now (image .entry)) ⌝ }
 {
-    let texts = text_count(s);
-    let first = consts_at(w);
-    let n = size_of(w, 1);
+    let texts = text_count(sheet);
+    let first = consts_at(image);
+    let n = size_of(image, 1);
     let mut i: usize = 0;
     while i < n {
-        let at = first + 3 * i;
-        let kind = word_of(w, at);
-        let a = word_of(w, at + 1);
-        let b = word_of(w, at + 2);
+        let at = first + CONST_WIDTH * i;
+        let kind = word_of(image, at);
+        let a = word_of(image, at + 1);
+        let b = word_of(image, at + 2);
         if const_fits(texts, kind, a, b) {
             i += 1;
         } else {
@@ -161,17 +170,17 @@ fn consts_right(s: &[u8], w: &[u32]) -> bool
     true
 }
 
-fn names_right(s: &[u8], w: &[u32]) -> bool
-    ensures { λ r. ⌜ r ≡ tests.namesRight (now (s .entry)) (now (w .entry)) ⌝ }
+fn names_right(sheet: &[u8], image: &[u32]) -> bool
+    ensures { λ r. ⌜ r ≡ tests.namesRight (now (sheet .entry)) (now (image .entry)) ⌝ }
 {
-    let texts = text_count(s);
-    let first = names_at(w);
-    let n = size_of(w, 2);
+    let texts = text_count(sheet);
+    let first = names_at(image);
+    let n = size_of(image, 2);
     let mut i: usize = 0;
     while i < n {
-        let at = first + 2 * i;
-        let text = word_of(w, at);
-        let mark = word_of(w, at + 1);
+        let at = first + NAME_WIDTH * i;
+        let text = word_of(image, at);
+        let mark = word_of(image, at + 1);
         if (text < texts) & (mark <= 1) {
             i += 1;
         } else {
@@ -181,14 +190,14 @@ fn names_right(s: &[u8], w: &[u32]) -> bool
     true
 }
 
-fn tokens_right(w: &[u32]) -> bool
-    ensures { λ r. ⌜ r ≡ tests.tokensRight (now (w .entry)) ⌝ }
+fn tokens_right(image: &[u32]) -> bool
+    ensures { λ r. ⌜ r ≡ tests.tokensRight (now (image .entry)) ⌝ }
 {
-    let first = tokens_at(w);
-    let n = size_of(w, 3);
+    let first = tokens_at(image);
+    let n = size_of(image, 3);
     let mut i: usize = 0;
     while i < n {
-        let token = word_of(w, first + i);
+        let token = word_of(image, first + i);
         if (1 <= token) & (token <= MAX_TOKEN) {
             i += 1;
         } else {
@@ -198,15 +207,15 @@ fn tokens_right(w: &[u32]) -> bool
     true
 }
 
-fn residuals_right(s: &[u8], w: &[u32]) -> bool
-    ensures { λ r. ⌜ r ≡ tests.residualsRight (now (s .entry)) (now (w .entry)) ⌝ }
+fn residuals_right(sheet: &[u8], image: &[u32]) -> bool
+    ensures { λ r. ⌜ r ≡ tests.residualsRight (now (sheet .entry)) (now (image .entry)) ⌝ }
 {
-    let nodes = node_count(s);
-    let first = residuals_at(w);
-    let n = size_of(w, 4);
+    let nodes = node_count(sheet);
+    let first = residuals_at(image);
+    let n = size_of(image, 4);
     let mut i: usize = 0;
     while i < n {
-        let node = word_of(w, first + i);
+        let node = word_of(image, first + i);
         if node < nodes {
             i += 1;
         } else {
@@ -234,22 +243,22 @@ fn root_fits(locals: u32, names: u32, root: u32, x: u32, y: u32) -> bool
     local | named | this | temporary
 }
 
-fn chains_right(s: &[u8], w: &[u32]) -> bool
-    ensures { λ r. ⌜ r ≡ tests.chainsRight (now (s .entry)) (now (w .entry)) ⌝ }
+fn chains_right(sheet: &[u8], image: &[u32]) -> bool
+    ensures { λ r. ⌜ r ≡ tests.chainsRight (now (sheet .entry)) (now (image .entry)) ⌝ }
 {
-    let locals = local_count(s);
-    let names = word_of(w, 2);
-    let steps = word_of(w, 6);
-    let first = chains_at(w);
-    let n = size_of(w, 5);
+    let locals = local_count(sheet);
+    let names = word_of(image, 2);
+    let steps = word_of(image, 6);
+    let first = chains_at(image);
+    let n = size_of(image, 5);
     let mut i: usize = 0;
     while i < n {
-        let at = first + 6 * i;
-        let root = word_of(w, at);
-        let x = word_of(w, at + 1);
-        let y = word_of(w, at + 2);
-        let run = run_fits(word_of(w, at + 3), word_of(w, at + 4), steps);
-        let operands = word_of(w, at + 5);
+        let at = first + CHAIN_WIDTH * i;
+        let root = word_of(image, at);
+        let x = word_of(image, at + 1);
+        let y = word_of(image, at + 2);
+        let run = run_fits(word_of(image, at + 3), word_of(image, at + 4), steps);
+        let operands = word_of(image, at + 5);
         if root_fits(locals, names, root, x, y) & run & (operands <= MAX_ELEMENTS) {
             i += 1;
         } else {
@@ -269,21 +278,21 @@ fn step_fits(names: u32, kind: u32, a: u32, b: u32, c: u32, d: u32, e: u32) -> b
     index | property | method
 }
 
-fn steps_right(w: &[u32]) -> bool
-    ensures { λ r. ⌜ r ≡ tests.stepsRight (now (w .entry)) ⌝ }
+fn steps_right(image: &[u32]) -> bool
+    ensures { λ r. ⌜ r ≡ tests.stepsRight (now (image .entry)) ⌝ }
 {
-    let names = word_of(w, 2);
-    let first = steps_at(w);
-    let n = size_of(w, 6);
+    let names = word_of(image, 2);
+    let first = steps_at(image);
+    let n = size_of(image, 6);
     let mut i: usize = 0;
     while i < n {
-        let at = first + 6 * i;
-        let kind = word_of(w, at);
-        let a = word_of(w, at + 1);
-        let b = word_of(w, at + 2);
-        let c = word_of(w, at + 3);
-        let d = word_of(w, at + 4);
-        let e = word_of(w, at + 5);
+        let at = first + STEP_WIDTH * i;
+        let kind = word_of(image, at);
+        let a = word_of(image, at + 1);
+        let b = word_of(image, at + 2);
+        let c = word_of(image, at + 3);
+        let d = word_of(image, at + 4);
+        let e = word_of(image, at + 5);
         if step_fits(names, kind, a, b, c, d, e) {
             i += 1;
         } else {
@@ -300,21 +309,21 @@ fn rows_fit(cases: u32, ranges: u32, kind: u32, first: u32, rows: u32) -> bool
     ((kind == 0) & run_fits(first, rows, cases)) | ((kind == 1) & run_fits(first, rows, ranges))
 }
 
-fn switches_right(w: &[u32]) -> bool
-    ensures { λ r. ⌜ r ≡ tests.switchesRight (now (w .entry)) ⌝ }
+fn switches_right(image: &[u32]) -> bool
+    ensures { λ r. ⌜ r ≡ tests.switchesRight (now (image .entry)) ⌝ }
 {
-    let code = word_of(w, 0);
-    let cases = word_of(w, 8);
-    let ranges = word_of(w, 9);
-    let first = switches_at(w);
-    let n = size_of(w, 7);
+    let code = word_of(image, 0);
+    let cases = word_of(image, 8);
+    let ranges = word_of(image, 9);
+    let first = switches_at(image);
+    let n = size_of(image, 7);
     let mut i: usize = 0;
     while i < n {
-        let at = first + 4 * i;
-        let kind = word_of(w, at);
-        let from = word_of(w, at + 1);
-        let rows = word_of(w, at + 2);
-        let default = word_of(w, at + 3);
+        let at = first + SWITCH_WIDTH * i;
+        let kind = word_of(image, at);
+        let from = word_of(image, at + 1);
+        let rows = word_of(image, at + 2);
+        let default = word_of(image, at + 3);
         if rows_fit(cases, ranges, kind, from, rows) & (default <= code) {
             i += 1;
         } else {
@@ -324,18 +333,18 @@ fn switches_right(w: &[u32]) -> bool
     true
 }
 
-fn cases_right(w: &[u32]) -> bool
-    ensures { λ r. ⌜ r ≡ tests.casesRight (now (w .entry)) ⌝ }
+fn cases_right(image: &[u32]) -> bool
+    ensures { λ r. ⌜ r ≡ tests.casesRight (now (image .entry)) ⌝ }
 {
-    let code = word_of(w, 0);
-    let consts = word_of(w, 1);
-    let first = cases_at(w);
-    let n = size_of(w, 8);
+    let code = word_of(image, 0);
+    let consts = word_of(image, 1);
+    let first = cases_at(image);
+    let n = size_of(image, 8);
     let mut i: usize = 0;
     while i < n {
-        let at = first + 2 * i;
-        let target = word_of(w, at);
-        let value = word_of(w, at + 1);
+        let at = first + CASE_WIDTH * i;
+        let target = word_of(image, at);
+        let value = word_of(image, at + 1);
         if (target <= code) & (value < consts) {
             i += 1;
         } else {
@@ -345,17 +354,17 @@ fn cases_right(w: &[u32]) -> bool
     true
 }
 
-fn ranges_right(w: &[u32]) -> bool
-    ensures { λ r. ⌜ r ≡ tests.rangesRight (now (w .entry)) ⌝ }
+fn ranges_right(image: &[u32]) -> bool
+    ensures { λ r. ⌜ r ≡ tests.rangesRight (now (image .entry)) ⌝ }
 {
-    let code = word_of(w, 0);
-    let first = ranges_at(w);
-    let n = size_of(w, 9);
+    let code = word_of(image, 0);
+    let first = ranges_at(image);
+    let n = size_of(image, 9);
     let mut i: usize = 0;
     while i < n {
-        let at = first + 6 * i;
-        let inclusive = word_of(w, at + 4);
-        let target = word_of(w, at + 5);
+        let at = first + RANGE_WIDTH * i;
+        let inclusive = word_of(image, at + 4);
+        let target = word_of(image, at + RANGE_TARGET);
         if (inclusive <= 1) & (target <= code) {
             i += 1;
         } else {
@@ -366,17 +375,17 @@ fn ranges_right(w: &[u32]) -> bool
 }
 
 // Every word of every record is right, but for what steps ask of their chain's operands.
-pub fn fields_right(s: &[u8], w: &[u32]) -> bool
-    ensures { λ r. ⌜ r ≡ fields.fieldsRight (now (s .entry)) (now (w .entry)) ⌝ }
+pub fn fields_right(sheet: &[u8], image: &[u32]) -> bool
+    ensures { λ r. ⌜ r ≡ fields.fieldsRight (now (sheet .entry)) (now (image .entry)) ⌝ }
 {
-    code_right(s, w)
-        & consts_right(s, w)
-        & names_right(s, w)
-        & tokens_right(w)
-        & residuals_right(s, w)
-        & chains_right(s, w)
-        & steps_right(w)
-        & switches_right(w)
-        & cases_right(w)
-        & ranges_right(w)
+    code_right(sheet, image)
+        & consts_right(sheet, image)
+        & names_right(sheet, image)
+        & tokens_right(image)
+        & residuals_right(sheet, image)
+        & chains_right(sheet, image)
+        & steps_right(image)
+        & switches_right(image)
+        & cases_right(image)
+        & ranges_right(image)
 }

@@ -6,20 +6,21 @@ use mathlib.Core.List.{List}
 use native.Mathlib.Omega.{arith}
 use lib.Dec.{eqb}
 use borrow.Author.Tests.{eq-eqb, ne-eqb}
+use Rattle.lowering.specs.Limits.{caseWidth, rangeWidth, rangeTarget}
 use Rattle.lowering.specs.Words.{word, casesAt, rangesAt, caseWord, rangeWord, switchWord}
 use Rattle.lowering.specs.Run.{rowTarget}
 use Rattle.image_read.specs.Targets.{targetsAt, apart, targetOf}
 
-pub target-case : (w : List ℕ) (kind j : ℕ) → eqb kind 0 ≡ true → targetOf w kind j ≡ caseWord w j 0
+target-case : (w : List ℕ) (kind j : ℕ) → eqb kind 0 ≡ true → targetOf w kind j ≡ caseWord w j 0
 unfolding targetOf targetsAt apart caseWord
 target-case w kind j e =
-    let same : casesAt w + 2 * j ≡ casesAt w + 2 * j + 0 = omega arith in
+    let same : casesAt w + caseWidth * j ≡ casesAt w + caseWidth * j + 0 = omega arith in
     rw (e, targetsAt, apart) (ap (word w) same)
 
 pub target-range : (w : List ℕ) (kind j : ℕ) → eqb kind 0 ≡ false → targetOf w kind j ≡ rangeWord w j 5
 unfolding targetOf targetsAt apart rangeWord
 target-range w kind j e =
-    let same : rangesAt w + 5 + 6 * j ≡ rangesAt w + 6 * j + 5 = omega arith in
+    let same : rangesAt w + rangeTarget + rangeWidth * j ≡ rangesAt w + rangeWidth * j + rangeTarget = omega arith in
     rw (e, targetsAt, apart) (ap (word w) same)
 
 pub row-target : (w : List ℕ) (i r : ℕ) → rowTarget w i r ≡ targetOf w (switchWord w i 0) (switchWord w i 1 + r)

@@ -9,23 +9,18 @@ use lib.Dec.{eqb, leb}
 use lib.ListN.{length, set, take, drop, length-drop}
 use lib.Seq.{take-set-le, drop-set-add, getD-drop, getD-set-same, getD-set-other}
 use borrow.Author.Tests.{eq-eqb, ne-eqb, eqb-true, eqb-false, le-leb, leb-true}
+use Rattle.laws.proofs.Bool.{both-ways}
 use Rattle.words.specs.Count.{allBelow}
-use Rattle.words.specs.CountLaws.{all-at, all-of, all-same}
+use Rattle.words.proofs.CountLaws.{all-at, all-of, all-same}
 use Rattle.lowering.specs.Words.{word, switchWord}
 use Rattle.lowering.specs.Run.{rowTarget}
-use Rattle.wellmade.specs.Rules.{cases, ranges}
-use Rattle.wellmade.specs.Marks.{mark, marksThere}
+use Rattle.image_rule.specs.Rules.{cases, ranges}
+use Rattle.image_rule.specs.Marks.{mark, marksThere}
 use Rattle.image_rows.specs.declared.Starts.{Starts}
-use Rattle.image_rows.specs.Rows.{Placed, rowOf, firstRow, Pooled, markBefore, runBefore}
+use Rattle.image_rows.specs.AllRows.{Placed, rowOf, firstRow, Pooled, markBefore, runBefore}
 use Rattle.image_rows.specs.Scratch.{marksOf, noted, rowMark, Runs, Counted}
 use Rattle.image_rows.proofs.ReadLaws.{row-of, pooled-inside}
 use Rattle.image_rows.proofs.ScratchLaws.{size-is}
-
--- two tests with the same answers
-both : (a b : Bool) → (a ≡ true → b ≡ true) → (b ≡ true → a ≡ true) → a ≡ b
-both true b t s = sym (t refl)
-both false true t s = s refl
-both false false t s = refl
 
 module _ (f : ℕ → ℕ) where
   -- a row with the mark before it makes the run longer
@@ -84,7 +79,7 @@ module _ (f : ℕ → ℕ) where
   alike-is : (first m n q x y : ℕ) → 0 < n → n ≤ 4294967295 → q ≡ first + n - 1 → x ≡ f q → y ≡ min (runBefore f (suc q)) 4294967295
       → (eqb x m && leb n y) ≡ allBelow n (λ j. eqb (f (first + j)) m)
   alike-is first m n q x y h g e k r =
-      both (eqb x m && leb n y) (allBelow n (λ j. eqb (f (first + j)) m)) (λ t. forth (and-eq-true-iff (eqb x m) (leb n y) .0 t))
+      both-ways (eqb x m && leb n y) (allBelow n (λ j. eqb (f (first + j)) m)) (λ t. forth (and-eq-true-iff (eqb x m) (leb n y) .0 t))
       (λ t. and-eq-true-iff (eqb x m) (leb n y) .1 (back t))
     where
       forth : (eqb x m ≡ true) × (leb n y ≡ true) → allBelow n (λ j. eqb (f (first + j)) m) ≡ true

@@ -6,10 +6,10 @@ use native.Mathlib.Omega.{arith}
 use lib.ListN.{length, getD, set, take, drop, length-take, length-drop, List·getD-eq-default}
 use lib.Seq.{set-out, set-getD, take-set-lt, take-set-le, drop-set-lt, drop-set-add, getD-take, getD-drop}
 use Rattle.lowering.specs.Words.{word}
-use Rattle.wellmade.specs.Marks.{mark, marksThere, come}
-use Rattle.wellmade.proofs.ComeLaws.{come-new, come-old}
+use Rattle.image_rule.specs.Marks.{mark, marksThere, come}
+use Rattle.image_rule.proofs.ComeLaws.{come-new, come-old}
 use Rattle.image_rows.specs.declared.Starts.{Starts}
-use Rattle.image_rows.specs.Rows.{Placed, rowOf}
+use Rattle.image_rows.specs.AllRows.{Placed, rowOf}
 use Rattle.image_rows.specs.Scratch.{marksOf, Left, Noted, Stepped}
 
 -- how many marks there are

@@ -11,9 +11,9 @@ use lib.Seq.{getD-set-same, getD-set-other}
 use borrow.Author.Tests.{eqb-true, eqb-false, ltb-true, ltb-false}
 use Rattle.lowering.specs.Words.{word, switchWord}
 use Rattle.lowering.specs.Run.{rowTarget}
-use Rattle.wellmade.specs.Marks.{mark, marksThere, come, comes}
-use Rattle.wellmade.proofs.ComeLaws.{come-new, come-old, come-keeps, come-length, comes-keep}
-use Rattle.image_rows.specs.Rows.{rowOf, firstRow, Pooled}
+use Rattle.image_rule.specs.Marks.{mark, marksThere, come, comes}
+use Rattle.image_rule.proofs.ComeLaws.{come-new, come-old, come-keeps, come-length, comes-keep}
+use Rattle.image_rows.specs.AllRows.{rowOf, firstRow, Pooled}
 use Rattle.image_rows.specs.Scratch.{marksOf, noted, Settled, Seen, Did, Does, Left, Stepped}
 use Rattle.image_rows.proofs.ReadLaws.{row-of}
 use Rattle.image_rows.proofs.ScratchLaws.{come-past}

@@ -5,9 +5,9 @@ use mathlib.Core.Path.{_≡_}
 use mathlib.Core.List.{List}
 use lib.ListN.{length, take, drop, set}
 use Rattle.lowering.specs.Words.{word}
-use Rattle.wellmade.specs.Rules.{cases, ranges}
-use Rattle.wellmade.specs.Marks.{mark, marksThere, come}
-use Rattle.image_rows.specs.Rows.{rowOf, runBefore}
+use Rattle.image_rule.specs.Rules.{cases, ranges}
+use Rattle.image_rule.specs.Marks.{mark, marksThere, come}
+use Rattle.image_rows.specs.AllRows.{rowOf, runBefore}
 
 abbrev pub marksOf : List ℕ → List ℕ → List ℕ
 marksOf w l = take (marksThere w) l

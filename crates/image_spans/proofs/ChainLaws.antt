@@ -8,11 +8,12 @@ use borrow.Author.Tests.{ltb-true, ltb-false, leb-true, leb-false, le-leb, lt-le
 use lib.Dec.{leb, ltb}
 use lib.ListN.{getD}
 use Rattle.words.specs.Count.{allBelow}
-use Rattle.words.specs.CountLaws.{all-same}
+use Rattle.words.proofs.CountLaws.{all-same}
+use Rattle.lowering.specs.Limits.{chainWidth, stepWidth}
 use Rattle.lowering.specs.Words.{word, chainsAt, chainWord}
-use Rattle.wellmade.specs.Rules.{chains, steps, stepsAt, stepWord, operandTable}
-use Rattle.wellmade.specs.Test.{fits, obeys, operandsBy}
-use Rattle.spans.specs.Tree.{leaf, Tree, leavesUpTo}
+use Rattle.image_rule.specs.Rules.{chains, steps, stepsAt, stepWord, operandTable}
+use Rattle.image_rule.specs.Test.{fits, obeys, operandsBy}
+use Rattle.image_maxima.specs.Tree.{leaf, Tree, leavesUpTo}
 use Rattle.image_spans.specs.Needs.{cut, needOf, stepNeed, NeedTree}
 
 -- a cut need is met just where the whole is
@@ -32,7 +33,7 @@ up-to-cut a n h = by (leb a n) refl
 
 -- step j as a step of a chain with n operands, by its kind
 abbrev obeysBy : List ℕ → ℕ → ℕ → ℕ → Bool
-obeysBy w j n kind = obeys (getD (operandTable w j n) kind []) w (stepsAt w + 6 * j)
+obeysBy w j n kind = obeys (getD (operandTable w j n) kind []) w (stepsAt w + stepWidth * j)
 
 -- the need of a step is met just where its rule holds
 step-fits : (w : List ℕ) (j n : ℕ) → n ≤ 65535 → leb (stepNeed w j) n ≡ obeysBy w j n (stepWord w j 0)
@@ -56,7 +57,7 @@ run-leaves t size a n x = let e : a + n - a ≡ n = omega arith in rw e refl
 pub chain-fits :
     {w t : List ℕ} (size i at a n x : ℕ) (r : Bool)
     → size ≡ steps w
-    → at ≡ chainsAt w + 6 * i
+    → at ≡ chainsAt w + chainWidth * i
     → a ≡ word w (at + 3)
     → n ≡ word w (at + 4)
     → x ≡ word w (at + 5)

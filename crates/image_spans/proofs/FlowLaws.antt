@@ -5,21 +5,14 @@ use mathlib.Core.Bool.{Bool, true, _&&_}
 use mathlib.Core.List.{List}
 use native.Mathlib.Omega.{arith}
 use lib.Dec.{ltb, leb}
+use Rattle.bytecode.proofs.TableLaws.{by-table}
 use Rattle.bytecode.specs.Effect.{Flow, on, jump, branch, table}
 use Rattle.bytecode.specs.Table.{flowNumber}
 use Rattle.lowering.specs.Words.{instructions, aAt}
-use Rattle.wellmade.specs.Marks.{flowAt}
-use Rattle.wellmade.specs.Rules.{tables}
-use Rattle.wellmade.specs.Test.{leastTarget, aims}
-use Rattle.image_spans.specs.Rows.{TargetTree}
-
--- number 3 is the flow by a table
-by-table : (F : Flow) → flowNumber F ≡ 3 → F ≡ table
-unfolding flowNumber
-by-table on e = absurd (omega arith)
-by-table jump e = absurd (omega arith)
-by-table branch e = absurd (omega arith)
-by-table table e = refl
+use Rattle.image_rule.specs.Marks.{flowAt}
+use Rattle.image_rule.specs.Rules.{tables}
+use Rattle.image_rule.specs.Test.{leastTarget, aims}
+use Rattle.image_spans.specs.Leaves.{TargetTree}
 
 -- the answers of the instruction at p, by the number f of its flow and its word a
 module _ (w : List ℕ) (p f : ℕ) (number : f ≡ flowNumber (flowAt w p)) where

@@ -9,9 +9,10 @@ use borrow.Author.Tests.{eqb-true, eqb-false, eq-eqb, ne-eqb}
 use lib.Dec.{eqb}
 use lib.ListN.{length, getD, set}
 use lib.Seq.{getD-set-same, getD-set-other}
+use Rattle.lowering.specs.Limits.{stepWidth}
 use Rattle.lowering.specs.Words.{word, switchesAt, casesAt, rangesAt}
-use Rattle.wellmade.specs.Rules.{steps, stepsAt, stepWord, endAt}
-use Rattle.spans.specs.Tree.{leaf, Built}
+use Rattle.image_rule.specs.Rules.{steps, stepsAt, stepWord, endAt}
+use Rattle.image_maxima.specs.Tree.{leaf, Built}
 use Rattle.image_spans.specs.Premises.{Sized, ChainsLie}
 use Rattle.image_spans.specs.Needs.{cut, needOf, stepNeed, NeedsIn, NeedTree}
 
@@ -31,7 +32,7 @@ need-none kind a b c z m = rw (ne-eqb kind 0 z, ne-eqb kind 2 m, needOf) refl
 -- the need of step j by words read from `at` on
 pub step-need :
     (w : List ℕ) (j at r a b c d : ℕ)
-    → at ≡ stepsAt w + 6 * j
+    → at ≡ stepsAt w + stepWidth * j
     → r ≡ needOf a b c d
     → a ≡ word w at
     → b ≡ word w (at + 1)
@@ -69,12 +70,12 @@ needs-more {w} {l} {j} n v e h room q p = record { need = λ k b. by k b (eqb k 
         getD-set-other l (n + j) (steps w + k) v 0 (λ s. other (omega arith)) ∙ p .need k (omega arith)
 
 -- the scratch has room for the tree
-pub needs-fit : {w l : List ℕ} → Sized w l → 2 * steps w ≤ length l
+needs-fit : {w l : List ℕ} → Sized w l → 2 * steps w ≤ length l
 unfolding endAt rangesAt casesAt switchesAt
 needs-fit s = omega (arith, s .ends, s .room)
 
 -- the tree over the needs of all steps
-pub need-tree : {w l t : List ℕ} → NeedsIn w l (steps w) → Built l t (steps w) → ChainsLie w → NeedTree w t
+need-tree : {w l t : List ℕ} → NeedsIn w l (steps w) → Built l t (steps w) → ChainsLie w → NeedTree w t
 need-tree p b lie = record {
   tree = b .tree;
   needs = record { need = λ j h. b .leaves j ∙ p .need j h };

@@ -9,24 +9,26 @@ use borrow.Author.Tests.{eqb-true, eqb-false}
 use lib.Dec.{eqb}
 use lib.ListN.{length, getD, set}
 use lib.Seq.{getD-set-same, getD-set-other}
+use Rattle.lowering.specs.Limits.{rangeWidth}
 use Rattle.lowering.specs.Words.{word, rangesAt}
-use Rattle.wellmade.specs.Rules.{cases, ranges, endAt}
+use Rattle.image_rule.specs.Rules.{cases, ranges, endAt}
+use Rattle.image_read.specs.Most.{targetsMost}
 use Rattle.image_read.specs.Targets.{targetsAt, apart, targetOf}
-use Rattle.spans.specs.Tree.{Built}
+use Rattle.image_maxima.specs.Tree.{Built}
 use Rattle.image_spans.specs.Premises.{Sized, RowsLie}
-use Rattle.image_spans.specs.Rows.{turned, rowCount, Put, TargetTree}
+use Rattle.image_spans.specs.Leaves.{turned, rowCount, Put, TargetTree}
 
 -- where the target of row j stands
 pub record At (w : List ℕ) (kind j from : ℕ) : Type 0 where
   pub there : from ≡ targetsAt w kind + apart kind * j
-  pub small : from ≤ 128849018867 + 6 * j
+  pub small : from ≤ targetsMost + rangeWidth * j
 
 -- the first row
-pub at-first : (w : List ℕ) (kind from : ℕ) → from ≡ targetsAt w kind → from ≤ 128849018867 → At w kind 0 from
+pub at-first : (w : List ℕ) (kind from : ℕ) → from ≡ targetsAt w kind → from ≤ targetsMost → At w kind 0 from
 at-first w kind from e h = record { there = e ∙ simp (mul-zero, add-zero); small = omega arith }
 
 -- the next row, n words on
-pub at-next : {w : List ℕ} {kind j from : ℕ} (n : ℕ) → n ≡ apart kind → n ≤ 6 → At w kind j from → At w kind (j + 1) (from + n)
+pub at-next : {w : List ℕ} {kind j from : ℕ} (n : ℕ) → n ≡ apart kind → n ≤ rangeWidth → At w kind j from → At w kind (j + 1) (from + n)
 at-next {w} {kind} {j} {from} n e h a = record {
   there = let product : apart kind * (j + 1) ≡ apart kind * j + apart kind = simp (mul-add, mul-one) in omega (arith, a .there);
   small = omega (arith, a .small);
@@ -66,7 +68,7 @@ pub put-done : {w l₀ l : List ℕ} {kind at j : ℕ} (n : ℕ) → j ≤ n →
 put-done {w} {l₀} {l} {kind} {at} {j} n h g p = subst (λ (k : ℕ). Put w kind at k l₀ l) (omega arith) p
 
 -- the scratch has room for the tree
-pub rows-fit : {w l : List ℕ} → Sized w l → 2 * rowCount w ≤ length l
+rows-fit : {w l : List ℕ} → Sized w l → 2 * rowCount w ≤ length l
 unfolding endAt rangesAt
 rows-fit s = omega (arith, s .ends, s .room)
 

@@ -1,22 +1,23 @@
 -- A table's targets are all above p just where the least is; the tree tells it of the rows.
 use Prim.Native.Nat.{ℕ, zero, suc, _+_, _*_, _-_, _≤_, _<_, min}
 use mathlib.Core.Path.{_≡_, refl, sym, ap, ap₂, _∙_}
-use mathlib.Core.Bool.{Bool, true, false, _&&_}
+use mathlib.Core.Bool.{Bool, true, false, _&&_, and-true, and-assoc}
 use mathlib.Core.List.{List}
 use native.Mathlib.Omega.{arith}
 use native.Mathlib.Nat.{add-zero}
 use borrow.Author.Tests.{ltb-true, ltb-false, lt-ltb, le-ltb, le-leb, lt-leb, eq-eqb, ne-eqb, eqb-true, eqb-false}
 use lib.Dec.{eqb, ltb, leb}
 use Rattle.words.specs.Count.{allBelow}
-use Rattle.words.specs.CountLaws.{all-none, all-suc, all-same}
+use Rattle.words.proofs.CountLaws.{all-none, all-suc, all-same}
+use Rattle.lowering.specs.Limits.{switchWidth}
 use Rattle.lowering.specs.Words.{word, switchesAt, switchWord}
 use Rattle.lowering.specs.Run.{rowTarget}
-use Rattle.wellmade.specs.Rules.{cases, ranges, tables, rowsThere}
-use Rattle.wellmade.specs.Test.{least, leastTarget}
+use Rattle.image_rule.specs.Rules.{cases, ranges, tables, rowsThere}
+use Rattle.image_rule.specs.Test.{least, leastTarget}
 use Rattle.image_read.specs.Targets.{targetOf}
 use Rattle.image_read.proofs.TargetLaws.{target-range, row-target}
-use Rattle.spans.specs.Tree.{leaf, Tree, leavesUpTo}
-use Rattle.image_spans.specs.Rows.{turned, rowCount, rowsBefore, TargetTree}
+use Rattle.image_maxima.specs.Tree.{leaf, Tree, leavesUpTo}
+use Rattle.image_spans.specs.Leaves.{turned, rowCount, rowsBefore, TargetTree}
 use Rattle.image_spans.proofs.ChainLaws.{run-leaves}
 
 -- the order of targets and of leaves
@@ -34,14 +35,6 @@ below-min p a b = by (ltb p a) refl (ltb p b) refl
     by true e true g = rw (e, g) (lt-ltb p (min a b) (omega (arith, ltb-true p a e, ltb-true p b g)))
     by true e false g = rw (e, g) (le-ltb p (min a b) (omega (arith, ltb-false p b g)))
     by false e d g = rw e (le-ltb p (min a b) (omega (arith, ltb-false p a e)))
-
-and-true : (a : Bool) → (a && true) ≡ a
-and-true true = refl
-and-true false = refl
-
-and-assoc : (a b c : Bool) → ((a && b) && c) ≡ (a && (b && c))
-and-assoc true b c = refl
-and-assoc false b c = refl
 
 -- p is below the least just where it is below the default and each row
 below-least : (f : ℕ → ℕ) (d k p : ℕ) → ltb p (least f d k) ≡ (ltb p d && allBelow k (λ r. ltb p (f r)))
@@ -101,7 +94,7 @@ module _ {w t : List ℕ} (T : TargetTree w t) (i : ℕ) (h : i < tables w) wher
 -- the answer of table i, its words read from `at` on, `a` leaves before those of its kind
 pub table-aims :
     {w t : List ℕ} (p i at n m kind a b k d : ℕ) (r : Bool)
-    → at ≡ switchesAt w + 4 * i
+    → at ≡ switchesAt w + switchWidth * i
     → n ≡ cases w
     → m ≡ ranges w
     → kind ≡ word w at

@@ -1,3 +1,3 @@
 pub mod Premises
 pub mod Needs
-pub mod Rows
+pub mod Leaves

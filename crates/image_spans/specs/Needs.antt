@@ -4,8 +4,8 @@ use mathlib.Core.Path.{_≡_}
 use mathlib.Core.Bool.{true, false}
 use mathlib.Core.List.{List}
 use lib.Dec.{eqb}
-use Rattle.wellmade.specs.Rules.{steps, stepWord}
-use Rattle.spans.specs.Tree.{leaf, Tree}
+use Rattle.image_rule.specs.Rules.{steps, stepWord}
+use Rattle.image_maxima.specs.Tree.{leaf, Tree}
 use Rattle.image_spans.specs.Premises.{ChainsLie}
 
 abbrev pub cut : ℕ → ℕ

@@ -6,8 +6,8 @@ use lib.ListN.{length}
 use Rattle.bytecode.specs.Effect.{table}
 use Rattle.lowering.specs.Limits.{maxElements}
 use Rattle.lowering.specs.Words.{instructions, aAt, chainWord, switchWord}
-use Rattle.wellmade.specs.Rules.{chains, steps, tables, rowsThere, endAt}
-use Rattle.wellmade.specs.Marks.{flowAt}
+use Rattle.image_rule.specs.Rules.{chains, steps, tables, rowsThere, endAt}
+use Rattle.image_rule.specs.Marks.{flowAt}
 
 -- the image has the length that its sizes say, and the scratch has at least as many words
 pub record Sized (w l : List ℕ) : Type 0 where

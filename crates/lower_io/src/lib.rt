@@ -1,5 +1,6 @@
-// The program `lower`, for each crate that runs it on a sheet of its own: `run` reads a sheet from standard input and prints the words of its image, or
-// `refused` and the number. The image and the scratch have 16,384 words each. An input of over 65,536 bytes is refused with 1.
+// The program `lower`, for each crate that runs it on a sheet of its own: `run` reads a sheet from standard input and prints
+// the words of its image, or `refused` and the number. The image and the scratch have 16,384 words each. An input of over
+// 65,536 bytes is refused with 1.
 ghost use lib.ListN.{length};
 ghost use mathlib.Core.Path.{_≡_};
 use libc::STDIN_FILENO;

@@ -1,8 +1,6 @@
 -- Facts of all entries of a list: by lookup, and by membership.
 use Prim.Native.Nat.{ℕ, zero, suc}
-use mathlib.Core.Path.{_≡_, refl, sym, subst}
-use mathlib.Core.List.{List, [], _∷_, _++_, List·Memᴰ, List·Memᴰ·head, List·Memᴰ·tail, List·Memᴰ·not-nil, List·Memᴰ·cases-cons}
-use mathlib.Core.Logic.{_⊎_, inl, inr}
+use mathlib.Core.List.{List, [], _∷_, _++_}
 use lib.ListN.{getD}
 use Rattle.lowering.specs.All.{All}
 
@@ -21,15 +19,3 @@ all-from P (x ∷ xs) d h = (h zero, all-from P xs d (λ n. h (suc n)))
 pub all-map : (P Q : ℕ → Type 0) (xs : List ℕ) → ((q : ℕ) → P q → Q q) → All P xs → All Q xs
 all-map P Q [] f h = tt
 all-map P Q (x ∷ xs) f h = (f x (h .0), all-map P Q xs f (h .1))
-
-pub members : (xs : List ℕ) → All (λ (q : ℕ). List·Memᴰ q xs) xs
-members [] = tt
-members (x ∷ xs) = (List·Memᴰ·head refl, all-map (λ (q : ℕ). List·Memᴰ q xs) (λ (q : ℕ). List·Memᴰ q (x ∷ xs)) xs (λ q m. List·Memᴰ·tail m) (members xs))
-
-pub all-member : (P : ℕ → Type 0) (q : ℕ) (xs : List ℕ) → List·Memᴰ q xs → All P xs → P q
-all-member P q [] m h = absurd (List·Memᴰ·not-nil m)
-all-member P q (x ∷ xs) m h = by (List·Memᴰ·cases-cons m) (λ (m′ : List·Memᴰ q xs). all-member P q xs m′ (h .1))
-  where
-    by : (q ≡ x) ⊎ List·Memᴰ q xs → (List·Memᴰ q xs → P q) → P q
-    by (inl e) f = subst P (sym e) (h .0)
-    by (inr m′) f = f m′

@@ -34,7 +34,8 @@ pub record BodyHere (s : List ℕ) (rec : Rec) (hs : List Chain) (ms : List Mark
   pub bears : Bears ms (x .place) (x .place + length (x .code) + 1) (marked (x .place) (body (x .block)) ∷ [])
 
 module _ (s : List ℕ) (rec : Rec) (hs : List Chain) (ms : List Marked) where
-  body-here : (xs : List Body) (b : ℕ) → BodiesAt s rec hs b xs → Bears ms b (b + bodiesExtent xs) (bodyMarks xs) → (x : Body) → List·Memᴰ x xs → BodyHere s rec hs ms x
+  body-here : (xs : List Body) (b : ℕ) → BodiesAt s rec hs b xs → Bears ms b (b + bodiesExtent xs) (bodyMarks xs) → (x : Body)
+      → List·Memᴰ x xs → BodyHere s rec hs ms x
   unfolding bodiesExtent bodyMarks
   body-here [] b h bears x m = absurd (List·Memᴰ·not-nil m)
   body-here (y ∷ xs) b h bears x m =
@@ -42,8 +43,10 @@ module _ (s : List ℕ) (rec : Rec) (hs : List Chain) (ms : List Marked) where
       let e = b + bodiesExtent (y ∷ xs) in
       let at = h .0 .place-is in
       let m₁ = marked (y .place) (body (y .block)) in
-      let here = bears-left ms b c (c + bodiesExtent xs) (m₁ ∷ []) (bodyMarks xs) (bodies-between s rec hs c xs (h .1)) (bears-part ms b e b c (bodyMarks (y ∷ xs)) (omega arith) (omega arith) bears) in
-      let later = bears-right ms c (c + bodiesExtent xs) b (m₁ ∷ []) (bodyMarks xs) (omega arith) (bears-part ms b e c (c + bodiesExtent xs) (bodyMarks (y ∷ xs)) (omega arith) (omega arith) bears) in
+      let here = bears-left ms b c (c + bodiesExtent xs) (m₁ ∷ []) (bodyMarks xs) (bodies-between s rec hs c xs (h .1))
+      (bears-part ms b e b c (bodyMarks (y ∷ xs)) (omega arith) (omega arith) bears) in
+      let later = bears-right ms c (c + bodiesExtent xs) b (m₁ ∷ []) (bodyMarks xs) (omega arith)
+      (bears-part ms b e c (c + bodiesExtent xs) (bodyMarks (y ∷ xs)) (omega arith) (omega arith) bears) in
       ⊎-elim
       (λ q. subst (BodyHere s rec hs ms) (sym q)
       (record {
@@ -58,10 +61,13 @@ module _ (r : Program) (T : TablesFit r) (W : WellTyped r) (ms : List Marked) (n
   run = fed r ms n answers free
 
   module _ (s : List ℕ) (rec : Rec) (M : Meets rec) (end : ℕ) (ends : (u : ℕ) → Tells run end u []) where
-    body-tells : (x : Body) → BodyHere s rec (r .pools .chains) ms x → BodyStands (r .code) end x → (u : ℕ) → Tells run (x .place) u (reached (x .block) ∷ [])
+    body-tells : (x : Body) → BodyHere s rec (r .pools .chains) ms x → BodyStands (r .code) end x → (u : ℕ)
+        → Tells run (x .place) u (reached (x .block) ∷ [])
     unfolding eventOf isAnswered markAt
     body-tells x h g u =
-        enter-part r T W ms n answers free (g .stands) (lowered-sound rec M (contextOf r) (bodyOf s (x .block)) (x .place) 1 (x .code) (h .lowered)) u [] (leave (g .leaves)) m₁ refl refl filled
+        enter-part r T W ms n answers free (g .stands)
+        (lowered-sound rec M (contextOf r) (bodyOf s (x .block)) (x .place) 1 (x .code) (h .lowered)) u [] (leave (g .leaves)) m₁ refl
+        refl filled
         (bears-part ms (x .place) (p + 1) (x .place) p (m₁ ∷ []) (omega arith) (omega arith) (h .bears))
       where
         m₁ : Marked

@@ -1,15 +1,17 @@
--- The chain that `chainAt` finds or `pushChain` adds takes as many operands as asked for, and a root off the stack if and only if asked for.
-use Prim.Native.Nat.{ℕ, suc, _≤_, _<_}
+-- The chain that `chainAt` finds or `pushChain` adds takes as many operands as asked for, and a root off the
+-- stack if and only if asked for.
+use Prim.Native.Nat.{ℕ, _<_}
 use mathlib.Core.Path.{_≡_, refl, sym, ap, _∙_}
 use mathlib.Core.Bool.{Bool, true, false, _&&_, and-eq-true-iff}
-use mathlib.Core.List.{List, [], _∷_}
+use mathlib.Core.List.{List, []}
 use lib.Dec.{eqb}
 use lib.ListN.{length, getD, length-append}
 use lib.Seq.{getD-at}
 use native.Mathlib.Omega.{arith}
 use borrow.Author.Tests.{eqb-true, eqb-false}
+use Rattle.lowering.proofs.FirstLaws.{first-within, first-passes}
 use Rattle.text.specs.Same.{same}
-use Rattle.text.specs.SameLaws.{same-true}
+use Rattle.text.proofs.SameLaws.{same-true}
 use Rattle.bytecode.specs.declared.Root.{Root}
 use Rattle.bytecode.specs.declared.Root.the-variants.{Local, Named, This, Temporary}
 use Rattle.bytecode.specs.declared.Step.{Step}
@@ -19,33 +21,6 @@ use Rattle.lowering.specs.Pools.{Pools, firstWhere, stepsOf, stepsWords,
 use Rattle.lowering.specs.Chain.{onStack}
 use Rattle.lowering.proofs.Effect.{noChain}
 use Rattle.lowering.proofs.Meets.{Grows, grows-refl}
-
--- the place of the first entry that passes a test
-module _ {A : Type 0} (test : A → Bool) where
-  first-here : (x : A) (xs : List A) → test x ≡ true → firstWhere test (x ∷ xs) ≡ 0
-  unfolding firstWhere
-  first-here x xs h = rw (h, firstWhere)
-
-  first-later : (x : A) (xs : List A) → test x ≡ false → firstWhere test (x ∷ xs) ≡ suc (firstWhere test xs)
-  unfolding firstWhere
-  first-later x xs h = rw (h, firstWhere)
-
-  pub first-within : (xs : List A) → firstWhere test xs ≤ length xs
-  unfolding firstWhere
-  first-within [] = omega arith
-  first-within (x ∷ xs) = by (test x) refl (first-within xs)
-    where
-      by : (t : Bool) → test x ≡ t → firstWhere test xs ≤ length xs → firstWhere test (x ∷ xs) ≤ length (x ∷ xs)
-      by true h r = rw (first-here x xs h) (omega arith)
-      by false h r = rw (first-later x xs h) (omega arith)
-
-  pub first-passes : (dflt : A) (xs : List A) → firstWhere test xs < length xs → test (getD xs (firstWhere test xs) dflt) ≡ true
-  first-passes dflt [] = λ h. absurd (omega arith)
-  first-passes dflt (x ∷ xs) = by (test x) refl (first-passes dflt xs)
-    where
-      by : (t : Bool) → test x ≡ t → (firstWhere test xs < length xs → test (getD xs (firstWhere test xs) dflt) ≡ true) → firstWhere test (x ∷ xs) < length (x ∷ xs) → test (getD (x ∷ xs) (firstWhere test (x ∷ xs)) dflt) ≡ true
-      by true h r = rw (first-here x xs h) (λ k. h)
-      by false h r = rw (first-later x xs h) (λ k. r (omega arith))
 
 -- whether a root is on the stack shows in its words
 wordsOnStack : List ℕ → ℕ
@@ -68,11 +43,13 @@ pub record Holds (cs : List Chain) (i n stack : ℕ) : Type 0 where
   pub root : onStack (getD cs i noChain .root) ≡ stack
 
 module _ (root : Root) (xs : List Step) (n : ℕ) (p : Pools) where
-  same-holds : (i : ℕ) → i < length (p .chains) → sameChain p root xs n (getD (p .chains) i noChain) ≡ true → Holds (p .chains) i n (onStack root)
+  same-holds : (i : ℕ) → i < length (p .chains) → sameChain p root xs n (getD (p .chains) i noChain) ≡ true
+      → Holds (p .chains) i n (onStack root)
   unfolding sameChain
   same-holds i h k =
       let c = getD (p .chains) i noChain in
-      let all = and-eq-true-iff (same (rootWords root) (rootWords (c .root)) && eqb n (c .operands)) (same (stepsWords xs) (stepsWords (stepsOf p c))) .0 k in
+      let all = and-eq-true-iff (same (rootWords root) (rootWords (c .root)) && eqb n (c .operands))
+      (same (stepsWords xs) (stepsWords (stepsOf p c))) .0 k in
       let both = and-eq-true-iff (same (rootWords root) (rootWords (c .root))) (eqb n (c .operands)) .0 (all .0) in
       record { within = h; operands = sym (eqb-true n (c .operands) (both .1)); root = same-onStack root (c .root) (both .0) }
 
@@ -108,7 +85,8 @@ module _ (root : Root) (xs : List Step) (n : ℕ) (p : Pools) where
   unfolding chainAt
   chain-holds = by (eqb (chainAt root xs n p) (length (p .chains))) refl
     where
-      by : (t : Bool) → eqb (chainAt root xs n p) (length (p .chains)) ≡ t → Holds (pushChain root xs n p .chains) (chainAt root xs n p) n (onStack root)
+      by : (t : Bool) → eqb (chainAt root xs n p) (length (p .chains)) ≡ t
+          → Holds (pushChain root xs n p .chains) (chainAt root xs n p) n (onStack root)
       by true h = rw (push-new h) (new-holds (chainAt root xs n p) (eqb-true (chainAt root xs n p) (length (p .chains)) h))
       by false h =
           let ne = eqb-false (chainAt root xs n p) (length (p .chains)) h in

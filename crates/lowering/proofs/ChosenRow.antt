@@ -8,15 +8,16 @@ use native.Mathlib.Omega.{arith}
 use native.Mathlib.Nat.{zero-add}
 use lib.Dec.{eqb}
 use lib.ListN.{length, getD, List·getD-map}
+use Rattle.lowering.proofs.FirstLaws.{first-here, first-later}
 use Rattle.sheet.specs.Node.{kind, child}
-use Rattle.cases.specs.Excess.{shifted, excess, lowWord, highWord}
-use Rattle.cases.specs.ExcessLaws.{excess-below, excess-words}
-use Rattle.cases.specs.Range.{Range}
-use Rattle.cases.specs.Points.{points}
-use Rattle.cases.specs.PointsLaws as PointsLaws
-use Rattle.cases.specs.Split as Split
-use Rattle.cases.specs.Split.{split, holds}
-use Rattle.cases.specs.SplitLaws.{Good, Every, split-good}
+use Rattle.switch_split.specs.Excess.{shifted, excess, lowWord, highWord}
+use Rattle.switch_split.proofs.ExcessLaws.{excess-below, excess-words}
+use Rattle.switch_split.specs.Range.{Range}
+use Rattle.switch_split.specs.Points.{points}
+use Rattle.switch_split.proofs.PointsLaws
+use Rattle.switch_split.specs.Split as Split
+use Rattle.switch_split.specs.Split.{split, holds}
+use Rattle.switch_split.proofs.SplitLaws.{Good, Every, split-good}
 use Rattle.bytecode.specs.declared.Switch.{Switch}
 use Rattle.bytecode.specs.declared.SwitchCase.{SwitchCase}
 use Rattle.bytecode.specs.declared.SwitchRange.{SwitchRange}
@@ -24,7 +25,7 @@ use Rattle.bytecode.specs.Switch.{switchWords, caseWords, rangeWords}
 use Rattle.lowering.specs.Kinds.{intKind}
 use Rattle.lowering.specs.Pools.{Const, Pools, firstWhere, emits, constOf}
 use Rattle.lowering.specs.SwitchSheet.{casesOf, rangeOf, rangeNodes, rangesOf}
-use Rattle.lowering.specs.SwitchLayout.{Layout}
+use Rattle.lowering.specs.SwitchLaid.{SwitchLaid}
 use Rattle.lowering.specs.SwitchTables.{oneIf, rangeRows, rangeTable, caseTable}
 use Rattle.lowering.specs.SwitchCode.{defaultAt, fallbackAt, lastEmits}
 use Rattle.lowering.specs.Switch.{switchOf}
@@ -38,7 +39,7 @@ use Rattle.lowering.proofs.Decode.{const-word, switch-word, case-word, 
 use Rattle.lowering.proofs.Tables.{table-target}
 use Rattle.lowering.proofs.LowerFits.{switch-fits}
 use Rattle.lowering.proofs.RowCounts.{case-rows-length, range-rows-length}
-use Rattle.lowering.proofs.CaseConsts.{first-yes, first-no, same-int, case-const}
+use Rattle.lowering.proofs.CaseConsts.{same-int, case-const}
 use Rattle.lowering.proofs.SwitchTargets.{caseTarget, rangeTarget, case-targets, range-targets}
 
 -- the target of the first entry that passes, or the fallback
@@ -48,7 +49,8 @@ pick pass goal fb (x ∷ xs) = elim (pass x) [ true ↦ goal x | false ↦ pick 
 
 module _ {A : Type 0} (pass : A → Bool) where
   -- rows that are ones for x just where the entries pass
-  first-row : (w : List ℕ) (x ranged : ℕ) (d : A) (xs : List A) (r : ℕ) → ((i : ℕ) → i < length xs → rowFits w x ranged (r + i) ≡ pass (getD xs i d))
+  first-row : (w : List ℕ) (x ranged : ℕ) (d : A) (xs : List A) (r : ℕ)
+      → ((i : ℕ) → i < length xs → rowFits w x ranged (r + i) ≡ pass (getD xs i d))
       → firstRow w x ranged (length xs) r ≡ firstWhere pass xs
   unfolding firstRow firstWhere
   first-row w x ranged d [] r h = refl
@@ -72,12 +74,12 @@ module _ {A : Type 0} (pass : A → Bool) where
     where
       by : (t : Bool) → pass x ≡ t → getD (map goal xs ++ (fb ∷ [])) (firstWhere pass xs) fb ≡ pick pass goal fb xs
           → getD (map goal (x ∷ xs) ++ (fb ∷ [])) (firstWhere pass (x ∷ xs)) fb ≡ pick pass goal fb (x ∷ xs)
-      by true h k = rw (first-yes pass x xs h) (sym (pick-yes goal fb x xs h))
-      by false h k = rw (first-no pass x xs h) (k ∙ sym (pick-no goal fb x xs h))
+      by true h k = rw (first-here pass x xs h) (sym (pick-yes goal fb x xs h))
+      by false h k = rw (first-later pass x xs h) (k ∙ sym (pick-no goal fb x xs h))
 
 -- ---- the table of the cases
 
-module _ (s : List ℕ) (def : ℕ) (l : Layout) where
+module _ (s : List ℕ) (def : ℕ) (l : SwitchLaid) where
   abbrev fallback : ℕ
   fallback = fallbackAt def (l .splits) l
 
@@ -104,7 +106,8 @@ module _ (s : List ℕ) (def : ℕ) (l : Layout) where
       let v = constOf s (child (getD (casesOf s) i 0)) in
       let c = case-const s l fallback noCase noConst (casesOf s) last i h in
       let at-const = const-word r noConst k in
-      let e : caseWord (words r) (0 + i) 1 ≡ k = ap (λ (n : ℕ). caseWord (words r) n 1) (zero-add i) ∙ case-word r noCase i 1 (omega (arith, case-rows-length s l fallback (casesOf s) last)) (omega arith) in
+      let e : caseWord (words r) (0 + i) 1 ≡ k = ap (λ (n : ℕ). caseWord (words r) n 1) (zero-add i)
+      ∙ case-word r noCase i 1 (omega (arith, case-rows-length s l fallback (casesOf s) last)) (omega arith) in
       ap (isInt (words r) x) e
       ∙ ap₂ (λ (m n : ℕ). eqb m intKind && eqb n x) (at-const 0 (c .0) (omega arith))
       (ap₂ excess (at-const 1 (c .0) (omega arith)) (at-const 2 (c .0) (omega arith)))
@@ -114,13 +117,15 @@ module _ (s : List ℕ) (def : ℕ) (l : Layout) where
   unfolding switchWay switchWords switchOf caseTable
   case-way x =
       let r = switchOf s def l in
-      let at-table : (f : ℕ) → f < 4 → switchWord (words r) 0 f ≡ getD (switchWords (getD (r .switches) 0 noSwitch)) f 0 = λ f g. switch-word r noSwitch 0 f some-table g in
+      let at-table : (f : ℕ) → f < 4 → switchWord (words r) 0 f ≡ getD (switchWords (getD (r .switches) 0 noSwitch)) f 0 =
+      λ f g. switch-word r noSwitch 0 f some-table g in
       ap (λ (n : ℕ). firstRow (words r) x n (switchWord (words r) 0 2) (switchWord (words r) 0 1)) (at-table 0 (omega arith))
       ∙ ap₂ (λ (n m : ℕ). firstRow (words r) x 0 n m) (at-table 2 (omega arith)) (at-table 1 (omega arith))
       ∙ first-row (isCaseOf s x) (words r) x 0 0 (casesOf s) 0 (case-fits x)
 
   -- the first Switch goes to the entry of the first Case that is the Int x
-  pub case-target : (x : ℕ) → tableTarget (words (switchOf s def l)) 0 (switchWay (words (switchOf s def l)) x 0) ≡ pick (isCaseOf s x) (caseTarget s def l) fallback (casesOf s)
+  pub case-target : (x : ℕ) → tableTarget (words (switchOf s def l)) 0 (switchWay (words (switchOf s def l)) x 0)
+      ≡ pick (isCaseOf s x) (caseTarget s def l) fallback (casesOf s)
   unfolding switchOf caseTable
   case-target x =
       let r = switchOf s def l in
@@ -132,10 +137,10 @@ module _ (s : List ℕ) (def : ℕ) (l : Layout) where
 -- ---- the table of the ranges
 
 -- the row of a split range
-abbrev rangeRow : ℕ → Layout → Split.Entry → SwitchRange
+abbrev rangeRow : ℕ → SwitchLaid → Split.Entry → SwitchRange
 rangeRow def l e = record { from = shifted (e .from); to = shifted (e .to); inclusive = oneIf (e .inclusive); target = rangeTarget def l e }
 
-range-rows-map : (def : ℕ) (l : Layout) (es : List Split.Entry) → rangeRows l (defaultAt def l) es ≡ map (rangeRow def l) es
+range-rows-map : (def : ℕ) (l : SwitchLaid) (es : List Split.Entry) → rangeRows l (defaultAt def l) es ≡ map (rangeRow def l) es
 unfolding rangeRows
 range-rows-map def l [] = refl
 range-rows-map def l (e ∷ es) = ap (λ (x : List SwitchRange). rangeRow def l e ∷ x) (range-rows-map def l es)
@@ -153,12 +158,14 @@ every-at Q [] d h i l = absurd (omega arith)
 every-at Q (e ∷ es) d h zero l = h .0
 every-at Q (e ∷ es) d h (suc i) l = every-at Q es d (h .1) i (omega arith)
 
-module _ (s : List ℕ) (def : ℕ) (l : Layout) (e₀ : Split.Entry) (es : List Split.Entry) (q : l .splits ≡ e₀ ∷ es) (wide : Every Wide (l .splits)) where
+module _ (s : List ℕ) (def : ℕ) (l : SwitchLaid) (e₀ : Split.Entry) (es : List Split.Entry) (q : l .splits ≡ e₀ ∷ es)
+    (wide : Every Wide (l .splits)) where
   two-tables : 1 < length (switchOf s def l .switches)
   unfolding switchOf rangeTable
   two-tables = rw q (omega arith)
 
-  range-table : getD (switchOf s def l .switches) 1 noSwitch ≡ record { ranged = 1; first = 0; rows = length (l .splits); default = defaultAt def l }
+  range-table : getD (switchOf s def l .switches) 1 noSwitch
+      ≡ record { ranged = 1; first = 0; rows = length (l .splits); default = defaultAt def l }
   unfolding switchOf rangeTable
   range-table = rw q
 
@@ -168,7 +175,8 @@ module _ (s : List ℕ) (def : ℕ) (l : Layout) (e₀ : Split.Entry) (es : List
       ap (λ (x : List SwitchRange). getD x i (rangeRow def l e₀)) (range-rows-map def l (l .splits))
       ∙ List·getD-map (rangeRow def l) (l .splits) i e₀
 
-  range-words : (i f : ℕ) → i < length (l .splits) → f < 6 → rangeWord (words (switchOf s def l)) (0 + i) f ≡ getD (rangeWords (rangeRow def l (getD (l .splits) i e₀))) f 0
+  range-words : (i f : ℕ) → i < length (l .splits) → f < 6
+      → rangeWord (words (switchOf s def l)) (0 + i) f ≡ getD (rangeWords (rangeRow def l (getD (l .splits) i e₀))) f 0
   unfolding switchOf
   range-words i f h g =
       let r = switchOf s def l in
@@ -187,21 +195,25 @@ module _ (s : List ℕ) (def : ℕ) (l : Layout) (e₀ : Split.Entry) (es : List
       ap₂ excess (range-words i 0 h (omega arith)) (range-words i 1 h (omega arith)) ∙ excess-words (e .from) (b .0) in
       let to : excess (rangeWord (words r) (0 + i) 2) (rangeWord (words r) (0 + i) 3) ≡ e .to =
       ap₂ excess (range-words i 2 h (omega arith)) (range-words i 3 h (omega arith)) ∙ excess-words (e .to) (b .1) in
-      let incl : eqb (rangeWord (words r) (0 + i) 4) 1 ≡ e .inclusive = ap (λ (n : ℕ). eqb n 1) (range-words i 4 h (omega arith)) ∙ one-if (e .inclusive) in
+      let incl : eqb (rangeWord (words r) (0 + i) 4) 1 ≡ e .inclusive =
+      ap (λ (n : ℕ). eqb n 1) (range-words i 4 h (omega arith)) ∙ one-if (e .inclusive) in
       rw (from, to, incl)
 
   range-way : (x : ℕ) → switchWay (words (switchOf s def l)) x 1 ≡ firstWhere (λ e. holds e x) (l .splits)
   unfolding switchWay switchWords
   range-way x =
       let r = switchOf s def l in
-      let at-table : (f : ℕ) → f < 4 → switchWord (words r) 1 f ≡ getD (switchWords (record { ranged = 1; first = 0; rows = length (l .splits); default = defaultAt def l })) f 0 =
+      let at-table : (f : ℕ) → f < 4
+      → switchWord (words r) 1 f
+      ≡ getD (switchWords (record { ranged = 1; first = 0; rows = length (l .splits); default = defaultAt def l })) f 0 =
       λ f g. switch-word r noSwitch 1 f two-tables g ∙ ap (λ (t : Switch). getD (switchWords t) f 0) range-table in
       ap (λ (n : ℕ). firstRow (words r) x n (switchWord (words r) 1 2) (switchWord (words r) 1 1)) (at-table 0 (omega arith))
       ∙ ap₂ (λ (n m : ℕ). firstRow (words r) x 1 n m) (at-table 2 (omega arith)) (at-table 1 (omega arith))
       ∙ first-row (λ e. holds e x) (words r) x 1 e₀ (l .splits) 0 (range-fits x)
 
   -- the second Switch goes to the entry of the first split range that contains x
-  pub range-target : (x : ℕ) → tableTarget (words (switchOf s def l)) 1 (switchWay (words (switchOf s def l)) x 1) ≡ pick (λ e. holds e x) (rangeTarget def l) (defaultAt def l) (l .splits)
+  pub range-target : (x : ℕ) → tableTarget (words (switchOf s def l)) 1 (switchWay (words (switchOf s def l)) x 1)
+      ≡ pick (λ e. holds e x) (rangeTarget def l) (defaultAt def l) (l .splits)
   range-target x =
       let r = switchOf s def l in
       let n = firstWhere (λ e. holds e x) (l .splits) in

@@ -14,12 +14,14 @@ use Rattle.bytecode.specs.declared.Op.the-variants.{Unit}
 use Rattle.bytecode.specs.Op.{opWords}
 use Rattle.bytecode.specs.Chain.{stepWords, chainWords}
 use Rattle.bytecode.specs.Switch.{switchWords, caseWords, rangeWords}
-use Rattle.lowering.specs.Limits.{sizesWords}
+use Rattle.lowering.specs.Limits.{sizesWords, opWidth, stepWidth, constWidth, nameWidth, chainWidth, switchWidth, caseWidth}
+use Rattle.lowering.specs.Limits.{rangeWidth}
 use Rattle.lowering.specs.Code.{Ins, Code, ins, greatest, codeWords, positions}
 use Rattle.lowering.specs.Pools.{Const, stepsWords}
 use Rattle.lowering.specs.Program.{Program}
 use Rattle.lowering.specs.Image.{section, constWords, nameWords, sizes, words}
-use Rattle.lowering.specs.Words.{word, instructions, greatestDepth, constsAt, chainsAt, switchesAt, casesAt, rangesAt, kindAt, aAt, bAt, constWord, chainWord, switchWord, caseWord, rangeWord}
+use Rattle.lowering.specs.Words.{word, instructions, greatestDepth, constsAt, chainsAt, switchesAt, casesAt, rangesAt, kindAt, aAt}
+use Rattle.lowering.specs.Words.{bAt, constWord, chainWord, switchWord, caseWord, rangeWord}
 use Rattle.lowering.proofs.Parts.{Part, part-last, part-more, section-length, record-word}
 use Rattle.lowering.proofs.Widths.{op-width, const-width, name-width, chain-width, step-width, switch-width, case-width, range-width}
 
@@ -30,7 +32,7 @@ noIns = ins Unit 0 0
 abbrev insWords : Ins → List ℕ
 insWords i = opWords (i .op)
 
-ins-width : (i : Ins) → length (insWords i) ≡ 4
+ins-width : (i : Ins) → length (insWords i) ≡ opWidth
 ins-width i = op-width (i .op)
 
 code-section : (c : Code) → codeWords c ≡ section insWords c
@@ -43,16 +45,19 @@ unfolding stepsWords section
 steps-section [] = refl
 steps-section (x ∷ xs) = ap (λ (l : List ℕ). stepWords x ++ l) (steps-section xs)
 
-positions-length : (c : Code) → length (positions c) ≡ length c
+-- as many positions as instructions
+pub positions-length : (c : Code) → length (positions c) ≡ length c
 unfolding positions
 positions-length [] = refl
 positions-length (i ∷ c) = ap suc (positions-length c)
 
-code-length : (c : Code) → length (codeWords c) ≡ 4 * length c
-code-length c = ap length (code-section c) ∙ section-length insWords 4 ins-width c
+-- the words of code
+pub code-length : (c : Code) → length (codeWords c) ≡ opWidth * length c
+code-length c = ap length (code-section c) ∙ section-length insWords opWidth ins-width c
 
-steps-length : (xs : List Step) → length (stepsWords xs) ≡ 6 * length xs
-steps-length xs = ap length (steps-section xs) ∙ section-length stepWords 6 step-width xs
+-- and of steps
+pub steps-length : (xs : List Step) → length (stepsWords xs) ≡ stepWidth * length xs
+steps-length xs = ap length (steps-section xs) ∙ section-length stepWords stepWidth step-width xs
 
 -- the sizes
 pub instructions-are : (r : Program) → instructions (words r) ≡ length (r .code)
@@ -97,7 +102,14 @@ toRanges r = toCases r ++ section caseWords (r .cases)
 -- where the sections start
 pub consts-at : (r : Program) → length (toConsts r) ≡ constsAt (words r)
 unfolding constsAt words sizes
-consts-at r = omega (arith, length-append (toPositions r) (positions (r .code)), length-append (sizes r) (codeWords (r .code)), code-length (r .code), positions-length (r .code))
+consts-at r =
+    omega (
+      arith,
+      length-append (toPositions r) (positions (r .code)),
+      length-append (sizes r) (codeWords (r .code)),
+      code-length (r .code),
+      positions-length (r .code),
+    )
 
 pub chains-at : (r : Program) → length (toChains r) ≡ chainsAt (words r)
 unfolding chainsAt words sizes
@@ -109,8 +121,8 @@ chains-at r =
       length-append (toTokens r) (r .pools .tokens),
       length-append (toNames r) (section nameWords (r .pools .names)),
       length-append (toConsts r) (section constWords (r .pools .consts)),
-      section-length nameWords 2 name-width (r .pools .names),
-      section-length constWords 3 const-width (r .pools .consts),
+      section-length nameWords nameWidth name-width (r .pools .names),
+      section-length constWords constWidth const-width (r .pools .consts),
     )
 
 switches-at : (r : Program) → length (toSwitches r) ≡ switchesAt (words r)
@@ -121,17 +133,29 @@ switches-at r =
       chains-at r,
       length-append (toSteps r) (stepsWords (r .pools .steps)),
       length-append (toChains r) (section chainWords (r .pools .chains)),
-      section-length chainWords 6 chain-width (r .pools .chains),
+      section-length chainWords chainWidth chain-width (r .pools .chains),
       steps-length (r .pools .steps),
     )
 
 cases-at : (r : Program) → length (toCases r) ≡ casesAt (words r)
 unfolding casesAt words sizes
-cases-at r = omega (arith, switches-at r, length-append (toSwitches r) (section switchWords (r .switches)), section-length switchWords 4 switch-width (r .switches))
+cases-at r =
+    omega (
+      arith,
+      switches-at r,
+      length-append (toSwitches r) (section switchWords (r .switches)),
+      section-length switchWords switchWidth switch-width (r .switches),
+    )
 
 pub ranges-at : (r : Program) → length (toRanges r) ≡ rangesAt (words r)
 unfolding rangesAt words sizes
-ranges-at r = omega (arith, cases-at r, length-append (toCases r) (section caseWords (r .cases)), section-length caseWords 2 case-width (r .cases))
+ranges-at r =
+    omega (
+      arith,
+      cases-at r,
+      length-append (toCases r) (section caseWords (r .cases)),
+      section-length caseWords caseWidth case-width (r .cases),
+    )
 
 -- each section as a part of the words
 ranges-part : (r : Program) → Part (words r) (rangesAt (words r)) (section rangeWords (r .ranges))
@@ -179,32 +203,38 @@ code-part r =
 
 -- word f of each record
 module _ (r : Program) where
-  pub ins-word : (p f : ℕ) → p < length (r .code) → f < 4 → word (words r) (sizesWords + 4 * p + f) ≡ getD (opWords (getD (r .code) p noIns .op)) f 0
-  ins-word p f h g = record-word insWords 4 ins-width (r .code) (code-part r) noIns p f h g
+  pub ins-word : (p f : ℕ) → p < length (r .code) → f < opWidth
+      → word (words r) (sizesWords + opWidth * p + f) ≡ getD (opWords (getD (r .code) p noIns .op)) f 0
+  ins-word p f h g = record-word insWords opWidth ins-width (r .code) (code-part r) noIns p f h g
 
-  pub const-word : (d : Const) (k f : ℕ) → k < length (r .pools .consts) → f < 3 → constWord (words r) k f ≡ getD (constWords (getD (r .pools .consts) k d)) f 0
+  pub const-word : (d : Const) (k f : ℕ) → k < length (r .pools .consts) → f < 3
+      → constWord (words r) k f ≡ getD (constWords (getD (r .pools .consts) k d)) f 0
   unfolding constWord
-  const-word d k f h g = record-word constWords 3 const-width (r .pools .consts) (consts-part r) d k f h g
+  const-word d k f h g = record-word constWords constWidth const-width (r .pools .consts) (consts-part r) d k f h g
 
-  pub chain-word : (d : Chain) (k f : ℕ) → k < length (r .pools .chains) → f < 6 → chainWord (words r) k f ≡ getD (chainWords (getD (r .pools .chains) k d)) f 0
+  pub chain-word : (d : Chain) (k f : ℕ) → k < length (r .pools .chains) → f < 6
+      → chainWord (words r) k f ≡ getD (chainWords (getD (r .pools .chains) k d)) f 0
   unfolding chainWord
-  chain-word d k f h g = record-word chainWords 6 chain-width (r .pools .chains) (chains-part r) d k f h g
+  chain-word d k f h g = record-word chainWords chainWidth chain-width (r .pools .chains) (chains-part r) d k f h g
 
-  pub switch-word : (d : Switch) (k f : ℕ) → k < length (r .switches) → f < 4 → switchWord (words r) k f ≡ getD (switchWords (getD (r .switches) k d)) f 0
+  pub switch-word : (d : Switch) (k f : ℕ) → k < length (r .switches) → f < 4
+      → switchWord (words r) k f ≡ getD (switchWords (getD (r .switches) k d)) f 0
   unfolding switchWord
-  switch-word d k f h g = record-word switchWords 4 switch-width (r .switches) (switches-part r) d k f h g
+  switch-word d k f h g = record-word switchWords switchWidth switch-width (r .switches) (switches-part r) d k f h g
 
-  pub case-word : (d : SwitchCase) (k f : ℕ) → k < length (r .cases) → f < 2 → caseWord (words r) k f ≡ getD (caseWords (getD (r .cases) k d)) f 0
+  pub case-word : (d : SwitchCase) (k f : ℕ) → k < length (r .cases) → f < 2
+      → caseWord (words r) k f ≡ getD (caseWords (getD (r .cases) k d)) f 0
   unfolding caseWord
-  case-word d k f h g = record-word caseWords 2 case-width (r .cases) (cases-part r) d k f h g
+  case-word d k f h g = record-word caseWords caseWidth case-width (r .cases) (cases-part r) d k f h g
 
-  pub range-word : (d : SwitchRange) (k f : ℕ) → k < length (r .ranges) → f < 6 → rangeWord (words r) k f ≡ getD (rangeWords (getD (r .ranges) k d)) f 0
+  pub range-word : (d : SwitchRange) (k f : ℕ) → k < length (r .ranges) → f < 6
+      → rangeWord (words r) k f ≡ getD (rangeWords (getD (r .ranges) k d)) f 0
   unfolding rangeWord
-  range-word d k f h g = record-word rangeWords 6 range-width (r .ranges) (ranges-part r) d k f h g
+  range-word d k f h g = record-word rangeWords rangeWidth range-width (r .ranges) (ranges-part r) d k f h g
 
   -- kind, a and b of the instruction at a place
   pub kind-at : (p : ℕ) → p < length (r .code) → kindAt (words r) p ≡ getD (opWords (getD (r .code) p noIns .op)) 0 0
-  kind-at p h = ap (word (words r)) (sym (add-zero (sizesWords + 4 * p))) ∙ ins-word p 0 h (omega arith)
+  kind-at p h = ap (word (words r)) (sym (add-zero (sizesWords + opWidth * p))) ∙ ins-word p 0 h (omega arith)
 
   pub a-at : (p : ℕ) → p < length (r .code) → aAt (words r) p ≡ getD (opWords (getD (r .code) p noIns .op)) 1 0
   a-at p h = ins-word p 1 h (omega arith)

@@ -12,7 +12,8 @@ use Rattle.lowering.proofs.LowerFits.{lower-fits, image-is}
 use Rattle.lowering.proofs.RunsRight.{runs-right}
 use Rattle.lowering.proofs.DepthReached.{depth-reached}
 
-pub demand3-from : (s : List ℕ) (imageLength scratchLength : ℕ) (w : List ℕ) → outcome s imageLength scratchLength ≡ image w → WellTyped (lower s) → AllReached (lower s) → (kind s 0 ≡ switchKind → ChoosesRight s (words (lower s))) → Demand3 s w
+pub demand3-from : (s : List ℕ) (imageLength scratchLength : ℕ) (w : List ℕ) → outcome s imageLength scratchLength ≡ image w
+    → WellTyped (lower s) → AllReached (lower s) → (kind s 0 ≡ switchKind → ChoosesRight s (words (lower s))) → Demand3 s w
 demand3-from s imageLength scratchLength w e T A C =
     let F = lower-fits s in
     subst (Demand3 s) (image-is s imageLength scratchLength w e)

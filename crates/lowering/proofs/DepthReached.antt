@@ -49,12 +49,12 @@ pub record Stands (w : List ℕ) (p : ℕ) : Type 0 where
   pub steps : ℕ
   pub there : run w ways steps .place ≡ p
 
-pub stands-start : (w : List ℕ) → Stands w 0
+stands-start : (w : List ℕ) → Stands w 0
 unfolding run
 stands-start w = record { ways = λ n. 0; steps = 0; there = refl }
 
 -- from a place where a run stands, it can go any way
-pub stands-next : (w : List ℕ) (p way : ℕ) → p < instructions w → Stands w p → Stands w (next w way p)
+stands-next : (w : List ℕ) (p way : ℕ) → p < instructions w → Stands w p → Stands w (next w way p)
 unfolding run step
 stands-next w p way h t =
     let n = t .steps in
@@ -73,7 +73,8 @@ stands-next w p way h t =
     }
 
 -- closed code and reached code, place by place
-closed-from : (X : Context) (R : ℕ → Type 0) (b : ℕ) (c : Code) → ((p : ℕ) → p < length c → R (b + p) → All R (nexts X (getD c p noIns .op) (b + p))) → Closed X R b c
+closed-from : (X : Context) (R : ℕ → Type 0) (b : ℕ) (c : Code)
+    → ((p : ℕ) → p < length c → R (b + p) → All R (nexts X (getD c p noIns .op) (b + p))) → Closed X R b c
 closed-from X R b [] f = tt
 closed-from X R b (i ∷ c) f = (
   subst (λ (n : ℕ). R n → All R (nexts X (i .op) n)) (add-zero b) (f 0 (omega arith)),
@@ -92,7 +93,8 @@ unfolding greatest
 greatest-there [] = (0, omega arith, refl)
 greatest-there (i ∷ c) = by (leb (greatest c) (i .depth)) refl (greatest-there c)
   where
-    by : (t : Bool) → leb (greatest c) (i .depth) ≡ t → (p : ℕ) × (p ≤ length c) × (depthAt c p ≡ greatest c) → (p : ℕ) × (p ≤ suc (length c)) × (depthAt (i ∷ c) p ≡ max (i .depth) (greatest c))
+    by : (t : Bool) → leb (greatest c) (i .depth) ≡ t → (p : ℕ) × (p ≤ length c) × (depthAt c p ≡ greatest c)
+        → (p : ℕ) × (p ≤ suc (length c)) × (depthAt (i ∷ c) p ≡ max (i .depth) (greatest c))
     by true e x = (0, omega arith, omega (arith, leb-true (greatest c) (i .depth) e))
     by false e x = (suc (x .0), omega (arith, x .1), omega (arith, leb-false (greatest c) (i .depth) e, x .2))
 
@@ -100,7 +102,8 @@ module _ (r : Program) (F : TablesFit r) (T : WellTyped r) (A : AllReached r) wh
   closed : Closed (contextOf r) (Stands (words r)) 0 (r .code)
   closed =
       closed-from (contextOf r) (Stands (words r)) 0 (r .code)
-      (λ p h. subst (λ (n : ℕ). Stands (words r) n → All (Stands (words r)) (nexts (contextOf r) (opAt r p) n)) (sym (zero-add p)) (here p h))
+      (λ p h. subst (λ (n : ℕ). Stands (words r) n → All (Stands (words r)) (nexts (contextOf r) (opAt r p) n)) (sym (zero-add p))
+      (here p h))
     where
       here : (p : ℕ) → p < length (r .code) → Stands (words r) p → All (Stands (words r)) (nexts (contextOf r) (opAt r p) p)
       here p h t =
@@ -108,7 +111,7 @@ module _ (r : Program) (F : TablesFit r) (T : WellTyped r) (A : AllReached r) wh
           (λ way. stands-next (words r) p way (omega (arith, instructions-are r)) t)
 
   -- each place is reached by some run
-  pub stands-at : (p : ℕ) → p < length (r .code) → Stands (words r) p
+  stands-at : (p : ℕ) → p < length (r .code) → Stands (words r) p
   stands-at p h =
       subst (Stands (words r)) (zero-add p)
       (reached-at (Stands (words r)) 0 (r .code) (A .reached (Stands (words r)) closed (stands-start (words r))) p h)

@@ -8,7 +8,9 @@ use Rattle.bytecode.specs.declared.Receiver.the-variants.{Local, Named, This}
 use Rattle.bytecode.specs.declared.Root.the-variants.{Temporary}
 use Rattle.bytecode.specs.declared.Chain as ChainRecord
 use Rattle.bytecode.specs.declared.Op.{Op}
-use Rattle.bytecode.specs.declared.Op.the-variants.{Const, Unit, Bool, LoadLocal, LoadNamed, LoadThis, Pop, Jump, JumpIfTrue, JumpIfFalse, SkipIfNotUnit, Call, CallRef, Rotate, Switch, MakeFnPtr, CallFnPtr, InterpolateStart, InterpolateAppend, InterpolateEnd, MakeArray, CheckSize, Chain, EvalAst}
+use Rattle.bytecode.specs.declared.Op.the-variants.{Const, Unit, Bool, LoadLocal, LoadNamed, LoadThis, Pop, Jump, JumpIfTrue, JumpIfFalse}
+use Rattle.bytecode.specs.declared.Op.the-variants.{SkipIfNotUnit, Call, CallRef, Rotate, Switch, MakeFnPtr, CallFnPtr, InterpolateStart}
+use Rattle.bytecode.specs.declared.Op.the-variants.{InterpolateAppend, InterpolateEnd, MakeArray, CheckSize, Chain, EvalAst}
 use Rattle.lowering.specs.Chain.{onStack}
 
 -- what the code stands in: the chains of the image, the count of its switch tables, and the targets of each table

@@ -3,7 +3,7 @@
 use Prim.Native.Nat.{ℕ, zero, suc, _+_, _-_, _*_, _/_, _%_, _<_}
 use mathlib.Core.Path.{_≡_, refl, sym, ap, _∙_, subst}
 use mathlib.Core.Bool.{true, false}
-use mathlib.Core.List.{List, [], _∷_, _++_, List·Memᴰ}
+use mathlib.Core.List.{List, [], _∷_, _++_}
 use native.Mathlib.Omega.{arith}
 use native.Mathlib.Numerals.{add-one}
 use borrow.Author.Tests.{eq-eqb, ne-eqb}
@@ -15,7 +15,9 @@ use Rattle.bytecode.specs.declared.Root.{Root}
 use Rattle.bytecode.specs.declared.Root.the-variants.{Temporary}
 use Rattle.bytecode.specs.declared.Root.the-variants as RootIs
 use Rattle.bytecode.specs.declared.Op.{Op}
-use Rattle.bytecode.specs.declared.Op.the-variants.{Const, Unit, Bool, LoadLocal, LoadNamed, LoadThis, Pop, Jump, JumpIfTrue, JumpIfFalse, SkipIfNotUnit, Call, CallRef, Rotate, Switch, MakeFnPtr, CallFnPtr, InterpolateStart, InterpolateAppend, InterpolateEnd, MakeArray, CheckSize, Chain, EvalAst}
+use Rattle.bytecode.specs.declared.Op.the-variants.{Const, Unit, Bool, LoadLocal, LoadNamed, LoadThis, Pop, Jump, JumpIfTrue, JumpIfFalse}
+use Rattle.bytecode.specs.declared.Op.the-variants.{SkipIfNotUnit, Call, CallRef, Rotate, Switch, MakeFnPtr, CallFnPtr, InterpolateStart}
+use Rattle.bytecode.specs.declared.Op.the-variants.{InterpolateAppend, InterpolateEnd, MakeArray, CheckSize, Chain, EvalAst}
 use Rattle.bytecode.specs.Op.{receiverKind, opWords}
 use Rattle.bytecode.specs.Chain.{rootWords, chainWords}
 use Rattle.bytecode.specs.Effect.{Flow, on, jump, branch, table, effect, refArgc, popped, kept}
@@ -26,7 +28,6 @@ use Rattle.lowering.specs.Words.{kindAt, aAt, chainWord}
 use Rattle.lowering.specs.Run as Run
 use Rattle.lowering.specs.All.{All}
 use Rattle.lowering.proofs.Effect.{Context, noChain, chainPops, refPops, pops, pushes, needs, nexts, Narrow}
-use Rattle.lowering.proofs.AllLaws.{members, all-member}
 use Rattle.lowering.proofs.Whole.{contextOf}
 use Rattle.lowering.proofs.Tables.{TablesFit, table-all, all-table}
 use Rattle.lowering.proofs.Decode.{noIns, kind-at, a-at, b-at, chain-word}
@@ -118,7 +119,9 @@ module _ (X : Context) (f : ℕ → ℕ) (chains : (i : ℕ) → i < length (X .
   right p (EvalAst i) h = (refl, refl, refl, refl, tt)
 
 -- a chain's operands, and one more for a root on the stack
-takes-of : (root : Root) (first steps n : ℕ) → (getD (rootWords root ++ (first ∷ steps ∷ n ∷ [])) 5 0 ≡ n) × (onRoot (getD (rootWords root ++ (first ∷ steps ∷ n ∷ [])) 0 0) ≡ onStack root)
+takes-of : (root : Root) (first steps n : ℕ)
+    → (getD (rootWords root ++ (first ∷ steps ∷ n ∷ [])) 5 0 ≡ n)
+    × (onRoot (getD (rootWords root ++ (first ∷ steps ∷ n ∷ [])) 0 0) ≡ onStack root)
 unfolding rootWords onStack
 takes-of (RootIs.Local slot i) first steps n = (refl, refl)
 takes-of (RootIs.Named i pos) first steps n = (refl, refl)
@@ -169,7 +172,8 @@ goes-to branch w way p = refl
 goes-to table w way p = refl
 
 -- the next place, of a place where op stands
-pub next-is : (r : Program) (p : ℕ) → p < length (r .code) → (op : Op) → opAt r p ≡ op → (way : ℕ) → Run.next (words r) way p ≡ goes (effect (kindOf op) .flow) (words r) (aOf op) way p
+next-is : (r : Program) (p : ℕ) → p < length (r .code) → (op : Op) → opAt r p ≡ op → (way : ℕ)
+    → Run.next (words r) way p ≡ goes (effect (kindOf op) .flow) (words r) (aOf op) way p
 unfolding Run.next
 next-is r p h op e way =
     goes-to (effect (kindAt (words r) p) .flow) (words r) way p
@@ -178,7 +182,8 @@ next-is r p h op e way =
 
 -- a fact of all nexts holds where the run goes, and a fact of each place that it can go to holds of all nexts
 module _ (r : Program) (F : TablesFit r) (p a : ℕ) (P : ℕ → Type 0) where
-  flow-all : (flow : Flow) → FlowNarrow (contextOf r) flow a → All P (flowNexts (contextOf r) flow a p) → (way : ℕ) → P (goes flow (words r) a way p)
+  flow-all : (flow : Flow) → FlowNarrow (contextOf r) flow a → All P (flowNexts (contextOf r) flow a p) → (way : ℕ)
+      → P (goes flow (words r) a way p)
   unfolding Run.branchTarget
   flow-all on x h way = h .0
   flow-all jump x h way = h .0
@@ -186,7 +191,8 @@ module _ (r : Program) (F : TablesFit r) (p a : ℕ) (P : ℕ → Type 0) where
   flow-all branch x h (suc way) = h .0
   flow-all table x h way = table-all r F a x P h way
 
-  all-flow : (flow : Flow) → FlowNarrow (contextOf r) flow a → ((way : ℕ) → P (goes flow (words r) a way p)) → All P (flowNexts (contextOf r) flow a p)
+  all-flow : (flow : Flow) → FlowNarrow (contextOf r) flow a → ((way : ℕ) → P (goes flow (words r) a way p))
+      → All P (flowNexts (contextOf r) flow a p)
   unfolding Run.branchTarget
   all-flow on x h = (h 0, tt)
   all-flow jump x h = (h 0, tt)
@@ -199,20 +205,13 @@ module _ (r : Program) (F : TablesFit r) (p : ℕ) (h : p < length (r .code)) (n
   next-all P k way =
       let g = right-at r p h narrow in
       let op = opAt r p in
-      subst P (sym (next-is r p h op refl way)) (flow-all r F p (aOf op) P (effect (kindOf op) .flow) (g .4) (subst (All P) (sym (g .3)) k) way)
+      subst P (sym (next-is r p h op refl way))
+      (flow-all r F p (aOf op) P (effect (kindOf op) .flow) (g .4) (subst (All P) (sym (g .3)) k) way)
 
   -- and a fact of the next place by each way holds of all nexts
   pub all-next : (P : ℕ → Type 0) → ((way : ℕ) → P (Run.next (words r) way p)) → All P (nexts (contextOf r) (opAt r p) p)
   all-next P k =
       let g = right-at r p h narrow in
       let op = opAt r p in
-      subst (All P) (g .3) (all-flow r F p (aOf op) P (effect (kindOf op) .flow) (g .4) (λ way. subst P (next-is r p h op refl way) (k way)))
-
-  -- so the next places are the members of nexts, each by some way
-  pub next-member : (way : ℕ) → List·Memᴰ (Run.next (words r) way p) (nexts (contextOf r) (opAt r p) p)
-  next-member = next-all (λ (q : ℕ). List·Memᴰ q (nexts (contextOf r) (opAt r p) p)) (members (nexts (contextOf r) (opAt r p) p))
-
-  pub member-next : (q : ℕ) → List·Memᴰ q (nexts (contextOf r) (opAt r p) p) → (way : ℕ) × (Run.next (words r) way p ≡ q)
-  member-next q m =
-      let ByWay : ℕ → Type 0 = λ x. (way : ℕ) × (Run.next (words r) way p ≡ x) in
-      all-member ByWay q (nexts (contextOf r) (opAt r p) p) m (all-next ByWay (λ way. (way, refl)))
+      subst (All P) (g .3)
+      (all-flow r F p (aOf op) P (effect (kindOf op) .flow) (g .4) (λ way. subst P (next-is r p h op refl way) (k way)))

@@ -73,7 +73,8 @@ module _ (r : Program) (T : TablesFit r) {b d e : ℕ} {c : Code} (st : Stands (
       let x = getD c i noIns in
       let l : b + i < length (r .code) = omega (arith, stands-within st) in
       let op-is : opAt r (b + i) ≡ x .op = ap (λ (y : Ins). y .op) (stands-each st i h) in
-      let ends = all-map (Goes depths (b + length c) (b + i) (after (contextOf r) (x .op) (x .depth))) (λ q. q ≤ b + length c) (nexts (contextOf r) (x .op) (b + i)) (λ q g. g .1) (t .2) in
+      let ends = all-map (Goes depths (b + length c) (b + i) (after (contextOf r) (x .op) (x .depth))) (λ q. q ≤ b + length c)
+      (nexts (contextOf r) (x .op) (b + i)) (λ q g. g .1) (t .2) in
       next-all r T (b + i) l (subst (Narrow (contextOf r)) (sym op-is) (t .1)) (λ q. q ≤ b + length c)
       (subst (λ (op : Op). All (λ q. q ≤ b + length c) (nexts (contextOf r) op (b + i))) (sym op-is) ends)
       way
@@ -108,11 +109,13 @@ module _ (r : Program) (T : TablesFit r) (W : WellTyped r) (ms : List Marked) (x
   abbrev run : Fed
   run = fed r ms x answers free
 
-  module _ {b d e : ℕ} {c : Code} (st : Stands (r .code) b c) (so : Sound (contextOf r) Nothing b d e c) (u : ℕ) (evs : List Event) (behind : Tells run (b + length c) u evs) where
+  module _ {b d e : ℕ} {c : Code} (st : Stands (r .code) b c) (so : Sound (contextOf r) Nothing b d e c) (u : ℕ) (evs : List Event)
+      (behind : Tells run (b + length c) u evs) where
     -- a part without marks adds nothing, from each of its places
     pub cross-part : (q : ℕ) → b ≤ q → q ≤ b + length c → ((p : ℕ) → q ≤ p → p < b + length c → markAt ms p ≡ none) → Tells run q u evs
     cross-part q l h bare =
-        cross run (goes-forward r T W) (b + length c) u evs (omega (arith, stands-within st, instructions-are r)) behind (b + length c) q bare
+        cross run (goes-forward r T W) (b + length c) u evs (omega (arith, stands-within st, instructions-are r)) behind (b + length c) q
+        bare
         (λ p way a k. stays-within r T st so p way (omega arith) k) h (omega arith)
 
     -- a part whose first place alone has a mark

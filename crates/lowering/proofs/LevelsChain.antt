@@ -15,8 +15,9 @@ use Rattle.lowering.specs.Code.{Ins, ins}
 use Rattle.lowering.specs.Pools.{Pools, emits, chainAt, pushChain}
 use Rattle.lowering.specs.Out.{Out, out, Rec, residualExpr}
 use Rattle.lowering.specs.Flatten.{negated, operandOf, links, StepRule, index, property, method, none, stepRule, flattens}
-use Rattle.lowering.specs.Steps.{Stepped, stepped, failed, indexStep, methodStep, methodAfter, isLowerableMethod, stepBy, Walked, walked, stopped, onto, steps}
-use Rattle.lowering.specs.Chain.{rootOf, rootPools, onStack, rootCode, closeChain, chainOf, chain}
+use Rattle.lowering.specs.Steps.{Stepped, stepped, failed, indexStep, methodStep, methodAfter, isLowerableMethod, stepBy, Walked}
+use Rattle.lowering.specs.Steps.{walked, stopped, onto, steps}
+use Rattle.lowering.specs.Chain.{rootOf, rootPools, onStack, rootCode, chainOf, chain}
 use Rattle.lowering.specs.All.{All}
 use Rattle.lowering.proofs.LevelsSame.{Each, Agree, operands-same}
 
@@ -60,7 +61,7 @@ module _ (s : List ℕ) {P : ℕ → Type 0} {rec rec′ : Rec} (A : Agree P rec
   root-same Temporary v b d p h = A .at v b d p h
 
   chain-of-same : (root : Root) (j b d : ℕ) (w : Walked) → P (child j) → chainOf s rec root j b d w ≡ chainOf s rec′ root j b d w
-  unfolding chainOf closeChain
+  unfolding chainOf
   chain-of-same root j b d (walked code xs n p) h =
       let last : Out → Ins = λ o. ins (Chain (chainAt root xs n (o .pools))) (d + n + onStack root) (position s j) in
       ap (λ (o : Out). out (code ++ o .code ++ (last o ∷ [])) (emits 1 (pushChain root xs n (o .pools))))

@@ -8,7 +8,8 @@ use lib.Dec.{leb}
 use lib.ListN.{length}
 use Rattle.sheet.specs.Node.{count, fieldA, fieldB, position, child, next}
 use Rattle.sheet.specs.Walk.{skip}
-use Rattle.bytecode.specs.declared.Op.the-variants.{CheckSize, InterpolateAppend, InterpolateStart, InterpolateEnd, MakeArray, MakeFnPtr, CallFnPtr, LoadNamed, LoadThis}
+use Rattle.bytecode.specs.declared.Op.the-variants.{CheckSize, InterpolateAppend, InterpolateStart, InterpolateEnd, MakeArray, MakeFnPtr}
+use Rattle.bytecode.specs.declared.Op.the-variants.{CallFnPtr, LoadNamed, LoadThis}
 use Rattle.bytecode.specs.declared.Receiver.the-variants.{Local, Named, This}
 use Rattle.lowering.specs.Limits.{maxElements}
 use Rattle.lowering.specs.Code.{ins, noPos}
@@ -17,7 +18,7 @@ use Rattle.lowering.specs.Out.{Out, out, Rec, andThen, residualExpr}
 use Rattle.lowering.specs.Operands.{operands}
 use Rattle.lowering.specs.Array.{elements, array}
 use Rattle.lowering.specs.Interpolated.{segments, interpolated}
-use Rattle.lowering.specs.ShortCircuit.{Fragments, fragments, shortCircuit, extent, decided, jumpOn, verdict}
+use Rattle.lowering.specs.ShortCircuit.{Fragments, fragments, shortCircuit, extent, decided, jumpOn, decision}
 use Rattle.lowering.specs.Coalesce.{coalesce, skipped}
 use Rattle.lowering.specs.Call as Call
 use Rattle.lowering.proofs.LinkedCall.{Takes}
@@ -29,15 +30,15 @@ pub record Each (s : List ℕ) (P : ℕ → Type 0) (n j : ℕ) : Type 0 where
 pub record Agree (P : ℕ → Type 0) (rec rec′ : Rec) : Type 0 where
   pub at : (j b d : ℕ) (p : Pools) → P j → rec j b d p ≡ rec′ j b d p
 
-pub each-first : {s : List ℕ} {P : ℕ → Type 0} {n j : ℕ} → Each s P (suc n) j → P j
+each-first : {s : List ℕ} {P : ℕ → Type 0} {n j : ℕ} → Each s P (suc n) j → P j
 unfolding skip
 each-first a = a .each 0 (omega arith)
 
-pub each-rest : {s : List ℕ} {P : ℕ → Type 0} {n j : ℕ} → Each s P (suc n) j → Each s P n (next s j)
+each-rest : {s : List ℕ} {P : ℕ → Type 0} {n j : ℕ} → Each s P (suc n) j → Each s P n (next s j)
 unfolding skip
 each-rest a = record { each = λ i h. a .each (suc i) (omega arith) }
 
-pub each-less : {s : List ℕ} {P : ℕ → Type 0} {m n j : ℕ} → m ≤ n → Each s P n j → Each s P m j
+each-less : {s : List ℕ} {P : ℕ → Type 0} {m n j : ℕ} → m ≤ n → Each s P n j → Each s P m j
 each-less h a = record { each = λ i k. a .each i (omega arith) }
 
 -- all but the first, if there is one
@@ -113,7 +114,7 @@ module _ (s : List ℕ) {P : ℕ → Type 0} {rec rec′ : Rec} (A : Agree P rec
   unfolding shortCircuit
   short-same stop j b d p a =
       let e : Fragments → ℕ = λ r. b + extent 1 (r .parts) in
-      ap (λ (r : Fragments). out (decided (jumpOn stop (e r + 2)) d (r .parts) ++ verdict stop (e r) d) (emits 3 (r .pools)))
+      ap (λ (r : Fragments). out (decided (jumpOn stop (e r + 2)) d (r .parts) ++ decision stop (e r) d) (emits 3 (r .pools)))
       (fragments-same 1 (count s j) (child j) b d p a)
 
   pub coalesce-same : (j b d : ℕ) (p : Pools) → 1 ≤ count s j → Each s P (count s j) (child j)

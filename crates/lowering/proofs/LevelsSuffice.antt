@@ -6,16 +6,18 @@ use mathlib.Core.List.{List, [], _∷_}
 use native.Mathlib.Omega.{arith}
 use lib.Dec.{leb, eqb}
 use borrow.Author.Tests.{eqb-true, leb-true}
+use Rattle.laws.proofs.Bool.{lazy-true}
 use Rattle.words.specs.Count.{allBelow}
-use Rattle.words.specs.CountLaws.{all-at}
+use Rattle.words.proofs.CountLaws.{all-at}
 use Rattle.sheet.specs.Limits.{maxDepth}
-use Rattle.sheet.specs.Layout.{nodeCount}
+use Rattle.sheet.specs.Sections.{nodeCount}
 use Rattle.sheet.specs.Node.{kind, count, position, child, next}
-use Rattle.sheet.specs.Walk.{siblings, skip}
+use Rattle.sheet.specs.Walk.{siblingsBy, siblings, skip}
 use Rattle.sheet.specs.Start.{startsInside, startWithin, startOf}
-use Rattle.shape.specs.Kinds.{lastKind, bound}
-use Rattle.depth.specs.Depth.{within, depthOk}
-use Rattle.checks.specs.Checked.{numberOf, checked}
+use Rattle.sheet.specs.Kinds.{lastKind}
+use Rattle.check_shape.specs.Kinds.{bound}
+use Rattle.check_depth.specs.Depth.{withinBy, within, depthBy}
+use Rattle.checks.specs.Checked.{verdictNumber, checked}
 use Rattle.lowering.specs.Limits.{maxLevels}
 use Rattle.lowering.specs.Kinds.{switchKind}
 use Rattle.lowering.specs.Pools.{Pools, noPools}
@@ -26,14 +28,16 @@ use Rattle.lowering.specs.Expression.{Rule, rule, byRule, expression}
 use Rattle.lowering.specs.Program.{plain}
 use Rattle.lowering.specs.SwitchSheet.{blockCount, subject, guardOf, bodyOf}
 use Rattle.lowering.specs.Switch.{switch}
-use Rattle.lowering.specs.Outcome.{lower}
+use Rattle.lowering.specs.Outcome.{lower, lowerWith}
 use Rattle.lowering.specs.All.{All}
-use Rattle.lowering.specs.Nodes.{Valid, Right, node-bounds, children, child-is, child-valid, root-valid, switch-count}
-use Rattle.lowering.specs.ChainNodes.{Link, goes-chain, operand-on, operand-last, links-none, links-on, links-last, chain-link}
-use Rattle.lowering.specs.Levels.{lowerWith, InTree, root, below, Levelless, Statement}
+use Rattle.lowering.specs.Nodes.{Valid, Right}
+use Rattle.lowering.proofs.NodesLaws.{node-bounds, children, child-is, child-valid, root-valid, switch-count}
+use Rattle.lowering.specs.ChainNodes.{Link}
+use Rattle.lowering.proofs.ChainNodesLaws.{goes-chain, operand-on, operand-last, links-zero, links-on, links-stop, chain-link}
+use Rattle.lowering.specs.Levels.{InTree, root, below, Levelless, Statement}
 use Rattle.lowering.proofs.LinkedCall.{rule-takes}
 use Rattle.lowering.proofs.LinkedExpression.{least, rule-count}
-use Rattle.lowering.proofs.LowerFits.{lower-switch, lower-plain}
+use Rattle.lowering.proofs.LowerFits.{with-switch, with-plain, lower-switch, lower-plain}
 use Rattle.lowering.proofs.SwitchAccepted.{accepted-depth, accepted-right, accepted-blocks}
 use Rattle.lowering.proofs.LevelsSame.{Each, Agree, array-same, interpolated-same, short-same, coalesce-same, call-same}
 use Rattle.lowering.proofs.LevelsChain.{Taken, chain-same}
@@ -46,32 +50,28 @@ record Within (s : List ℕ) (l j : ℕ) : Type 0 where
   pub valid : Valid s j
   pub low : within l s j ≡ true
 
-both : (b c : Bool) → elim b [ true ↦ c | false ↦ false ] ≡ true → (b ≡ true) × (c ≡ true)
-both true c h = (refl, h)
-both false c h = absurd (true≢false (sym h))
-
 module _ (s : List ℕ) where
   siblings-at : (P : ℕ → Bool) (n j : ℕ) → siblings P s n j ≡ true → (i : ℕ) → i < n → P (skip s i j) ≡ true
-  unfolding siblings skip
+  unfolding siblingsBy skip
   siblings-at P zero j h i k = absurd (omega arith)
-  siblings-at P (suc n) j h zero k = both (P j) (siblings P s n (next s j)) h .0
+  siblings-at P (suc n) j h zero k = lazy-true (P j) (siblings P s n (next s j)) h .0
   siblings-at P (suc n) j h (suc i) k =
-      siblings-at P n (next s j) (both (P j) (siblings P s n (next s j)) h .1) i (omega arith)
+      siblings-at P n (next s j) (lazy-true (P j) (siblings P s n (next s j)) h .1) i (omega arith)
 
   siblings-all : (P Q : ℕ → Bool) → ((i : ℕ) → P i ≡ true → Q i ≡ true) → (n j : ℕ) → siblings P s n j ≡ true → siblings Q s n j ≡ true
-  unfolding siblings
+  unfolding siblingsBy
   siblings-all P Q f zero j h = refl
   siblings-all P Q f (suc n) j h =
-      let g = both (P j) (siblings P s n (next s j)) h in
-      rw (f j (g .0), siblings) (siblings-all P Q f n (next s j) (g .1))
+      let g = lazy-true (P j) (siblings P s n (next s j)) h in
+      rw (f j (g .0), siblingsBy) (siblings-all P Q f n (next s j) (g .1))
 
   within-more : (l j : ℕ) → within l s j ≡ true → within (suc l) s j ≡ true
-  unfolding within
+  unfolding withinBy
   within-more zero j h = absurd (true≢false (sym h))
   within-more (suc l) j h = siblings-all (within l s) (within (suc l) s) (within-more l) (count s j) (child j) h
 
   none-within : (j : ℕ) → Within s 0 j → ⊥
-  unfolding within
+  unfolding withinBy
   none-within j w = true≢false (sym (w .low))
 
   one-more : (l j : ℕ) → Within s l j → Within s (suc l) j
@@ -79,7 +79,7 @@ module _ (s : List ℕ) where
 
 module _ (s : List ℕ) (C : Right s) where
   children-within : (l j : ℕ) → Within s (suc l) j → Each s (Within s l) (count s j) (child j)
-  unfolding within
+  unfolding withinBy
   children-within l j w =
       record {
         each = λ i h. record {
@@ -120,7 +120,7 @@ module _ (s : List ℕ) (C : Right s) where
   taken l c w h = let o = operand-within l c w h in record { here = o; args = children-here l (operandOf s c) o }
 
   links-taken : (n l c : ℕ) → Within s (suc l) c → 2 ≤ count s c → All (Taken s (Within s l)) (links n s c)
-  links-taken zero l c w h = rw (links-none s c) tt
+  links-taken zero l c w h = rw (links-zero s c) tt
   links-taken (suc n) l c w h = by (goesOn s c) refl (links-taken n l (restOf s c))
     where
       r : Within s l (restOf s c)
@@ -130,7 +130,7 @@ module _ (s : List ℕ) (C : Right s) where
           → (Within s (suc l) (restOf s c) → 2 ≤ count s (restOf s c) → All (Taken s (Within s l)) (links n s (restOf s c)))
           → All (Taken s (Within s l)) (links (suc n) s c)
       by true e more = rw (links-on s n c e) (taken l c w h, more (one-more s l (restOf s c) r) (two-rest l c r e))
-      by false e more = rw (links-last s n c e) (taken l c w h, tt)
+      by false e more = rw (links-stop s n c e) (taken l c w h, tt)
 
   -- no link is cut off
   links-agree : (l m n j : ℕ) → l ≤ m → l ≤ n → Within s l j → isChain (kind s j) ≡ true → links m s j ≡ links n s j
@@ -144,7 +144,7 @@ module _ (s : List ℕ) (C : Right s) where
       by : (t : Bool) → goesOn s j ≡ t → (isChain (kind s (restOf s j)) ≡ true → links m s (restOf s j) ≡ links n s (restOf s j))
           → links (suc m) s j ≡ links (suc n) s j
       by true e more = links-on s m j e ∙ ap (λ (xs : List ℕ). j ∷ xs) (more (goes-chain s j e)) ∙ sym (links-on s n j e)
-      by false e more = links-last s m j e ∙ sym (links-last s n j e)
+      by false e more = links-stop s m j e ∙ sym (links-stop s n j e)
 
   -- ---- expressions
 
@@ -224,20 +224,12 @@ module _ (s : List ℕ) (C : Right s) where
 
 -- ---- a sheet that passes the check
 
-with-switch : (n : ℕ) (s : List ℕ) → eqb (kind s 0) switchKind ≡ true → lowerWith n s ≡ switch s (expression n s)
-unfolding lowerWith
-with-switch n s h = rw (h, lowerWith)
-
-with-plain : (n : ℕ) (s : List ℕ) → eqb (kind s 0) switchKind ≡ false → lowerWith n s ≡ plain (expression n s 0 0 0 noPools)
-unfolding lowerWith
-with-plain n s h = rw (h, lowerWith)
-
-module _ (s : List ℕ) (a : numberOf (checked s) ≡ 0) where
+module _ (s : List ℕ) (a : verdictNumber (checked s) ≡ 0) where
   C : Right s
   C = accepted-right s a
 
   root-within : Within s maxDepth 0
-  unfolding depthOk
+  unfolding depthBy
   root-within = record { valid = root-valid s C; low = accepted-depth s a }
 
   tree-within : (j : ℕ) → InTree s j → Within s maxDepth j

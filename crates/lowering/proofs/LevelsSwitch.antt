@@ -6,14 +6,15 @@ use mathlib.Core.List.{List, [], _∷_, _++_, map, List·Memᴰ, List·Memᴰ·h
 use native.Mathlib.Omega.{arith}
 use lib.Dec.{eqb}
 use lib.ListN.{length}
-use Rattle.cases.specs.Split as Split
-use Rattle.cases.specs.Split.{split}
+use Rattle.switch_split.specs.Split as Split
+use Rattle.switch_split.specs.Split.{split}
 use Rattle.lowering.specs.Pools.{Pools, noPools, emits}
 use Rattle.lowering.specs.Out.{Out, Rec}
 use Rattle.lowering.specs.SwitchSheet.{blockCount, defaultBlock, subject, guardOf, bodyOf, casesOf, caseBlocks, rangesOf}
-use Rattle.lowering.specs.Arms.{Guard, never, always, tried, guardKind, Tries, tryAt, taken, triesOf, entryFrom, entryExtent, endEmits, Arm, Arms, armChains, armsExtent, distinct}
+use Rattle.lowering.specs.Arms.{Guard, never, always, tried, guardKind, Tries, tryAt, taken, triesOf, entryFrom, entryExtent}
+use Rattle.lowering.specs.Arms.{endEmits, Arm, Arms, armChains, armsExtent, distinct}
 use Rattle.lowering.specs.Bodies.{Bodies, wanted, layBodies}
-use Rattle.lowering.specs.SwitchLayout.{Layout, layCases, caseArmsOf, layRanges, rangesExtent, layout}
+use Rattle.lowering.specs.SwitchLaid.{SwitchLaid, layCases, caseArmsOf, layRanges, rangesExtent, layout}
 use Rattle.lowering.specs.Switch.{switchOf, switch}
 use Rattle.lowering.proofs.SwitchEntries.{distinct-only}
 use Rattle.lowering.proofs.SwitchBlocks.{Blocks, split-blocks}

@@ -4,16 +4,17 @@ mod Linked
 pub mod Meets
 mod SoundArray
 pub mod Whole
+pub mod FirstLaws
 pub mod ChainPool
 mod Lowers
 pub mod SoundCall
 mod SoundChain
-mod SoundCoalesce
+pub mod SoundCoalesce
 pub mod SoundExpression
 mod SoundInterpolated
 mod SoundLeaf
 mod SoundOperands
-mod SoundShortCircuit
+pub mod SoundShortCircuit
 mod WholeLaws
 pub mod LinkedArray
 mod LinkedCall
@@ -50,6 +51,7 @@ pub mod SwitchPlaces
 mod SwitchReached
 mod SwitchSound
 pub mod SwitchTargets
+pub mod DropLaws
 pub mod SwitchTyped
 mod BodyTells
 pub mod CaseConsts
@@ -68,3 +70,6 @@ mod LevelsChain
 mod LevelsSwitch
 pub mod LevelsSuffice
 pub mod GuidedRun
+pub mod ChainNodesLaws
+pub mod NodesLaws
+mod RowsRight

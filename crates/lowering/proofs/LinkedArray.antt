@@ -14,11 +14,14 @@ use Rattle.lowering.specs.Out.{Rec, andThen, residualExpr}
 use Rattle.lowering.specs.Array.{elements, array}
 use Rattle.lowering.proofs.Effect.{Context}
 use Rattle.lowering.proofs.Linked.{Linked, link, link-none}
-use Rattle.lowering.specs.Nodes.{Row, row-first, row-rest}
+use Rattle.lowering.specs.Nodes.{Row}
+use Rattle.lowering.proofs.NodesLaws.{row-first, row-rest}
 use Rattle.lowering.proofs.LinksAll.{LinksAll, link-cons, link-residual, link-then}
 
 module _ (s : List ℕ) (rec : Rec) where
-  pub array-lowers : (j b d : ℕ) (p : Pools) → leb (count s j) maxElements ≡ true → array s rec j b d p ≡ andThen (elements s rec (count s j) 0 (child j) b d p) (ins (MakeArray (count s j)) (d + count s j) (position s j) ∷ [])
+  pub array-lowers : (j b d : ℕ) (p : Pools) → leb (count s j) maxElements ≡ true
+      → array s rec j b d p
+      ≡ andThen (elements s rec (count s j) 0 (child j) b d p) (ins (MakeArray (count s j)) (d + count s j) (position s j) ∷ [])
   unfolding array
   array-lowers j b d p h = rw (h, array)
 

@@ -16,10 +16,13 @@ use Rattle.lowering.specs.Code.{ins, noPos}
 use Rattle.lowering.specs.Pools.{Pools, emits, defeat, name, nameAt, pushName, tokenAt, pushToken}
 use Rattle.lowering.specs.Out.{Out, out, Rec, andThen}
 use Rattle.lowering.specs.Operands.{operands}
-use Rattle.lowering.specs.Call.{callee, CallRule, fnPtr, fnPtrCall, lowerable, eval, residual, isFnPtr, isFnPtrCall, isLowerableCall, callRule, makeFnPtr, callFnPtr, First, receiver, otherArgs, callRef, callLocal, callThis, rotate, callNamed, storesToken, callAs, callToken, callValues, lowerCallBy, fnCallBy, fnCall}
+use Rattle.lowering.specs.Call.{callee, CallRule, fnPtr, fnPtrCall, lowerable, eval, residual, isFnPtr, isFnPtrCall, isLowerableCall}
+use Rattle.lowering.specs.Call.{callRule, makeFnPtr, callFnPtr, First, receiver, otherArgs, callRef, callLocal, callThis, rotate}
+use Rattle.lowering.specs.Call.{callNamed, storesToken, callAs, callToken, callValues, lowerCallBy, fnCallBy, fnCall}
 use Rattle.lowering.proofs.Effect.{Context}
 use Rattle.lowering.proofs.Linked.{Linked, link, link-one, link-none}
-use Rattle.lowering.specs.Nodes.{Row, row-first, row-less, row-others}
+use Rattle.lowering.specs.Nodes.{Row}
+use Rattle.lowering.proofs.NodesLaws.{row-first, row-less, row-others}
 use Rattle.lowering.proofs.LinksAll.{LinksAll, link-cons, link-residual, link-then}
 use Rattle.lowering.proofs.LinkedOperands.{operands-link}
 
@@ -40,7 +43,9 @@ module _ (s : List ℕ) (j : ℕ) where
   unfolding callRule
   rule-takes = by (isFnPtr s j) refl
     where
-      others : (t u v : Bool) → Takes (elim t [ true ↦ fnPtrCall | false ↦ elim u [ true ↦ lowerable | false ↦ elim v [ true ↦ eval | false ↦ residual ] ] ]) (count s j)
+      others : (t u v : Bool) → Takes
+          (elim t [ true ↦ fnPtrCall | false ↦ elim u [ true ↦ lowerable | false ↦ elim v [ true ↦ eval | false ↦ residual ] ] ])
+          (count s j)
       others true u v = tt
       others false true v = tt
       others false false true = tt
@@ -127,7 +132,8 @@ module _ (s : List ℕ) (rec : Rec) (L : LinksAll s rec) (X : Context) (j : ℕ)
   unfolding callValues
   values-links b d p = by (storesToken s j)
     where
-      by : (t : Bool) → (let o = operands s rec (count s j) (child j) b d p in Linked X b (elim t as (λ u. Out) [ true ↦ callToken s j d o | false ↦ callAs s j 0 (fieldB s j) d o ] .code))
+      by : (t : Bool) → (let o = operands s rec (count s j) (child j) b d p in
+          Linked X b (elim t as (λ u. Out) [ true ↦ callToken s j d o | false ↦ callAs s j 0 (fieldB s j) d o ] .code))
       by true = token-links s j d (operands s rec (count s j) (child j) b d p) (all-link b d p)
       by false = as-links s j 0 (fieldB s j) d (operands s rec (count s j) (child j) b d p) (all-link b d p)
 

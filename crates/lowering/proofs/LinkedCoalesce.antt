@@ -3,7 +3,8 @@ use Prim.Native.Nat.{ℕ, suc, _+_, _-_, _≤_}
 use mathlib.Core.Path.{_≡_, refl, sym, ap, subst}
 use mathlib.Core.List.{List, [], _∷_}
 use native.Mathlib.Omega.{arith}
-use lib.ListN.{length, length-append}
+use lib.ListN.{length}
+use Rattle.lowering.proofs.SoundCoalesce.{skipped-length}
 use Rattle.sheet.specs.Node.{count, child}
 use Rattle.sheet.specs.Walk.{skip}
 use Rattle.bytecode.specs.declared.Op.the-variants.{SkipIfNotUnit, Pop}
@@ -14,7 +15,8 @@ use Rattle.lowering.specs.ShortCircuit.{Fragment, fragments, extent}
 use Rattle.lowering.specs.Coalesce.{skipped, coalesce}
 use Rattle.lowering.proofs.Effect.{Context}
 use Rattle.lowering.proofs.Linked.{Linked, link, link-none}
-use Rattle.lowering.specs.Nodes.{Row, row-less}
+use Rattle.lowering.specs.Nodes.{Row}
+use Rattle.lowering.proofs.NodesLaws.{row-less}
 use Rattle.lowering.proofs.LinksAll.{LinksAll, link-cons, link-branch}
 use Rattle.lowering.proofs.LinkedShortCircuit.{Parts, fragments-link}
 
@@ -28,15 +30,9 @@ skipped-links X t d b (f ∷ fs) q =
     let pop = link-cons (ins Pop (suc d) (f .pos)) refl rest in
     link (q .0) (link (link-branch t (ins (SkipIfNotUnit t) (suc d) (f .pos)) refl) pop)
 
-skipped-length : (t d : ℕ) (fs : List Fragment) → length (skipped t d fs) ≡ extent 2 fs
-unfolding skipped extent
-skipped-length t d [] = refl
-skipped-length t d (f ∷ fs) =
-    let h = skipped-length t d fs in
-    rw (length-append (f .code) (ins (SkipIfNotUnit t) (suc d) (f .pos) ∷ ins Pop (suc d) (f .pos) ∷ skipped t d fs)) (omega arith)
-
 module _ (s : List ℕ) (rec : Rec) (L : LinksAll s rec) where
-  pub coalesce-links : (X : Context) (j b d : ℕ) (p : Pools) → 1 ≤ count s j → Row s (count s j) (child j) → Linked X b (coalesce s rec j b d p .code)
+  pub coalesce-links : (X : Context) (j b d : ℕ) (p : Pools) → 1 ≤ count s j → Row s (count s j) (child j)
+      → Linked X b (coalesce s rec j b d p .code)
   unfolding coalesce
   coalesce-links X j b d p h r =
       let n = count s j - 1 in

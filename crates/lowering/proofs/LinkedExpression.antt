@@ -8,20 +8,23 @@ use lib.Dec.{leb}
 use lib.ListN.{getD}
 use borrow.Author.Tests.{leb-true}
 use Rattle.words.specs.Count.{allBelow}
-use Rattle.words.specs.CountLaws.{all-at}
+use Rattle.words.proofs.CountLaws.{all-at}
 use Rattle.sheet.specs.Node.{kind, count}
-use Rattle.sizes.specs.Sizes.{sizesOk}
-use Rattle.shape.specs.Kinds.{lastKind, bound}
-use Rattle.shape.specs.Shape.{shapeOk}
+use Rattle.check_sizes.specs.Sizes.{sizesOk}
+use Rattle.sheet.specs.Kinds.{lastKind}
+use Rattle.check_shape.specs.Kinds.{bound}
+use Rattle.check_shape.specs.Shape.{shapeOk}
 use Rattle.lowering.specs.Limits.{maxLevels}
 use Rattle.lowering.specs.Pools.{Pools, noPools}
 use Rattle.lowering.specs.Out.{Rec}
-use Rattle.lowering.specs.Expression.{Rule, boolean, unit, constant, interpolated, array, variable, this, fnCall, chain, and, or, coalesce, residual, rules, rule, byRule, expression}
+use Rattle.lowering.specs.Expression.{Rule, boolean, unit, constant, interpolated, array, variable, this, fnCall, chain, and, or}
+use Rattle.lowering.specs.Expression.{coalesce, residual, rules, rule, byRule, expression}
 use Rattle.lowering.specs.Program.{plain}
 use Rattle.lowering.proofs.Effect.{Context}
 use Rattle.lowering.proofs.Linked.{Linked}
 use Rattle.lowering.proofs.Whole.{contextOf, AllReached}
-use Rattle.lowering.specs.Nodes.{Valid, Right, right, node-bounds, children, root-valid}
+use Rattle.lowering.specs.Nodes.{Valid, Right}
+use Rattle.lowering.proofs.NodesLaws.{right, node-bounds, children, root-valid}
 use Rattle.lowering.proofs.LinksAll.{LinksAll, link-residual}
 use Rattle.lowering.proofs.LinkedLeaf.{boolean-links, unit-links, constant-links, variable-links, this-links}
 use Rattle.lowering.proofs.LinkedArray.{array-links}
@@ -59,7 +62,8 @@ module _ (s : List ℕ) (C : Right s) where
   rule-count j v = let h = node-bounds s C j v in omega (arith, least-bound (kind s j) (h .0))
 
   module _ (rec : Rec) (L : LinksAll s rec) where
-    by-rule-links : (r : Rule) (X : Context) (j b d : ℕ) (p : Pools) → Valid s j → least r ≤ count s j → Linked X b (byRule r s rec j b d p .code)
+    by-rule-links : (r : Rule) (X : Context) (j b d : ℕ) (p : Pools) → Valid s j → least r ≤ count s j
+        → Linked X b (byRule r s rec j b d p .code)
     unfolding byRule
     by-rule-links boolean X j b d p v h = boolean-links s X j b d p
     by-rule-links unit X j b d p v h = unit-links s X j b d p

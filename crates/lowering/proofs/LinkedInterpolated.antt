@@ -11,7 +11,8 @@ use Rattle.lowering.specs.Out.{out, Rec}
 use Rattle.lowering.specs.Interpolated.{segments, interpolated}
 use Rattle.lowering.proofs.Effect.{Context}
 use Rattle.lowering.proofs.Linked.{Linked, link, link-none}
-use Rattle.lowering.specs.Nodes.{Row, row-first, row-rest}
+use Rattle.lowering.specs.Nodes.{Row}
+use Rattle.lowering.proofs.NodesLaws.{row-first, row-rest}
 use Rattle.lowering.proofs.LinksAll.{LinksAll, link-cons, link-then}
 
 module _ (s : List ℕ) (rec : Rec) (L : LinksAll s rec) where
@@ -23,7 +24,8 @@ module _ (s : List ℕ) (rec : Rec) (L : LinksAll s rec) where
       let rest = segments-link X n (next s j) (b + length (o .code) + 1) d (emits 1 (o .pools)) (row-rest r) in
       link (L .links X j b d p (row-first r)) (link-cons (ins InterpolateAppend (suc d) (position s j)) refl rest)
 
-  pub interpolated-links : (X : Context) (j b d : ℕ) (p : Pools) → Row s (count s j) (child j) → Linked X b (interpolated s rec j b d p .code)
+  pub interpolated-links : (X : Context) (j b d : ℕ) (p : Pools) → Row s (count s j) (child j)
+      → Linked X b (interpolated s rec j b d p .code)
   unfolding interpolated
   interpolated-links X j b d p r =
       let o = segments s rec (count s j) (child j) (b + 1) (suc d) (emits 1 p) in

@@ -15,7 +15,8 @@ use Rattle.lowering.proofs.Effect.{Context}
 use Rattle.lowering.proofs.Linked.{Linked}
 use Rattle.lowering.proofs.LinksAll.{link-emit}
 
-pub variable-local : (s : List ℕ) (j d : ℕ) (p : Pools) (slot : ℕ) → resolve s (text s (fieldA s j)) ≡ some slot → variable s j d p ≡ emitAt (LoadLocal slot) noPos d p
+pub variable-local : (s : List ℕ) (j d : ℕ) (p : Pools) (slot : ℕ) → resolve s (text s (fieldA s j)) ≡ some slot
+    → variable s j d p ≡ emitAt (LoadLocal slot) noPos d p
 unfolding variable
 variable-local s j d p slot h = rw (h, variable)
 

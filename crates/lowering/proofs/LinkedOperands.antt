@@ -8,7 +8,8 @@ use Rattle.lowering.specs.Out.{Rec}
 use Rattle.lowering.specs.Operands.{operands}
 use Rattle.lowering.proofs.Effect.{Context}
 use Rattle.lowering.proofs.Linked.{Linked, link, link-none}
-use Rattle.lowering.specs.Nodes.{Row, row-first, row-rest}
+use Rattle.lowering.specs.Nodes.{Row}
+use Rattle.lowering.proofs.NodesLaws.{row-first, row-rest}
 use Rattle.lowering.proofs.LinksAll.{LinksAll}
 
 module _ (s : List ℕ) (rec : Rec) (L : LinksAll s rec) where

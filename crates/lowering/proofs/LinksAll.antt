@@ -39,6 +39,7 @@ module _ {X : Context} where
   link-residual j d p = link-one (ins (EvalAst (length (p .residuals))) d noPos) refl
 
   -- an answer and one more instruction
-  pub link-then : {b : ℕ} (o : Out) (i : Ins) → Linked X b (o .code) → nexts X (i .op) (b + length (o .code)) ≡ suc (b + length (o .code)) ∷ [] → Linked X b (andThen o (i ∷ []) .code)
+  pub link-then : {b : ℕ} (o : Out) (i : Ins) → Linked X b (o .code)
+      → nexts X (i .op) (b + length (o .code)) ≡ suc (b + length (o .code)) ∷ [] → Linked X b (andThen o (i ∷ []) .code)
   unfolding andThen
   link-then o i g h = link g (link-one i h)

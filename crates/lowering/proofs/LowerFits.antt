@@ -7,7 +7,7 @@ use native.Mathlib.Omega.{arith}
 use lib.Dec.{eqb, ltb}
 use lib.ListN.{length}
 use Rattle.sheet.specs.Node.{kind}
-use Rattle.cases.specs.Split as Split
+use Rattle.switch_split.specs.Split as Split
 use Rattle.bytecode.specs.declared.SwitchCase.{SwitchCase}
 use Rattle.bytecode.specs.declared.SwitchRange.{SwitchRange}
 use Rattle.checks.specs.Checked.{checked}
@@ -21,12 +21,12 @@ use Rattle.lowering.specs.Out.{Out}
 use Rattle.lowering.specs.Expression.{expression}
 use Rattle.lowering.specs.Program.{Program, plain}
 use Rattle.lowering.specs.SwitchSheet.{casesOf, defaultBlock}
-use Rattle.lowering.specs.SwitchLayout.{Layout, layout}
+use Rattle.lowering.specs.SwitchLaid.{SwitchLaid, layout}
 use Rattle.lowering.specs.SwitchCode.{defaultAt, fallbackAt, switchCode, lastEmits}
 use Rattle.lowering.specs.SwitchTables.{casePools, caseRows, rangeRows, caseTable, rangeTable}
 use Rattle.lowering.specs.Switch.{switchOf, switch}
 use Rattle.lowering.specs.Image.{words}
-use Rattle.lowering.specs.Outcome.{Outcome, refused, image, lower, scratchNeeded, lowered, outcomeAfter, outcome}
+use Rattle.lowering.specs.Outcome.{Outcome, refused, image, lower, scratchNeeded, lowered, outcomeAfter, outcome, lowerWith}
 use Rattle.lowering.proofs.RowCounts.{case-rows-length, range-rows-length}
 use Rattle.lowering.proofs.Tables.{Fits, TablesFit}
 
@@ -40,7 +40,8 @@ tabled code p cases ranges fallback default cs es =
     record { code = code; pools = p; switches = caseTable fallback cs ∷ rangeTable default es; cases = cases; ranges = ranges }
 
 module _ (code : Code) (p : Pools) (cases : List SwitchCase) (ranges : List SwitchRange) (fallback default : ℕ) (cs : List ℕ) where
-  table-fits : (es : List Split.Entry) → length cases ≡ length cs → length ranges ≡ length es → (i : ℕ) → i < suc (length (rangeTable default es)) → Fits (tabled code p cases ranges fallback default cs es) i
+  table-fits : (es : List Split.Entry) → length cases ≡ length cs → length ranges ≡ length es → (i : ℕ)
+      → i < suc (length (rangeTable default es)) → Fits (tabled code p cases ranges fallback default cs es) i
   unfolding caseTable rangeTable
   table-fits [] f g zero h = omega arith
   table-fits [] f g (suc i) h = absurd (omega arith)
@@ -48,7 +49,7 @@ module _ (code : Code) (p : Pools) (cases : List SwitchCase) (ranges : List Swit
   table-fits (e ∷ es) f g (suc zero) h = omega arith
   table-fits (e ∷ es) f g (suc (suc i)) h = absurd (omega arith)
 
-pub switch-fits : (s : List ℕ) (def : ℕ) (l : Layout) → TablesFit (switchOf s def l)
+pub switch-fits : (s : List ℕ) (def : ℕ) (l : SwitchLaid) → TablesFit (switchOf s def l)
 unfolding switchOf
 switch-fits s def l =
     let p = emits (lastEmits def) (l .pools) in
@@ -57,18 +58,27 @@ switch-fits s def l =
     let cs = casesOf s in
     record {
       fits =
-          table-fits (switchCode def l) (casePools s cs p) (caseRows s l fallback cs p) (rangeRows l default (l .splits)) fallback default cs (l .splits)
+          table-fits (switchCode def l) (casePools s cs p) (caseRows s l fallback cs p) (rangeRows l default (l .splits)) fallback default
+          cs (l .splits)
           (case-rows-length s l fallback cs p)
           (range-rows-length l default (l .splits));
     }
 
+-- the program of a switch, and of an expression, by any count of levels
+pub with-switch : (n : ℕ) (s : List ℕ) → eqb (kind s 0) switchKind ≡ true → lowerWith n s ≡ switch s (expression n s)
+with-switch n s h = rw (h, lowerWith)
+
+pub with-plain : (n : ℕ) (s : List ℕ) → eqb (kind s 0) switchKind ≡ false → lowerWith n s ≡ plain (expression n s 0 0 0 noPools)
+with-plain n s h = rw (h, lowerWith)
+
+-- and by those of the definition
 pub lower-switch : (s : List ℕ) → eqb (kind s 0) switchKind ≡ true → lower s ≡ switch s (expression maxLevels s)
 unfolding lower
-lower-switch s h = rw (h, lower)
+lower-switch s h = with-switch maxLevels s h
 
 pub lower-plain : (s : List ℕ) → eqb (kind s 0) switchKind ≡ false → lower s ≡ plain (expression maxLevels s 0 0 0 noPools)
 unfolding lower
-lower-plain s h = rw (h, lower)
+lower-plain s h = with-plain maxLevels s h
 
 pub lower-fits : (s : List ℕ) → TablesFit (lower s)
 unfolding switch
@@ -100,6 +110,7 @@ unfolding outcomeAfter
 after-carries s imageLength scratchLength Accepted = lowered-carries s imageLength scratchLength (lower s)
 after-carries s imageLength scratchLength (Refused r) = tt
 
-pub image-is : (s : List ℕ) (imageLength scratchLength : ℕ) (w : List ℕ) → outcome s imageLength scratchLength ≡ image w → words (lower s) ≡ w
+pub image-is : (s : List ℕ) (imageLength scratchLength : ℕ) (w : List ℕ) → outcome s imageLength scratchLength ≡ image w
+    → words (lower s) ≡ w
 unfolding outcome
 image-is s imageLength scratchLength w e = subst (Carries (lower s)) e (after-carries s imageLength scratchLength (checked s))

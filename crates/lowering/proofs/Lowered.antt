@@ -13,7 +13,9 @@ use Rattle.lowering.specs.Code.{Code}
 use Rattle.lowering.specs.Pools.{Pools, emits}
 use Rattle.lowering.specs.Out.{Rec}
 use Rattle.lowering.specs.SwitchSheet.{guardOf, bodyOf}
-use Rattle.lowering.specs.Arms.{Try, End, taken, declined, idle, Entry, toBody, toChain, toFallback, Guard, never, always, tried, guardKind, tryAt, triesOf, entryFrom, triesExtent, entryExtent, Arm, armsExtent, armChains, dropEnd, dropEntry, dropIdleJump}
+use Rattle.lowering.specs.Arms.{Try, End, taken, declined, idle, Entry, toBody, toChain, toFallback, Guard, never, always, tried}
+use Rattle.lowering.specs.Arms.{guardKind, tryAt, triesOf, entryFrom, triesExtent, entryExtent, Arm, armsExtent, armChains, dropEnd}
+use Rattle.lowering.specs.Arms.{dropEntry, dropIdleJump}
 use Rattle.lowering.specs.Bodies.{Body, wanted, layBodies}
 use Rattle.lowering.proofs.Meets.{Grows, grows-refl, grows-trans, Meets}
 
@@ -34,7 +36,8 @@ module _ (s : List ℕ) (rec : Rec) (k : ℕ) (ks : List ℕ) (b : ℕ) (p : Poo
   tries-always h = rw (h, triesOf)
 
   pub tries-tried : guardKind s (guardOf s k) ≡ tried
-      → triesOf s rec (k ∷ ks) b p ≡ tryAt s k b (rec (guardOf s k) b 1 p) (triesOf s rec ks (b + length (rec (guardOf s k) b 1 p .code) + 1) (emits 1 (rec (guardOf s k) b 1 p .pools)))
+      → triesOf s rec (k ∷ ks) b p ≡ tryAt s k b (rec (guardOf s k) b 1 p)
+      (triesOf s rec ks (b + length (rec (guardOf s k) b 1 p .code) + 1) (emits 1 (rec (guardOf s k) b 1 p .pools)))
   unfolding triesOf
   tries-tried h = rw (h, triesOf)
 
@@ -43,8 +46,13 @@ module _ (s : List ℕ) (rec : Rec) (arms : List Arm) (def n k b : ℕ) (p : Poo
   pub bodies-lay : (eqb def (suc k) || wanted k arms) ≡ true
       → layBodies s rec arms def (suc n) k b p
       ≡ record {
-        bodies = record { block = k; place = b; code = rec (bodyOf s k) b 1 p .code } ∷ layBodies s rec arms def n (suc k) (b + length (rec (bodyOf s k) b 1 p .code) + 1) (emits 1 (rec (bodyOf s k) b 1 p .pools)) .bodies;
-        pools = layBodies s rec arms def n (suc k) (b + length (rec (bodyOf s k) b 1 p .code) + 1) (emits 1 (rec (bodyOf s k) b 1 p .pools)) .pools;
+        bodies =
+            record { block = k; place = b; code = rec (bodyOf s k) b 1 p .code }
+            ∷ layBodies s rec arms def n (suc k) (b + length (rec (bodyOf s k) b 1 p .code) + 1)
+            (emits 1 (rec (bodyOf s k) b 1 p .pools)) .bodies;
+        pools =
+            layBodies s rec arms def n (suc k) (b + length (rec (bodyOf s k) b 1 p .code) + 1)
+            (emits 1 (rec (bodyOf s k) b 1 p .pools)) .pools;
       }
   unfolding layBodies
   bodies-lay h = rw (h, layBodies)
@@ -56,7 +64,8 @@ module _ (s : List ℕ) (rec : Rec) (arms : List Arm) (def n k b : ℕ) (p : Poo
 
 -- the two answers for the last jump
 module _ (a : Arm) (arms : List Arm) where
-  pub drop-here : eqb (armsExtent arms) 0 ≡ true → dropIdleJump (a ∷ arms) ≡ record { blocks = a .blocks; entry = dropEntry (a .entry) } ∷ arms
+  pub drop-here : eqb (armsExtent arms) 0 ≡ true
+      → dropIdleJump (a ∷ arms) ≡ record { blocks = a .blocks; entry = dropEntry (a .entry) } ∷ arms
   unfolding dropIdleJump
   drop-here h = rw (h, dropIdleJump)
 
@@ -67,7 +76,7 @@ module _ (a : Arm) (arms : List Arm) where
 -- ---- chains are only added
 
 module _ (s : List ℕ) (rec : Rec) (M : Meets rec) where
-  pub tries-grow : (ks : List ℕ) (b : ℕ) (p : Pools) → Grows (p .chains) (triesOf s rec ks b p .pools .chains)
+  tries-grow : (ks : List ℕ) (b : ℕ) (p : Pools) → Grows (p .chains) (triesOf s rec ks b p .pools .chains)
   unfolding triesOf emits tryAt
   tries-grow [] b p = grows-refl (p .chains)
   tries-grow (k ∷ ks) b p = by (guardKind s (guardOf s k)) refl (tries-grow ks)
@@ -105,7 +114,7 @@ pub data Chosen (s : List ℕ) : List ℕ → List Try → End → Type 0 where
   asked : {t : Try} {ks : List ℕ} {ts : List Try} {e : End} → guardKind s (guardOf s (t .block)) ≡ tried → Chosen s ks ts e
       → Chosen s (t .block ∷ ks) (t ∷ ts) e
 
-pub tries-chosen : (s : List ℕ) (rec : Rec) (ks : List ℕ) (b : ℕ) (p : Pools)
+tries-chosen : (s : List ℕ) (rec : Rec) (ks : List ℕ) (b : ℕ) (p : Pools)
     → Chosen s ks (triesOf s rec ks b p .tries) (triesOf s rec ks b p .end)
 unfolding triesOf tryAt
 tries-chosen s rec [] b p = none-left
@@ -119,7 +128,7 @@ tries-chosen s rec (k ∷ ks) b p = by (guardKind s (guardOf s k)) refl (tries-c
     by tried h f = rw (tries-tried s rec k ks b p h) (asked h (f _ _))
 
 -- a chain whose jump at the end is dropped is chosen alike
-pub drop-chosen : {s ks : List ℕ} {ts : List Try} {e : End} → Chosen s ks ts e → Chosen s ks ts (dropEnd e)
+drop-chosen : {s ks : List ℕ} {ts : List Try} {e : End} → Chosen s ks ts e → Chosen s ks ts (dropEnd e)
 unfolding dropEnd
 drop-chosen none-left = falls-on
 drop-chosen falls-on = falls-on
@@ -168,7 +177,7 @@ module _ (s : List ℕ) (rec : Rec) (hs : List Chain) where
   BodiesAt b (x ∷ xs) = BodyAt b x × BodiesAt (b + length (x .code) + 1) xs
 
   module _ (M : Meets rec) where
-    pub tries-at : (ks : List ℕ) (b : ℕ) (p : Pools) → Grows (triesOf s rec ks b p .pools .chains) hs
+    tries-at : (ks : List ℕ) (b : ℕ) (p : Pools) → Grows (triesOf s rec ks b p .pools .chains) hs
         → TriesAt b (triesOf s rec ks b p .tries)
     unfolding triesOf tryAt emits
     tries-at [] b p g = tt
@@ -181,7 +190,8 @@ module _ (s : List ℕ) (rec : Rec) (hs : List Chain) where
         by always h f = rw (tries-always s rec k ks b p h) (λ g′. tt)
         by tried h f = rw (tries-tried s rec k ks b p h)
             (λ g′.
-            let first : Lowered rec hs (guardOf s k) b 1 (rec (guardOf s k) b 1 p .code) = record { pools = p; code-is = refl; grown = grows-trans (tries-grow s rec M ks _ _) g′ } in
+            let first : Lowered rec hs (guardOf s k) b 1 (rec (guardOf s k) b 1 p .code) =
+            record { pools = p; code-is = refl; grown = grows-trans (tries-grow s rec M ks _ _) g′ } in
             (record { place-is = refl; lowered = first }, f _ _ g′))
 
     entry-at : (ks : List ℕ) (b : ℕ) (ts : List Try) (e : End) → TriesAt b ts → Chosen s ks ts e → EntryAt b ks (entryFrom b ts e)
@@ -196,8 +206,10 @@ module _ (s : List ℕ) (rec : Rec) (hs : List Chain) where
     unfolding armChains emits
     arms-at [] b p g = tt
     arms-at (l ∷ ls) b p g =
-        let t = triesOf s rec l b p in
-        (entry-at l b (t .tries) (t .end) (tries-at l b p (grows-trans (arms-grow s rec M ls _ _) g)) (tries-chosen s rec l b p), arms-at ls _ _ g)
+        let t = triesOf s rec l b p in (
+          entry-at l b (t .tries) (t .end) (tries-at l b p (grows-trans (arms-grow s rec M ls _ _) g)) (tries-chosen s rec l b p),
+          arms-at ls _ _ g,
+        )
 
     pub bodies-at : (arms : List Arm) (def n k b : ℕ) (p : Pools) → Grows (layBodies s rec arms def n k b p .pools .chains) hs
         → BodiesAt b (layBodies s rec arms def n k b p .bodies)
@@ -206,11 +218,13 @@ module _ (s : List ℕ) (rec : Rec) (hs : List Chain) where
     bodies-at arms def (suc n) k b p g = by (eqb def (suc k) || wanted k arms) refl (bodies-at arms def n (suc k)) g
       where
         by : (t : Bool) → (eqb def (suc k) || wanted k arms) ≡ t
-            → ((b′ : ℕ) (p′ : Pools) → Grows (layBodies s rec arms def n (suc k) b′ p′ .pools .chains) hs → BodiesAt b′ (layBodies s rec arms def n (suc k) b′ p′ .bodies))
+            → ((b′ : ℕ) (p′ : Pools) → Grows (layBodies s rec arms def n (suc k) b′ p′ .pools .chains) hs
+            → BodiesAt b′ (layBodies s rec arms def n (suc k) b′ p′ .bodies))
             → Grows (layBodies s rec arms def (suc n) k b p .pools .chains) hs → BodiesAt b (layBodies s rec arms def (suc n) k b p .bodies)
         by true h f = rw (bodies-lay s rec arms def n k b p h)
             (λ g′.
-            let first : Lowered rec hs (bodyOf s k) b 1 (rec (bodyOf s k) b 1 p .code) = record { pools = p; code-is = refl; grown = grows-trans (bodies-grow s rec M arms def n (suc k) _ _) g′ } in
+            let first : Lowered rec hs (bodyOf s k) b 1 (rec (bodyOf s k) b 1 p .code) =
+            record { pools = p; code-is = refl; grown = grows-trans (bodies-grow s rec M arms def n (suc k) _ _) g′ } in
             (record { place-is = refl; lowered = first }, f _ _ g′))
         by false h f = rw (bodies-skip s rec arms def n k b p h) (f b p)
 
@@ -224,13 +238,16 @@ module _ (s : List ℕ) (rec : Rec) (hs : List Chain) where
   idle-at : (b b′ : ℕ) (arms : List Arm) → armsExtent arms ≡ 0 → ArmsAt b arms → ArmsAt b′ arms
   unfolding armsExtent
   idle-at b b′ [] z h = tt
-  idle-at b b′ (a ∷ arms) z h =
-      (idle-entry-at b b′ (a .blocks) (a .entry) (omega arith) (h .0), idle-at (b + entryExtent (a .entry)) (b′ + entryExtent (a .entry)) arms (omega arith) (h .1))
+  idle-at b b′ (a ∷ arms) z h = (
+    idle-entry-at b b′ (a .blocks) (a .entry) (omega arith) (h .0),
+    idle-at (b + entryExtent (a .entry)) (b′ + entryExtent (a .entry)) arms (omega arith) (h .1),
+  )
 
   drop-entry-at : (b : ℕ) (ks : List ℕ) (e : Entry) → EntryAt b ks e → EntryAt b ks (dropEntry e)
   unfolding dropEntry
   drop-entry-at b ks (toBody k) h = h
-  drop-entry-at b ks (toChain p ts e) h = record { place-is = h .place-is; some-try = h .some-try; tries = h .tries; chosen = drop-chosen (h .chosen) }
+  drop-entry-at b ks (toChain p ts e) h =
+      record { place-is = h .place-is; some-try = h .some-try; tries = h .tries; chosen = drop-chosen (h .chosen) }
   drop-entry-at b ks toFallback h = h
 
   -- dropping the last jump moves no chain
@@ -241,5 +258,9 @@ module _ (s : List ℕ) (rec : Rec) (hs : List Chain) where
     where
       by : (t : Bool) → eqb (armsExtent arms) 0 ≡ t → ArmsAt (b + entryExtent (a .entry)) (dropIdleJump arms)
           → ArmsAt b (dropIdleJump (a ∷ arms))
-      by true q r = rw (drop-here a arms q) (drop-entry-at b (a .blocks) (a .entry) (h .0), idle-at (b + entryExtent (a .entry)) (b + entryExtent (dropEntry (a .entry))) arms (eqb-true (armsExtent arms) 0 q) (h .1))
+      by true q r =
+          rw (drop-here a arms q) (
+            drop-entry-at b (a .blocks) (a .entry) (h .0),
+            idle-at (b + entryExtent (a .entry)) (b + entryExtent (dropEntry (a .entry))) arms (eqb-true (armsExtent arms) 0 q) (h .1),
+          )
       by false q r = rw (drop-later a arms q) (h .0, r)

@@ -29,7 +29,8 @@ module _ {O : Outside} where
   pub lowers-none : {x : List Chain} {b d : ℕ} → Lowers O x b d d [] x
   lowers-none {x} = record { sound = λ X g. none; grows = grows-refl x }
 
-  pub lowers-seq : {x y z : List Chain} {b d e f : ℕ} {c c′ : Code} → Lowers O x b d e c y → Lowers O y (b + length c) e f c′ z → Lowers O x b d f (c ++ c′) z
+  pub lowers-seq : {x y z : List Chain} {b d e f : ℕ} {c c′ : Code} → Lowers O x b d e c y → Lowers O y (b + length c) e f c′ z
+      → Lowers O x b d f (c ++ c′) z
   lowers-seq g h = record {
     sound = λ X u. seq (g .sound X (grows-trans (h .grows) u)) (h .sound X u);
     grows = grows-trans (g .grows) (h .grows);
@@ -60,13 +61,16 @@ abbrev pub Both : Outside → Outside → Outside
 Both O O′ A N = O A N × O′ A N
 
 -- as `close`, beside what is assumed of other places
-pub close-in : {X : Context} (O : Outside) {b d e : ℕ} (t : ℕ) {c : Code} → b + length c ≡ t → Sound X (Both O (Exit t e)) b d e c → Sound X O b d e c
+pub close-in : {X : Context} (O : Outside) {b d e : ℕ} (t : ℕ) {c : Code} → b + length c ≡ t → Sound X (Both O (Exit t e)) b d e c
+    → Sound X O b d e c
 close-in O t h g = record {
   starts = g .starts;
   typed = λ A N o a end le. g .typed A N (o, (omega arith, ap A (sym h) ∙ end)) a end le;
 }
 
 -- one instruction behind a lowering
-pub done-then : {x : List Chain} {b d e f : ℕ} (o : Out) (i : Ins) → i .depth ≡ e → Straight (o .pools .chains) f i → Lowers Nothing x b d e (o .code) (o .pools .chains) → Lowers Nothing x b d f (andThen o (i ∷ []) .code) (andThen o (i ∷ []) .pools .chains)
+pub done-then : {x : List Chain} {b d e f : ℕ} (o : Out) (i : Ins) → i .depth ≡ e → Straight (o .pools .chains) f i
+    → Lowers Nothing x b d e (o .code) (o .pools .chains)
+    → Lowers Nothing x b d f (andThen o (i ∷ []) .code) (andThen o (i ∷ []) .pools .chains)
 unfolding andThen emits
 done-then o i h f g = lowers-seq g (lowers-one i h f)

@@ -80,13 +80,16 @@ module _ (s : List ℕ) (rec : Rec) (hs : List Chain) where
   tries-between b (t ∷ ts) h =
       let e = h .0 .place-is in
       let c = b + length (t .code) + 1 in
-      let rest = between-wider c (c + triesExtent ts) b (b + triesExtent (t ∷ ts)) (tryMarks ts) (omega arith) (omega arith) (tries-between c ts (h .1)) in
+      let rest = between-wider c (c + triesExtent ts) b (b + triesExtent (t ∷ ts)) (tryMarks ts) (omega arith) (omega arith)
+      (tries-between c ts (h .1)) in
       (omega arith, omega arith, (omega arith, omega arith, rest))
 
   pub entry-between : (b : ℕ) (ks : List ℕ) (e : Entry) → EntryAt s rec hs b ks e → Between b (b + entryExtent e) (entryMarks e)
   unfolding entryMarks entryExtent
   entry-between b ks (toBody k) h = tt
-  entry-between b ks (toChain p ts e) h = between-wider b (b + triesExtent ts) b (b + entryExtent (toChain p ts e)) (tryMarks ts) (omega arith) (omega arith) (tries-between b ts (h .tries))
+  entry-between b ks (toChain p ts e) h =
+      between-wider b (b + triesExtent ts) b (b + entryExtent (toChain p ts e)) (tryMarks ts) (omega arith) (omega arith)
+      (tries-between b ts (h .tries))
   entry-between b ks toFallback h = tt
 
   pub arms-between : (b : ℕ) (arms : List Arm) → ArmsAt s rec hs b arms → Between b (b + armsExtent arms) (armMarks arms)
@@ -95,13 +98,19 @@ module _ (s : List ℕ) (rec : Rec) (hs : List Chain) where
   arms-between b (a ∷ arms) h =
       let c = b + entryExtent (a .entry) in
       between-append b (b + armsExtent (a ∷ arms)) (entryMarks (a .entry)) (armMarks arms)
-      (between-wider b c b (b + armsExtent (a ∷ arms)) (entryMarks (a .entry)) (omega arith) (omega arith) (entry-between b (a .blocks) (a .entry) (h .0)))
-      (between-wider c (c + armsExtent arms) b (b + armsExtent (a ∷ arms)) (armMarks arms) (omega arith) (omega arith) (arms-between c arms (h .1)))
+      (between-wider b c b (b + armsExtent (a ∷ arms)) (entryMarks (a .entry)) (omega arith) (omega arith)
+      (entry-between b (a .blocks) (a .entry) (h .0)))
+      (between-wider c (c + armsExtent arms) b (b + armsExtent (a ∷ arms)) (armMarks arms) (omega arith) (omega arith)
+      (arms-between c arms (h .1)))
 
   pub bodies-between : (b : ℕ) (xs : List Body) → BodiesAt s rec hs b xs → Between b (b + bodiesExtent xs) (bodyMarks xs)
   unfolding bodyMarks bodiesExtent
   bodies-between b [] h = tt
   bodies-between b (x ∷ xs) h =
       let e = h .0 .place-is in
-      let c = b + length (x .code) + 1 in
-      (omega arith, omega arith, between-wider c (c + bodiesExtent xs) b (b + bodiesExtent (x ∷ xs)) (bodyMarks xs) (omega arith) (omega arith) (bodies-between c xs (h .1)))
+      let c = b + length (x .code) + 1 in (
+        omega arith,
+        omega arith,
+        between-wider c (c + bodiesExtent xs) b (b + bodiesExtent (x ∷ xs)) (bodyMarks xs) (omega arith)
+            (omega arith) (bodies-between c xs (h .1)),
+      )

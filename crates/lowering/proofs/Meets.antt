@@ -28,5 +28,6 @@ pub grows-at : (xs ys : List Chain) (i : ℕ) (d : Chain) → Grows xs ys → i 
 grows-at xs ys i d g h = ap (λ (l : List Chain). getD l i d) (g .whole) ∙ List·getD-append xs (g .more) d i h
 
 pub record Meets (rec : Rec) : Type 0 where
-  pub sound : (X : Context) (j b d : ℕ) (p : Pools) → Grows (rec j b d p .pools .chains) (X .chains) → Sound X Nothing b d (suc d) (rec j b d p .code)
+  pub sound : (X : Context) (j b d : ℕ) (p : Pools) → Grows (rec j b d p .pools .chains) (X .chains)
+      → Sound X Nothing b d (suc d) (rec j b d p .code)
   pub grows : (j b d : ℕ) (p : Pools) → Grows (p .chains) (rec j b d p .pools .chains)

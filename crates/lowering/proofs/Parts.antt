@@ -57,7 +57,8 @@ module _ {A : Type 0} (f : A → List ℕ) (n : ℕ) (width : (x : A) → length
       rw e (getD-append-add (f x) (section f xs) (n * k + i) 0 ∙ section-word xs d k i (omega arith) g)
 
   -- the one lemma that all sections cite
-  pub record-word : {w : List ℕ} {o : ℕ} (xs : List A) → Part w o (section f xs) → (d : A) (k i : ℕ) → k < length xs → i < n → getD w (o + n * k + i) 0 ≡ getD (f (getD xs k d)) i 0
+  pub record-word : {w : List ℕ} {o : ℕ} (xs : List A) → Part w o (section f xs) → (d : A) (k i : ℕ) → k < length xs → i < n
+      → getD w (o + n * k + i) 0 ≡ getD (f (getD xs k d)) i 0
   record-word {w} {o} xs t d k i h g =
       let e : o + n * k + i ≡ o + (n * k + i) = omega arith in
       let fits : n * k + i < length (section f xs) = omega (arith, section-length xs, mul-le-mul-left n h) in

@@ -9,6 +9,7 @@ use native.Mathlib.Nat.{add-zero, add-suc, suc-add, zero-add}
 use borrow.Author.Tests.{ltb-true, ltb-false, lt-ltb}
 use lib.Dec.{ltb}
 use lib.ListN.{length, getD}
+use Rattle.lowering.proofs.WholeLaws.{depth-end}
 use Rattle.lowering.specs.Code.{Code, greatest}
 use Rattle.lowering.specs.Program.{Program}
 use Rattle.lowering.specs.Image.{words}
@@ -24,21 +25,19 @@ use Rattle.lowering.proofs.Decode.{noIns, instructions-are, greatest-is
 use Rattle.lowering.proofs.EffectWords.{opAt, pops-are, pushes-are, needs-are, next-all}
 
 -- what typed code says of the instruction at a place
-pub typed-at : (X : Context) (A : ℕ → ℕ) (N b : ℕ) (c : Code) → Typed X A N b c → (p : ℕ) → p < length c → TypedAt X A N (b + p) (getD c p noIns)
+pub typed-at : (X : Context) (A : ℕ → ℕ) (N b : ℕ) (c : Code) → Typed X A N b c → (p : ℕ) → p < length c
+    → TypedAt X A N (b + p) (getD c p noIns)
 typed-at X A N b [] t p h = omega arith
 typed-at X A N b (i ∷ c) t zero h = subst (λ (n : ℕ). TypedAt X A N n i) (sym (add-zero b)) (t .0)
-typed-at X A N b (i ∷ c) t (suc p) h = subst (λ (n : ℕ). TypedAt X A N n (getD c p noIns)) (suc-add b p ∙ sym (add-suc b p)) (typed-at X A N (suc b) c (t .1) p (omega arith))
+typed-at X A N b (i ∷ c) t (suc p) h =
+    subst (λ (n : ℕ). TypedAt X A N n (getD c p noIns)) (suc-add b p ∙ sym (add-suc b p)) (typed-at X A N (suc b) c (t .1) p (omega arith))
 
-pub depth-inside : (c : Code) (p : ℕ) → p < length c → depthAt c p ≡ getD c p noIns .depth
+depth-inside : (c : Code) (p : ℕ) → p < length c → depthAt c p ≡ getD c p noIns .depth
 depth-inside [] p h = omega arith
 depth-inside (i ∷ c) zero h = refl
 depth-inside (i ∷ c) (suc p) h = depth-inside c p (omega arith)
 
-pub depth-end : (c : Code) → depthAt c (length c) ≡ 1
-depth-end [] = refl
-depth-end (i ∷ c) = depth-end c
-
-pub depth-bounded : (c : Code) (p : ℕ) → depthAt c p ≤ greatest c
+depth-bounded : (c : Code) (p : ℕ) → depthAt c p ≤ greatest c
 unfolding greatest
 depth-bounded [] p = omega arith
 depth-bounded (i ∷ c) zero = omega arith
@@ -70,10 +69,13 @@ module _ (r : Program) (F : TablesFit r) (T : WellTyped r) where
       (typed-at (contextOf r) (depthAt (r .code)) (length (r .code)) 0 (r .code) (T .typed) p h)
 
   -- where the run goes from a place inside the code
-  pub goes-there : (p : ℕ) → p < length (r .code) → (way : ℕ) → Goes (depthAt (r .code)) (length (r .code)) p (after (contextOf r) (opAt r p) (getD (r .code) p noIns .depth)) (next (words r) way p)
+  pub goes-there : (p : ℕ) → p < length (r .code) → (way : ℕ)
+      → Goes (depthAt (r .code)) (length (r .code)) p (after (contextOf r) (opAt r p) (getD (r .code) p noIns .depth))
+      (next (words r) way p)
   goes-there p h way =
       let t = typed-there p h in
-      next-all r F p h (t .1) (Goes (depthAt (r .code)) (length (r .code)) p (after (contextOf r) (opAt r p) (getD (r .code) p noIns .depth))) (t .2) way
+      next-all r F p h (t .1)
+      (Goes (depthAt (r .code)) (length (r .code)) p (after (contextOf r) (opAt r p) (getD (r .code) p noIns .depth))) (t .2) way
 
   kept-start : Kept r 0 start
   kept-start = record { inside = omega arith; depth = sym (depth-start (r .code) (T .starts)); forth = omega arith }
@@ -110,7 +112,8 @@ module _ (r : Program) (F : TablesFit r) (T : WellTyped r) where
   kept ways (suc n) = kept-on n (ways n) (run (words r) ways n) (kept ways n)
 
   -- the depth at a place is the same in all runs
-  pub runs-agree : (ways ways′ : ℕ → ℕ) (n m : ℕ) → run (words r) ways n .place ≡ run (words r) ways′ m .place → run (words r) ways n .depth ≡ run (words r) ways′ m .depth
+  pub runs-agree : (ways ways′ : ℕ → ℕ) (n m : ℕ) → run (words r) ways n .place ≡ run (words r) ways′ m .place
+      → run (words r) ways n .depth ≡ run (words r) ways′ m .depth
   runs-agree ways ways′ n m e = kept ways n .depth ∙ ap (depthAt (r .code)) e ∙ sym (kept ways′ m .depth)
 
   forward : (ways : ℕ → ℕ) (n : ℕ) → Running (words r) ways n → run (words r) ways n .place < run (words r) ways (suc n) .place
@@ -120,7 +123,8 @@ module _ (r : Program) (F : TablesFit r) (T : WellTyped r) where
       let g = goes-there (st .place) (subst (λ (m : ℕ). st .place < m) (instructions-are r) h) (ways n) in
       rw (goes-on (words r) (ways n) st h) (g .0)
 
-  finds : (ways : ℕ → ℕ) (n : ℕ) → Running (words r) ways n → Run.needs (words r) (run (words r) ways n .place) ≤ run (words r) ways n .depth
+  finds : (ways : ℕ → ℕ) (n : ℕ) → Running (words r) ways n
+      → Run.needs (words r) (run (words r) ways n .place) ≤ run (words r) ways n .depth
   finds ways n h =
       let st = run (words r) ways n in
       let h′ : st .place < length (r .code) = subst (λ (m : ℕ). st .place < m) (instructions-are r) h in

@@ -2,11 +2,12 @@
 use Prim.Native.Nat.{ℕ, zero, suc, _+_, _≤_}
 use mathlib.Core.Path.{_≡_, refl, sym, ap, _∙_, subst}
 use mathlib.Core.Bool.{Bool, true, false}
-use mathlib.Core.List.{List, [], _∷_, _++_}
+use mathlib.Core.List.{List, [], _++_}
 use native.Mathlib.Omega.{arith}
 use native.Mathlib.Nat.{add-zero, suc-add, add-suc}
 use lib.Dec.{leb}
 use lib.ListN.{length}
+use Rattle.lowering.proofs.LinkedArray.{array-lowers, array-stays}
 use Rattle.sheet.specs.Node.{count, position, child, next}
 use Rattle.bytecode.specs.declared.Op.the-variants.{CheckSize, MakeArray, EvalAst}
 use Rattle.lowering.specs.Limits.{maxElements}
@@ -27,38 +28,38 @@ module _ (s : List ℕ) (rec : Rec) (M : Meets rec) where
       grows-trans (M .grows j b d p)
       (elements-grow n (suc i) (next s j) (b + length (o .code) + 1) (suc d) (emits 1 (o .pools)))
 
-  elements-sound : (X : Context) (n i j b d : ℕ) (p : Pools) → Grows (elements s rec n i j b d p .pools .chains) (X .chains) → Sound X Nothing b d (d + n) (elements s rec n i j b d p .code)
+  elements-sound : (X : Context) (n i j b d : ℕ) (p : Pools) → Grows (elements s rec n i j b d p .pools .chains) (X .chains)
+      → Sound X Nothing b d (d + n) (elements s rec n i j b d p .code)
   unfolding elements emits
   elements-sound X zero i j b d p g = subst (λ (e : ℕ). Sound X Nothing b d e []) (sym (add-zero d)) none
   elements-sound X (suc n) i j b d p g =
       let o = rec j b d p in
       let p′ = emits 1 (o .pools) in
       let rest = elements-sound X n (suc i) (next s j) (b + length (o .code) + 1) (suc d) p′ g in
-      let check = one {X = X} {O = Nothing} {b = b + length (o .code)} {d = suc d} {e = suc d} (ins (CheckSize i) (suc d) (position s j)) refl (λ A N u a e le. omega arith) in
+      let check = one {X = X} {O = Nothing} {b = b + length (o .code)} {d = suc d} {e = suc d} (ins (CheckSize i) (suc d) (position s j))
+      refl (λ A N u a e le. omega arith) in
       let first = M .sound X j b d p (grows-trans (elements-grow n (suc i) (next s j) (b + length (o .code) + 1) (suc d) p′) g) in
-      subst (λ (e : ℕ). Sound X Nothing b d e (elements s rec (suc n) i j b d p .code)) (suc-add d n ∙ sym (add-suc d n)) (seq first (seq check rest))
-
-  -- the two answers of an array
-  array-lowers : (j b d : ℕ) (p : Pools) → leb (count s j) maxElements ≡ true → array s rec j b d p ≡ andThen (elements s rec (count s j) 0 (child j) b d p) (ins (MakeArray (count s j)) (d + count s j) (position s j) ∷ [])
-  unfolding array
-  array-lowers j b d p h = rw (h, array)
-
-  array-stays : (j b d : ℕ) (p : Pools) → leb (count s j) maxElements ≡ false → array s rec j b d p ≡ residualExpr j d p
-  unfolding array
-  array-stays j b d p h = rw (h, array)
+      subst (λ (e : ℕ). Sound X Nothing b d e (elements s rec (suc n) i j b d p .code)) (suc-add d n ∙ sym (add-suc d n))
+      (seq first (seq check rest))
 
   pub array-grows : (j b d : ℕ) (p : Pools) → Grows (p .chains) (array s rec j b d p .pools .chains)
   unfolding andThen residualExpr emitAt emits pushResidual
   array-grows j b d p = by (leb (count s j) maxElements) refl
     where
       by : (t : Bool) → leb (count s j) maxElements ≡ t → Grows (p .chains) (array s rec j b d p .pools .chains)
-      by true h = rw (array-lowers j b d p h) (elements-grow (count s j) 0 (child j) b d p)
-      by false h = rw (array-stays j b d p h) (grows-refl (p .chains))
+      by true h = rw (array-lowers s rec j b d p h) (elements-grow (count s j) 0 (child j) b d p)
+      by false h = rw (array-stays s rec j b d p h) (grows-refl (p .chains))
 
-  pub array-sound : (X : Context) (j b d : ℕ) (p : Pools) → Grows (array s rec j b d p .pools .chains) (X .chains) → Sound X Nothing b d (suc d) (array s rec j b d p .code)
+  pub array-sound : (X : Context) (j b d : ℕ) (p : Pools) → Grows (array s rec j b d p .pools .chains) (X .chains)
+      → Sound X Nothing b d (suc d) (array s rec j b d p .code)
   unfolding andThen residualExpr emitAt emits pushResidual
   array-sound X j b d p = by (leb (count s j) maxElements) refl
     where
-      by : (t : Bool) → leb (count s j) maxElements ≡ t → Grows (array s rec j b d p .pools .chains) (X .chains) → Sound X Nothing b d (suc d) (array s rec j b d p .code)
-      by true h = rw (array-lowers j b d p h) (λ g. seq (elements-sound X (count s j) 0 (child j) b d p g) (one (ins (MakeArray (count s j)) (d + count s j) (position s j)) refl (λ A N u a e le. omega arith)))
-      by false h = rw (array-stays j b d p h) (λ g. one (ins (EvalAst (length (p .residuals))) d noPos) refl (λ A N u a e le. omega arith))
+      by : (t : Bool) → leb (count s j) maxElements ≡ t → Grows (array s rec j b d p .pools .chains) (X .chains)
+          → Sound X Nothing b d (suc d) (array s rec j b d p .code)
+      by true h =
+          rw (array-lowers s rec j b d p h) (λ g.
+          seq (elements-sound X (count s j) 0 (child j) b d p g)
+          (one (ins (MakeArray (count s j)) (d + count s j) (position s j)) refl (λ A N u a e le. omega arith)))
+      by false h =
+          rw (array-stays s rec j b d p h) (λ g. one (ins (EvalAst (length (p .residuals))) d noPos) refl (λ A N u a e le. omega arith))

@@ -16,7 +16,10 @@ use Rattle.lowering.specs.Code.{ins, noPos}
 use Rattle.lowering.specs.Pools.{Pools, emits, defeat, name, nameAt, pushName, tokenAt, pushToken}
 use Rattle.lowering.specs.Out.{Out, out, Rec, andThen}
 use Rattle.lowering.specs.Operands.{operands}
-use Rattle.lowering.specs.Call.{callee, syntactic, isLowerableCall, CallRule, fnPtr, fnPtrCall, lowerable, eval, residual, isFnPtr, isFnPtrCall, callRule, makeFnPtr, callFnPtr, First, local, named, this, value, firstOf, receiver, otherArgs, callRef, callLocal, callThis, rotate, callNamed, storesToken, callAs, callToken, callValues, lowerCallBy, fnCallBy, fnCall}
+use Rattle.lowering.specs.Call.{callee, syntactic, isLowerableCall, CallRule, fnPtr, fnPtrCall, lowerable, eval, residual, isFnPtr}
+use Rattle.lowering.specs.Call.{isFnPtrCall, callRule, makeFnPtr, callFnPtr, First, local, named, this, value, firstOf, receiver}
+use Rattle.lowering.specs.Call.{otherArgs, callRef, callLocal, callThis, rotate, callNamed, storesToken, callAs, callToken}
+use Rattle.lowering.specs.Call.{callValues, lowerCallBy, fnCallBy, fnCall}
 use Rattle.bytecode.specs.declared.Chain.{Chain}
 use Rattle.lowering.proofs.Effect.{refPops}
 use Rattle.lowering.proofs.Typed.{Nothing}
@@ -57,7 +60,8 @@ module _ (s : List ℕ) (j : ℕ) where
   unfolding callRule
   rule-allows = by (isFnPtr s j) (isFnPtrCall s j) (isLowerableCall s j) (isEval (callee s j)) refl refl refl refl
     where
-      by : (a c l e : Bool) → isFnPtr s j ≡ a → isFnPtrCall s j ≡ c → isLowerableCall s j ≡ l → isEval (callee s j) ≡ e → Allows (callRule s j) (count s j)
+      by : (a c l e : Bool) → isFnPtr s j ≡ a → isFnPtrCall s j ≡ c → isLowerableCall s j ≡ l → isEval (callee s j) ≡ e
+          → Allows (callRule s j) (count s j)
       by true c l e g h k m = rw (g, callRule) tt
       by false true l e g h k m = rw (g, h, callRule) (fnPtrCall-count h)
       by false false true e g h k m = rw (g, h, k, callRule) (lowerable-count k)
@@ -75,7 +79,9 @@ module _ (s : List ℕ) (j : ℕ) where
   receiver-takes = by (eqb (fieldC s j) 0 && eqb (fieldB s j) 0 && leb 1 (count s j)) refl
     where
       by : (t : Bool) → (eqb (fieldC s j) 0 && eqb (fieldB s j) 0 && leb 1 (count s j)) ≡ t → Takes (receiver s j) (count s j)
-      by true h = rw (h, receiver) (any-takes (firstOf s (child j)) (leb-true 1 (count s j) (and-eq-true-iff (eqb (fieldC s j) 0 && eqb (fieldB s j) 0) (leb 1 (count s j)) .0 h .1)))
+      by true h =
+          rw (h, receiver) (any-takes (firstOf s (child j))
+          (leb-true 1 (count s j) (and-eq-true-iff (eqb (fieldC s j) 0 && eqb (fieldB s j) 0) (leb 1 (count s j)) .0 h .1)))
       by false h = rw (h, receiver) tt
 
 otherArgs-done : (s : List ℕ) (rec : Rec) → Meets rec → (j b d : ℕ) (p : Pools) → Done p b d (d + (count s j - 1)) (otherArgs s rec j b d p)
@@ -94,7 +100,9 @@ rotate-lowers {x} {b} others e h = by (eqb others 0) refl
 module _ (s : List ℕ) (rec : Rec) (M : Meets rec) (j b d : ℕ) (p : Pools) where
   makeFnPtr-done : Done p b d (suc d) (makeFnPtr s rec j b d p)
   unfolding makeFnPtr
-  makeFnPtr-done = done-then (rec (child j) b d p) (ins MakeFnPtr (suc d) (position s (child j))) refl (λ X A N q g end le. omega arith) (meets-at M (child j) b d p)
+  makeFnPtr-done =
+      done-then (rec (child j) b d p) (ins MakeFnPtr (suc d) (position s (child j))) refl (λ X A N q g end le. omega arith)
+      (meets-at M (child j) b d p)
 
   callFnPtr-done : 1 ≤ count s j → Done p b d (suc d) (callFnPtr s rec j b d p)
   unfolding callFnPtr
@@ -106,7 +114,8 @@ module _ (s : List ℕ) (rec : Rec) (M : Meets rec) (j b d : ℕ) (p : Pools) wh
       (operands-done s rec M (count s j) (child j) b d p)
 
   -- CallRef behind code that ends at depth e, where it finds its arguments
-  callRef-done : (r : Receiver) (e f : ℕ) (o : Out) → count s j < 256 → refPops (count s j) r + f ≡ e → Done p b d e o → Done p b d (suc f) (callRef s j r e o)
+  callRef-done : (r : Receiver) (e f : ℕ) (o : Out) → count s j < 256 → refPops (count s j) r + f ≡ e → Done p b d e o
+      → Done p b d (suc f) (callRef s j r e o)
   unfolding callRef pushName
   callRef-done r e f o h k g =
       let n = name (fieldA s j) 0 in
@@ -118,7 +127,8 @@ module _ (s : List ℕ) (rec : Rec) (M : Meets rec) (j b d : ℕ) (p : Pools) wh
 
   callLocal-done : (slot : ℕ) → count s j < 256 → Done p b d (suc d) (callLocal s rec slot j b d p)
   unfolding callLocal
-  callLocal-done slot h = callRef-done (Local slot) (d + (count s j - 1)) d (otherArgs s rec j b d p) h (omega arith) (otherArgs-done s rec M j b d p)
+  callLocal-done slot h =
+      callRef-done (Local slot) (d + (count s j - 1)) d (otherArgs s rec j b d p) h (omega arith) (otherArgs-done s rec M j b d p)
 
   callThis-done : 1 ≤ count s j → count s j < 256 → Done p b d (suc d) (callThis s rec j b d p)
   unfolding callThis emits
@@ -165,8 +175,12 @@ module _ (s : List ℕ) (rec : Rec) (M : Meets rec) (j b d : ℕ) (p : Pools) wh
   callValues-done h = by (storesToken s j) refl
     where
       by : (t : Bool) → storesToken s j ≡ t → Done p b d (suc d) (callValues s rec j b d p)
-      by true k = rw (k, callValues) (callToken-done (operands s rec (count s j) (child j) b d p) h (operands-done s rec M (count s j) (child j) b d p))
-      by false k = rw (k, callValues) (callAs-done 0 (fieldB s j) (operands s rec (count s j) (child j) b d p) h (operands-done s rec M (count s j) (child j) b d p))
+      by true k =
+          rw (k, callValues)
+          (callToken-done (operands s rec (count s j) (child j) b d p) h (operands-done s rec M (count s j) (child j) b d p))
+      by false k =
+          rw (k, callValues) (callAs-done 0 (fieldB s j) (operands s rec (count s j) (child j) b d p) h
+          (operands-done s rec M (count s j) (child j) b d p))
 
   lowerCall-done : (f : First) → Takes f (count s j) → count s j < 256 → Done p b d (suc d) (lowerCallBy f s rec j b d p)
   unfolding lowerCallBy

@@ -20,8 +20,9 @@ use Rattle.lowering.specs.Pools.{Pools, emits, pushName, chainAt, pushCh
 use Rattle.lowering.specs.Out.{Rec}
 use Rattle.lowering.specs.Operands.{operands}
 use Rattle.lowering.specs.Flatten.{operandOf, StepRule, index, property, method, none, stepRule, links, flattens}
-use Rattle.lowering.specs.Steps.{Stepped, stepped, failed, indexStep, propertyStep, isLowerableMethod, methodAfter, methodStep, stepBy, Walked, walked, stopped, onto, steps}
-use Rattle.lowering.specs.Chain.{rootOf, rootPools, onStack, rootCode, closeChain, chainOf, chain}
+use Rattle.lowering.specs.Steps.{Stepped, stepped, failed, indexStep, propertyStep, isLowerableMethod, methodAfter, methodStep}
+use Rattle.lowering.specs.Steps.{stepBy, Walked, walked, stopped, onto, steps}
+use Rattle.lowering.specs.Chain.{rootOf, rootPools, onStack, rootCode, chainOf, chain}
 use Rattle.lowering.proofs.Effect.{noChain}
 use Rattle.lowering.proofs.Typed.{Nothing}
 use Rattle.lowering.proofs.Meets.{Grows, grows-refl, grows-trans, grows-at, Meets}
@@ -65,7 +66,9 @@ module _ (s : List ℕ) (rec : Rec) (M : Meets rec) where
   step-right none c n b d p = grows-refl (p .chains)
 
 -- a step before other steps
-onto-right : (x : List ChainRecord.Chain) (a b d k : ℕ) (code : Code) (st : Step) (q : Pools) (w : Walked) → Lowers Nothing x b d (d + k) code (q .chains) → StepsRight (q .chains) a (b + length code) (d + k) w → StepsRight x a b d (onto code st w)
+onto-right : (x : List ChainRecord.Chain) (a b d k : ℕ) (code : Code) (st : Step) (q : Pools) (w : Walked)
+    → Lowers Nothing x b d (d + k) code (q .chains) → StepsRight (q .chains) a (b + length code) (d + k) w
+    → StepsRight x a b d (onto code st w)
 unfolding onto
 onto-right x a b d k code st q (walked rest xs m r) g h = lowers-seq g h
 onto-right x a b d k code st q (stopped r) g h = grows-trans (g .grows) h
@@ -75,10 +78,15 @@ module _ (s : List ℕ) (rec : Rec) (M : Meets rec) where
   unfolding steps
   steps-right a [] n b d p h = lowers-to (sym h) lowers-none
   steps-right a (c ∷ cs) n b d p h =
-      by (stepBy (stepRule s c) s rec c n b d p) refl (step-right s rec M (stepRule s c) c n b d p) (λ k b′ q. steps-right a cs (n + k) b′ (d + k) q (omega arith))
+      by (stepBy (stepRule s c) s rec c n b d p) refl (step-right s rec M (stepRule s c) c n b d p)
+      (λ k b′ q. steps-right a cs (n + k) b′ (d + k) q (omega arith))
     where
-      by : (t : Stepped) → stepBy (stepRule s c) s rec c n b d p ≡ t → StepRight (p .chains) b d (stepBy (stepRule s c) s rec c n b d p) → ((k b′ : ℕ) (q : Pools) → StepsRight (q .chains) a b′ (d + k) (steps s rec cs (n + k) b′ (d + k) q)) → StepsRight (p .chains) a b d (steps s rec (c ∷ cs) n b d p)
-      by (stepped code st k q) e g r = rw (e, steps) (onto-right (p .chains) a b d k code st q (steps s rec cs (n + k) (b + length code) (d + k) q) (rw e at g) (r k (b + length code) q))
+      by : (t : Stepped) → stepBy (stepRule s c) s rec c n b d p ≡ t → StepRight (p .chains) b d (stepBy (stepRule s c) s rec c n b d p)
+          → ((k b′ : ℕ) (q : Pools) → StepsRight (q .chains) a b′ (d + k) (steps s rec cs (n + k) b′ (d + k) q))
+          → StepsRight (p .chains) a b d (steps s rec (c ∷ cs) n b d p)
+      by (stepped code st k q) e g r =
+          rw (e, steps) (onto-right (p .chains) a b d k code st q (steps s rec cs (n + k) (b + length code) (d + k) q) (rw e at g)
+          (r k (b + length code) q))
       by (failed q) e g r = rw (e, steps) (rw e at g)
 
   rootCode-done : (root : Root) (v b d : ℕ) (p : Pools) → Done p b d (d + onStack root) (rootCode rec root v b d p)
@@ -100,25 +108,24 @@ holds-grows {xs} {ys} {i} {n} {stack} g h =
     }
 
 -- the chain instruction takes the operands and the root off
-chain-straight : (y : List ChainRecord.Chain) (i n stack d pos : ℕ) → Holds y i n stack → Straight y (suc d) (ins (Chain i) (d + n + stack) pos)
+chain-straight : (y : List ChainRecord.Chain) (i n stack d pos : ℕ) → Holds y i n stack
+    → Straight y (suc d) (ins (Chain i) (d + n + stack) pos)
 chain-straight y i n stack d pos h X A N q g end le =
     let k = holds-grows g h in
     omega arith
 
 module _ (s : List ℕ) (rec : Rec) (M : Meets rec) where
-  closeChain-done : (x : List ChainRecord.Chain) (root : Root) (j b d : ℕ) (code : Code) (xs : List Step) (n : ℕ) (p : Pools) → Lowers Nothing x b d (d + n) code (p .chains) → Lowers Nothing x b d (suc d) (closeChain s rec root j b d code xs n p .code) (closeChain s rec root j b d code xs n p .pools .chains)
-  unfolding closeChain emits
-  closeChain-done x root j b d code xs n p g =
+  chainOf-done : (x : List ChainRecord.Chain) (root : Root) (j b d : ℕ) (w : Walked) → StepsRight x d b d w
+      → Lowers Nothing x b d (suc d) (chainOf s rec root j b d w .code) (chainOf s rec root j b d w .pools .chains)
+  unfolding chainOf emits
+  chainOf-done x root j b d (walked code xs n p) h =
       let o = rootCode rec root (child j) (b + length code) (d + n) p in
       let i = chainAt root xs n (o .pools) in
       let y = pushChain root xs n (o .pools) .chains in
       let last = ins (Chain i) (d + n + onStack root) (position s j) in
-      let all = lowers-more (lowers-seq g (rootCode-done s rec M root (child j) (b + length code) (d + n) p)) (chain-grows root xs n (o .pools)) in
+      let all = lowers-more (lowers-seq h (rootCode-done s rec M root (child j) (b + length code) (d + n) p))
+      (chain-grows root xs n (o .pools)) in
       lowers-seq all (lowers-one last refl (chain-straight y i n (onStack root) d (position s j) (chain-holds root xs n (o .pools))))
-
-  chainOf-done : (x : List ChainRecord.Chain) (root : Root) (j b d : ℕ) (w : Walked) → StepsRight x d b d w → Lowers Nothing x b d (suc d) (chainOf s rec root j b d w .code) (chainOf s rec root j b d w .pools .chains)
-  unfolding chainOf
-  chainOf-done x root j b d (walked code xs n p) h = closeChain-done x root j b d code xs n p h
   chainOf-done x root j b d (stopped p) h =
       let r = residual-done j b d p in
       record { sound = r .sound; grows = grows-trans h (r .grows) }
@@ -131,10 +138,12 @@ module _ (s : List ℕ) (rec : Rec) (M : Meets rec) where
       by true h = rw (h, rootPools)
       by false h = rw (h, rootPools)
 
-  flat-done : (j b d : ℕ) (p : Pools) (ls : List ℕ) → Done p b d (suc d) (chainOf s rec (rootOf s (child j) p) j b d (steps s rec ls 0 b d (rootPools s (child j) p)))
+  flat-done : (j b d : ℕ) (p : Pools) (ls : List ℕ)
+      → Done p b d (suc d) (chainOf s rec (rootOf s (child j) p) j b d (steps s rec ls 0 b d (rootPools s (child j) p)))
   flat-done j b d p ls =
       chainOf-done (p .chains) (rootOf s (child j) p) j b d (steps s rec ls 0 b d (rootPools s (child j) p))
-      (subst (λ (x : List ChainRecord.Chain). StepsRight x d b d (steps s rec ls 0 b d (rootPools s (child j) p))) (rootPools-chains (child j) p) (steps-right s rec M d ls 0 b d (rootPools s (child j) p) (add-zero d)))
+      (subst (λ (x : List ChainRecord.Chain). StepsRight x d b d (steps s rec ls 0 b d (rootPools s (child j) p)))
+      (rootPools-chains (child j) p) (steps-right s rec M d ls 0 b d (rootPools s (child j) p) (add-zero d)))
 
   pub chain-done : (j b d : ℕ) (p : Pools) → Done p b d (suc d) (chain s rec j b d p)
   unfolding chain

@@ -24,13 +24,15 @@ skipped-length t d [] = refl
 skipped-length t d (f ∷ fs) = rw length-append (omega (arith, skipped-length t d fs))
 
 module _ (X : Context) where
-  skip-sound : (t b d pos : ℕ) → suc b ≤ t → Sound X (Exit t (suc d)) b (suc d) d (ins (SkipIfNotUnit t) (suc d) pos ∷ ins Pop (suc d) pos ∷ [])
+  skip-sound : (t b d pos : ℕ) → suc b ≤ t
+      → Sound X (Exit t (suc d)) b (suc d) d (ins (SkipIfNotUnit t) (suc d) pos ∷ ins Pop (suc d) pos ∷ [])
   skip-sound t b d pos h =
       seq
       (one {e = suc d} (ins (SkipIfNotUnit t) (suc d) pos) refl (λ A N o start end le. omega arith))
       (one (ins Pop (suc d) pos) refl (λ A N o start end le. omega arith))
 
-  skipped-sound : (t b d : ℕ) (fs : List Fragment) → Parts X 2 b d fs → b + extent 2 fs ≤ t → Sound X (Exit t (suc d)) b d d (skipped t d fs)
+  skipped-sound : (t b d : ℕ) (fs : List Fragment) → Parts X 2 b d fs → b + extent 2 fs ≤ t
+      → Sound X (Exit t (suc d)) b d d (skipped t d fs)
   unfolding skipped extent
   skipped-sound t b d [] ps h = none
   skipped-sound t b d (f ∷ fs) ps h =
@@ -38,7 +40,8 @@ module _ (X : Context) where
       seq (weaken (λ A N o. tt) (ps .0)) (seq (skip-sound t (b + length (f .code)) d (f .pos) (omega arith)) rest)
 
   -- the fragments, then code from their end on
-  ended-sound : (e b d : ℕ) (fs : List Fragment) (c : Code) → Parts X 2 b d fs → b + extent 2 fs ≡ e → Sound X Nothing e d (suc d) c → Sound X Nothing b d (suc d) (skipped (e + length c) d fs ++ c)
+  ended-sound : (e b d : ℕ) (fs : List Fragment) (c : Code) → Parts X 2 b d fs → b + extent 2 fs ≡ e → Sound X Nothing e d (suc d) c
+      → Sound X Nothing b d (suc d) (skipped (e + length c) d fs ++ c)
   ended-sound e b d fs c ps h last =
       let t = e + length c in
       let l = skipped-length t d fs in
@@ -57,6 +60,8 @@ module _ (s : List ℕ) (rec : Rec) (M : Meets rec) where
       let o = rec k e d (r .pools) in
       let more = M .grows k e d (r .pools) in
       record {
-        sound = λ X g. ended-sound X e b d (r .parts) (o .code) (fragments-sound s rec M X 2 n (child j) b d p (grows-trans more g)) refl (M .sound X k e d (r .pools) g);
+        sound =
+            λ X g. ended-sound X e b d (r .parts) (o .code) (fragments-sound s rec M X 2 n (child j) b d p (grows-trans more g)) refl
+            (M .sound X k e d (r .pools) g);
         grows = grows-trans (fragments-grow s rec M 2 n (child j) b d p) more;
       }

@@ -5,7 +5,8 @@ use Rattle.lowering.specs.Limits.{maxLevels}
 use Rattle.lowering.specs.Pools.{Pools, noPools}
 use Rattle.lowering.specs.Out.{Rec}
 use Rattle.lowering.specs.Program.{plain}
-use Rattle.lowering.specs.Expression.{Rule, boolean, unit, constant, interpolated, array, variable, this, fnCall, chain, and, or, coalesce, residual, rule, byRule, expression}
+use Rattle.lowering.specs.Expression.{Rule, boolean, unit, constant, interpolated, array, variable, this, fnCall, chain, and, or}
+use Rattle.lowering.specs.Expression.{coalesce, residual, rule, byRule, expression}
 use Rattle.lowering.proofs.Meets.{Meets, grows-refl}
 use Rattle.lowering.proofs.Whole.{contextOf, WellTyped}
 use Rattle.lowering.proofs.WholeLaws.{sound-typed}

@@ -4,12 +4,13 @@ use mathlib.Core.Path.{_≡_, refl, subst}
 use mathlib.Core.List.{List, [], _∷_, _++_, append-assoc}
 use lib.ListN.{length, length-append}
 use native.Mathlib.Omega.{arith}
+use Rattle.bytecode.specs.declared.Op.{Op}
 use Rattle.sheet.specs.Node.{count, child, next}
 use Rattle.bytecode.specs.declared.Op.the-variants.{Bool, Jump, JumpIfTrue, JumpIfFalse}
 use Rattle.lowering.specs.Code.{Code, ins, noPos}
 use Rattle.lowering.specs.Pools.{Pools, emits}
 use Rattle.lowering.specs.Out.{Rec}
-use Rattle.lowering.specs.ShortCircuit.{Fragment, fragments, extent, decided, jumpOn, verdict, shortCircuit}
+use Rattle.lowering.specs.ShortCircuit.{Fragment, fragments, extent, decided, jumpOn, decision, shortCircuit}
 use Rattle.lowering.proofs.Effect.{Context}
 use Rattle.lowering.proofs.Typed.{Nothing, Exit, Sound, seq, none, one, weaken, close}
 use Rattle.lowering.proofs.Meets.{Grows, grows-refl, grows-trans, Meets}
@@ -28,7 +29,8 @@ module _ (s : List ℕ) (rec : Rec) (M : Meets rec) where
       let o = rec j b d p in
       grows-trans (M .grows j b d p) (fragments-grow gap n (next s j) (b + length (o .code) + gap) d (emits gap (o .pools)))
 
-  pub fragments-sound : (X : Context) (gap n j b d : ℕ) (p : Pools) → Grows (fragments s rec gap n j b d p .pools .chains) (X .chains) → Parts X gap b d (fragments s rec gap n j b d p .parts)
+  pub fragments-sound : (X : Context) (gap n j b d : ℕ) (p : Pools) → Grows (fragments s rec gap n j b d p .pools .chains) (X .chains)
+      → Parts X gap b d (fragments s rec gap n j b d p .parts)
   unfolding fragments emits
   fragments-sound X gap zero j b d p g = tt
   fragments-sound X gap (suc n) j b d p g =
@@ -38,11 +40,10 @@ module _ (s : List ℕ) (rec : Rec) (M : Meets rec) where
       (M .sound X j b d p (grows-trans (fragments-grow gap n (next s j) b′ d p′) g), fragments-sound X gap n (next s j) b′ d p′ g)
 
 -- `extent` is the length of the code written
-pub decided-length : (stop t d : ℕ) (fs : List Fragment) → length (decided (jumpOn stop t) d fs) ≡ extent 1 fs
+pub decided-length : (jump : Op) (d : ℕ) (fs : List Fragment) → length (decided jump d fs) ≡ extent 1 fs
 unfolding decided extent
-decided-length stop t d [] = refl
-decided-length stop t d (f ∷ fs) =
-    rw length-append (omega (arith, decided-length stop t d fs))
+decided-length jump d [] = refl
+decided-length jump d (f ∷ fs) = rw length-append (omega (arith, decided-length jump d fs))
 
 module _ (X : Context) where
   -- the jump takes the value and goes on or to t
@@ -51,7 +52,8 @@ module _ (X : Context) where
   jump-sound zero t b d pos h = one (ins (JumpIfFalse t) (suc d) pos) refl (λ A N o start end le. omega arith)
   jump-sound (suc stop) t b d pos h = one (ins (JumpIfTrue t) (suc d) pos) refl (λ A N o start end le. omega arith)
 
-  decided-sound : (stop t b d : ℕ) (fs : List Fragment) → Parts X 1 b d fs → b + extent 1 fs ≤ t → Sound X (Exit t d) b d d (decided (jumpOn stop t) d fs)
+  decided-sound : (stop t b d : ℕ) (fs : List Fragment) → Parts X 1 b d fs → b + extent 1 fs ≤ t
+      → Sound X (Exit t d) b d d (decided (jumpOn stop t) d fs)
   unfolding decided extent
   decided-sound stop t b d [] ps h = none
   decided-sound stop t b d (f ∷ fs) ps h =
@@ -61,24 +63,28 @@ module _ (X : Context) where
   -- all operands true for And, false for Or: this value, and a jump to the end
   passed-sound : (stop e d : ℕ) → Sound X (Exit (e + 3) (suc d)) e d d (ins (Bool stop) d noPos ∷ ins (Jump (e + 3)) (suc d) noPos ∷ [])
   passed-sound stop e d =
-      let jump = one {X = X} {O = Exit (e + 3) (suc d)} {b = e + 1} {d = suc d} {e = d} (ins (Jump (e + 3)) (suc d) noPos) refl (λ A N o start end le. omega arith) in
+      let jump = one {X = X} {O = Exit (e + 3) (suc d)} {b = e + 1} {d = suc d} {e = d} (ins (Jump (e + 3)) (suc d) noPos) refl
+      (λ A N o start end le. omega arith) in
       seq (one {d = d} {e = suc d} (ins (Bool stop) d noPos) refl (λ A N o start end le. omega arith)) jump
 
-  verdict-sound : (stop e b d : ℕ) (fs : List Fragment) → Parts X 1 b d fs → b + extent 1 fs ≡ e → Sound X Nothing b d (suc d) (decided (jumpOn stop (e + 2)) d fs ++ verdict stop e d)
-  unfolding verdict
-  verdict-sound stop e b d fs ps h =
+  decision-sound : (stop e b d : ℕ) (fs : List Fragment) → Parts X 1 b d fs → b + extent 1 fs ≡ e
+      → Sound X Nothing b d (suc d) (decided (jumpOn stop (e + 2)) d fs ++ decision stop e d)
+  unfolding decision
+  decision-sound stop e b d fs ps h =
       let c = decided (jumpOn stop (e + 2)) d fs in
       let pass : Code = ins (Bool (1 - stop)) d noPos ∷ ins (Jump (e + 3)) (suc d) noPos ∷ [] in
       let end : Code = ins (Bool stop) d noPos ∷ [] in
       let O = Exit (e + 3) (suc d) in
-      let l = decided-length stop (e + 2) d fs in
+      let l = decided-length (jumpOn stop (e + 2)) d fs in
       let at-e : e ≡ b + length c = omega arith in
       let first = weaken {O′ = Both O (Exit (e + 2) d)} (λ A N o. o .1) (decided-sound stop (e + 2) b d fs ps (omega arith)) in
       let middle = weaken {O′ = Both O (Exit (e + 2) d)} (λ A N o. o .0) (passed-sound (1 - stop) e d) in
       let both = seq first (subst (λ (n : ℕ). Sound X (Both O (Exit (e + 2) d)) n d d pass) at-e middle) in
       let open-end = close-in O (e + 2) (rw length-append (omega arith)) both in
-      let last = one {X = X} {O = O} {b = b + length (c ++ pass)} {d = d} {e = suc d} (ins (Bool stop) d noPos) refl (λ A N o start end le. omega arith) in
-      subst (λ (w : Code). Sound X Nothing b d (suc d) w) (append-assoc c pass end) (close {t = e + 3} (rw (length-append, length-append) (omega arith)) (seq open-end last))
+      let last = one {X = X} {O = O} {b = b + length (c ++ pass)} {d = d} {e = suc d} (ins (Bool stop) d noPos) refl
+      (λ A N o start end le. omega arith) in
+      subst (λ (w : Code). Sound X Nothing b d (suc d) w) (append-assoc c pass end)
+      (close {t = e + 3} (rw (length-append, length-append) (omega arith)) (seq open-end last))
 
 module _ (s : List ℕ) (rec : Rec) (M : Meets rec) where
   pub shortCircuit-done : (stop j b d : ℕ) (p : Pools) → Done p b d (suc d) (shortCircuit stop s rec j b d p)
@@ -86,6 +92,8 @@ module _ (s : List ℕ) (rec : Rec) (M : Meets rec) where
   shortCircuit-done stop j b d p =
       let r = fragments s rec 1 (count s j) (child j) b d p in
       record {
-        sound = λ X g. verdict-sound X stop (b + extent 1 (r .parts)) b d (r .parts) (fragments-sound s rec M X 1 (count s j) (child j) b d p g) refl;
+        sound =
+            λ X g. decision-sound X stop (b + extent 1 (r .parts)) b d (r .parts)
+            (fragments-sound s rec M X 1 (count s j) (child j) b d p g) refl;
         grows = fragments-grow s rec M 1 (count s j) (child j) b d p;
       }

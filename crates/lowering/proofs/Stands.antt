@@ -57,7 +57,9 @@ stands-rest {c = c} {b = b} {i = i} g = stands-at (add-one b) (stands-right (i �
 pub stands-within : {w c : Code} {b : ℕ} → Stands w b c → b + length c ≤ length w
 stands-within {w} {c} {b} g =
     let e : length w ≡ length (g .before) + (length c + length (g .behind)) =
-    ap length (g .parts) ∙ length-append (g .before) (c ++ g .behind) ∙ ap (λ (n : ℕ). length (g .before) + n) (length-append c (g .behind)) in
+    ap length (g .parts)
+    ∙ length-append (g .before) (c ++ g .behind)
+    ∙ ap (λ (n : ℕ). length (g .before) + n) (length-append c (g .behind)) in
     let h = g .place in
     omega arith
 

@@ -7,21 +7,22 @@ use mathlib.Core.List.{List, [], _∷_, _++_, map, List·Memᴰ, List·Memᴰ·c
 use native.Mathlib.Omega.{arith}
 use lib.Dec.{eqb}
 use borrow.Author.Tests.{eq-eqb}
+use Rattle.laws.proofs.Bool.{or-left, or-right}
 use Rattle.bytecode.specs.declared.Chain.{Chain}
-use Rattle.cases.specs.Range.{Range}
-use Rattle.cases.specs.Points.{points}
-use Rattle.cases.specs.PointsLaws.{All}
-use Rattle.cases.specs.Split as Split
-use Rattle.cases.specs.Split.{split}
-use Rattle.cases.specs.SplitLaws.{Good, Every, split-good}
+use Rattle.switch_split.specs.Range.{Range}
+use Rattle.switch_split.specs.Points.{points}
+use Rattle.switch_split.proofs.PointsLaws.{All}
+use Rattle.switch_split.specs.Split as Split
+use Rattle.switch_split.specs.Split.{split}
+use Rattle.switch_split.proofs.SplitLaws.{Good, Every, split-good}
 use Rattle.lowering.specs.Out.{Rec}
 use Rattle.lowering.specs.SwitchSheet.{blockCount, defaultBlock, casesOf, caseBlocks, rangesOf}
 use Rattle.lowering.specs.Arms.{Arm}
 use Rattle.lowering.specs.Bodies.{wanted}
-use Rattle.lowering.specs.SwitchLayout.{Layout}
+use Rattle.lowering.specs.SwitchLaid.{SwitchLaid}
 use Rattle.lowering.proofs.SwitchEntries.{distinct-only}
 use Rattle.lowering.proofs.SwitchParts.{HasBody, LaidOut}
-use Rattle.lowering.proofs.SwitchNames.{ArmNames, named-wanted, arm-names, wanted-left, wanted-right, or-left, or-right}
+use Rattle.lowering.proofs.SwitchNames.{ArmNames, named-wanted, arm-names, wanted-left, wanted-right}
 
 -- every block that the sheet names exists
 pub record Blocks (s : List ℕ) : Type 0 where
@@ -47,17 +48,22 @@ split-blocks P rs f e m k n =
     let r = Memᴰ·of-map (λ (x : Range). x .block) rs (g .known k n) in
     subst P (r .2) (f (r .0) (r .1))
 
-module _ (s : List ℕ) (rec : Rec) (hs : List Chain) (l : Layout) (L : LaidOut s rec hs l) (B : Blocks s) where
+module _ (s : List ℕ) (rec : Rec) (hs : List Chain) (l : SwitchLaid) (L : LaidOut s rec hs l) (B : Blocks s) where
   -- the blocks of an arm exist
   case-arm-blocks : (a : Arm) → List·Memᴰ a (l .caseArms) → (k : ℕ) → List·Memᴰ k (a .blocks) → k < blockCount s
   case-arm-blocks a m k n =
-      let row = Memᴰ·of-map (caseBlocks s) (casesOf s) (distinct-only (map (caseBlocks s) (casesOf s)) (a .blocks) (subst (List·Memᴰ (a .blocks)) (L .case-lists) (Memᴰ·map (λ (x : Arm). x .blocks) m))) in
+      let row = Memᴰ·of-map (caseBlocks s) (casesOf s)
+      (distinct-only (map (caseBlocks s) (casesOf s)) (a .blocks)
+      (subst (List·Memᴰ (a .blocks)) (L .case-lists) (Memᴰ·map (λ (x : Arm). x .blocks) m))) in
       B .cases-exist (row .0) (row .1) k (subst (List·Memᴰ k) (sym (row .2)) n)
 
   range-arm-blocks : (a : Arm) → List·Memᴰ a (l .rangeArms) → (k : ℕ) → List·Memᴰ k (a .blocks) → k < blockCount s
   range-arm-blocks a m k n =
-      let row = Memᴰ·of-map (λ (e : Split.Entry). e .blocks) (l .splits) (distinct-only (map (λ (e : Split.Entry). e .blocks) (l .splits)) (a .blocks) (subst (List·Memᴰ (a .blocks)) (L .range-lists) (Memᴰ·map (λ (x : Arm). x .blocks) m))) in
-      split-blocks (λ (i : ℕ). i < blockCount s) (rangesOf s) (B .ranges-exist) (row .0) (subst (List·Memᴰ (row .0)) (L .splits-are) (row .1)) k (subst (List·Memᴰ k) (sym (row .2)) n)
+      let row = Memᴰ·of-map (λ (e : Split.Entry). e .blocks) (l .splits)
+      (distinct-only (map (λ (e : Split.Entry). e .blocks) (l .splits)) (a .blocks)
+      (subst (List·Memᴰ (a .blocks)) (L .range-lists) (Memᴰ·map (λ (x : Arm). x .blocks) m))) in
+      split-blocks (λ (i : ℕ). i < blockCount s) (rangesOf s) (B .ranges-exist) (row .0)
+      (subst (List·Memᴰ (row .0)) (L .splits-are) (row .1)) k (subst (List·Memᴰ k) (sym (row .2)) n)
 
   -- a block that an arm names exists
   pub case-named : ArmNames (λ (k : ℕ). k < blockCount s) (l .caseArms)
@@ -70,15 +76,18 @@ module _ (s : List ℕ) (rec : Rec) (hs : List Chain) (l : Layout) (L : LaidOut 
   pub case-names : ArmNames (λ (k : ℕ). HasBody k (l .bodies)) (l .caseArms)
   case-names =
       named-wanted (λ (k : ℕ). k < blockCount s) (λ (k : ℕ). HasBody k (l .bodies)) (l .caseArms) case-named
-      (λ k h lt. L .body-has k lt (or-right (eqb (defaultBlock s) (suc k)) (wanted k (l .caseArms ++ l .rangeArms)) (wanted-left k (l .caseArms) (l .rangeArms) h)))
+      (λ k h lt. L .body-has k lt
+      (or-right (eqb (defaultBlock s) (suc k)) (wanted k (l .caseArms ++ l .rangeArms)) (wanted-left k (l .caseArms) (l .rangeArms) h)))
 
   pub range-names : ArmNames (λ (k : ℕ). HasBody k (l .bodies)) (l .rangeArms)
   range-names =
       named-wanted (λ (k : ℕ). k < blockCount s) (λ (k : ℕ). HasBody k (l .bodies)) (l .rangeArms) range-named
-      (λ k h lt. L .body-has k lt (or-right (eqb (defaultBlock s) (suc k)) (wanted k (l .caseArms ++ l .rangeArms)) (wanted-right k (l .caseArms) (l .rangeArms) h)))
+      (λ k h lt. L .body-has k lt (or-right (eqb (defaultBlock s) (suc k)) (wanted k (l .caseArms ++ l .rangeArms))
+      (wanted-right k (l .caseArms) (l .rangeArms) h)))
 
   -- so has the default
   pub default-has : (k : ℕ) → defaultBlock s ≡ suc k → HasBody k (l .bodies)
   default-has k h =
       let le = B .default-exists in
-      L .body-has k (omega arith) (or-left (eqb (defaultBlock s) (suc k)) (wanted k (l .caseArms ++ l .rangeArms)) (eq-eqb (defaultBlock s) (suc k) h))
+      L .body-has k (omega arith)
+      (or-left (eqb (defaultBlock s) (suc k)) (wanted k (l .caseArms ++ l .rangeArms)) (eq-eqb (defaultBlock s) (suc k) h))

@@ -3,23 +3,24 @@ use Prim.Native.Nat.{ℕ}
 use mathlib.Core.Path.{_≡_, refl, sym, ap, _∙_}
 use mathlib.Core.Bool.{Bool, true, false, true≢false, false≢true}
 use mathlib.Core.Logic.{_⊎_, inl, inr, ⊎-elim}
-use mathlib.Core.List.{List, [], _∷_, map, List·Memᴰ, List·Memᴰ·head, List·Memᴰ·tail, List·Memᴰ·cases-cons, List·Memᴰ·not-nil, Memᴰ·cast, Memᴰ·map}
+use mathlib.Core.List.{List, [], _∷_, map, List·Memᴰ, List·Memᴰ·head, List·Memᴰ·tail, List·Memᴰ·cases-cons, List·Memᴰ·not-nil, Memᴰ·cast}
+use mathlib.Core.List.{Memᴰ·map}
 use Rattle.text.specs.Same.{same}
-use Rattle.text.specs.SameLaws.{same-refl, same-true}
+use Rattle.text.proofs.SameLaws.{same-refl, same-true}
 use Rattle.lowering.specs.Arms.{Entry, toFallback, Arm, memberOf, distinctFrom, distinct}
 use Rattle.lowering.specs.SwitchTables.{entryOf}
 
 -- ---- a list is among others
 
-member-here : (l m : List ℕ) (ms : List (List ℕ)) → same l m ≡ true → memberOf l (m ∷ ms) ≡ true
+pub member-here : (l m : List ℕ) (ms : List (List ℕ)) → same l m ≡ true → memberOf l (m ∷ ms) ≡ true
 unfolding memberOf
 member-here l m ms h = rw (h, memberOf)
 
-member-later : (l m : List ℕ) (ms : List (List ℕ)) → same l m ≡ false → memberOf l (m ∷ ms) ≡ memberOf l ms
+pub member-later : (l m : List ℕ) (ms : List (List ℕ)) → same l m ≡ false → memberOf l (m ∷ ms) ≡ memberOf l ms
 unfolding memberOf
 member-later l m ms h = rw (h, memberOf)
 
-pub member-true : (l : List ℕ) (ms : List (List ℕ)) → memberOf l ms ≡ true → List·Memᴰ l ms
+member-true : (l : List ℕ) (ms : List (List ℕ)) → memberOf l ms ≡ true → List·Memᴰ l ms
 unfolding memberOf
 member-true l [] h = absurd (false≢true h)
 member-true l (m ∷ ms) h = by (same l m) refl (member-true l ms)
@@ -28,7 +29,7 @@ member-true l (m ∷ ms) h = by (same l m) refl (member-true l ms)
     by true q k = List·Memᴰ·head (same-true l m q)
     by false q k = List·Memᴰ·tail (k (sym (member-later l m ms q) ∙ h))
 
-pub member-false : (l : List ℕ) (ms : List (List ℕ)) → memberOf l ms ≡ false → List·Memᴰ l ms → ⊥
+member-false : (l : List ℕ) (ms : List (List ℕ)) → memberOf l ms ≡ false → List·Memᴰ l ms → ⊥
 unfolding memberOf
 member-false l [] h n = List·Memᴰ·not-nil n
 member-false l (m ∷ ms) h n = by (same l m) refl (member-false l ms) (List·Memᴰ·cases-cons n)
@@ -64,7 +65,8 @@ distinct-apart met (l ∷ ls) x h n = by (memberOf l met) refl (λ m. distinct-a
     by : (t : Bool) → memberOf l met ≡ t → ((m : List (List ℕ)) → List·Memᴰ x (distinctFrom m ls) → List·Memᴰ x m → ⊥) → ⊥
     by true q k = k met (rw (distinct-met met l ls q) at h) n
     by false q k =
-        ⊎-elim (λ e. member-false l met q (Memᴰ·cast (sym e) n)) (λ h′. k (l ∷ met) h′ (List·Memᴰ·tail n)) (List·Memᴰ·cases-cons (rw (distinct-new met l ls q) at h))
+        ⊎-elim (λ e. member-false l met q (Memᴰ·cast (sym e) n)) (λ h′. k (l ∷ met) h′ (List·Memᴰ·tail n))
+        (List·Memᴰ·cases-cons (rw (distinct-new met l ls q) at h))
 
 distinct-from-once : (met ls : List (List ℕ)) → Once (distinctFrom met ls)
 unfolding distinctFrom
@@ -140,10 +142,16 @@ finds l [] h = absurd (List·Memᴰ·not-nil h)
 finds l (a ∷ arms) h = by (same l (a .blocks)) refl (finds l arms)
   where
     by : (t : Bool) → same l (a .blocks) ≡ t → (List·Memᴰ l (blocksOf arms) → Finds l arms) → Finds l (a ∷ arms)
-    by true q k = record { arm = a; among = List·Memᴰ·head refl; blocks-are = sym (same-true l (a .blocks) q); entry-is = entry-here l a arms q }
+    by true q k =
+        record { arm = a; among = List·Memᴰ·head refl; blocks-are = sym (same-true l (a .blocks) q); entry-is = entry-here l a arms q }
     by false q k =
         let f = k (⊎-elim (λ e. absurd (true≢false (sym (same-refl l) ∙ ap (same l) e ∙ q))) (λ m. m) (List·Memᴰ·cases-cons h)) in
-        record { arm = f .arm; among = List·Memᴰ·tail (f .among); blocks-are = f .blocks-are; entry-is = entry-later l a arms q ∙ f .entry-is }
+        record {
+          arm = f .arm;
+          among = List·Memᴰ·tail (f .among);
+          blocks-are = f .blocks-are;
+          entry-is = entry-later l a arms q ∙ f .entry-is;
+        }
 
 -- where no list stands twice, each arm is the one that its list finds
 pub entry-own : (arms : List Arm) → Once (blocksOf arms) → (a : Arm) → List·Memᴰ a arms → entryOf (a .blocks) arms ≡ a .entry
@@ -155,7 +163,9 @@ entry-own (x ∷ arms) o a h = by (List·Memᴰ·cases-cons h) (entry-own arms (
     other false q m = q
 
     by : (a ≡ x) ⊎ List·Memᴰ a arms → (List·Memᴰ a arms → entryOf (a .blocks) arms ≡ a .entry) → entryOf (a .blocks) (x ∷ arms) ≡ a .entry
-    by (inl e) k = entry-here (a .blocks) x arms (ap (same (a .blocks)) (sym (ap (λ (y : Arm). y .blocks) e)) ∙ same-refl (a .blocks)) ∙ sym (ap (λ (y : Arm). y .entry) e)
+    by (inl e) k =
+        entry-here (a .blocks) x arms (ap (same (a .blocks)) (sym (ap (λ (y : Arm). y .blocks) e)) ∙ same-refl (a .blocks))
+        ∙ sym (ap (λ (y : Arm). y .entry) e)
     by (inr m) k = entry-later (a .blocks) x arms (other (same (a .blocks) (x .blocks)) refl m) ∙ k m
 
 -- what holds of each arm's entry and of none holds of the entry that any list finds

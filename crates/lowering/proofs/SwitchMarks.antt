@@ -6,12 +6,12 @@ use mathlib.Core.Option.{none}
 use mathlib.Core.List.{List, [], _∷_, _++_, map, List·Memᴰ·not-nil, List·Memᴰ, List·Memᴰ·head}
 use native.Mathlib.Omega.{arith}
 use lib.ListN.{length}
-use Rattle.cases.specs.Split as Split
+use Rattle.switch_split.specs.Split as Split
 use Rattle.lowering.specs.Out.{Rec}
 use Rattle.lowering.specs.SwitchSheet.{bodyOf}
 use Rattle.lowering.specs.Arms.{Arm, armsExtent, distinctFrom, distinct}
 use Rattle.lowering.specs.Bodies.{Body, bodiesExtent, fallExtent}
-use Rattle.lowering.specs.SwitchLayout.{Layout, rangesExtent}
+use Rattle.lowering.specs.SwitchLaid.{SwitchLaid, rangesExtent}
 use Rattle.lowering.specs.SwitchCode.{defaultAt, endAt}
 use Rattle.lowering.specs.Marks.{Marked, armMarks, bodyMarks, defaultMarks, marks, markAt}
 use Rattle.lowering.proofs.Effect.{Context}
@@ -20,11 +20,13 @@ use Rattle.lowering.proofs.SwitchPlaces.{Laid}
 use Rattle.lowering.proofs.Lowered.{BodiesAt}
 use Rattle.lowering.proofs.SwitchEntries.{blocksOf}
 use Rattle.lowering.proofs.SwitchParts.{LaidOut}
-use Rattle.lowering.proofs.MarksAt.{Between, between-wider, between-append, below-marks, above-marks, Bears, bears-left, bears-right, arms-between, bodies-between}
+use Rattle.lowering.proofs.MarksAt.{Between, between-wider, between-append, below-marks, above-marks, Bears, bears-left, bears-right}
+use Rattle.lowering.proofs.MarksAt.{arms-between, bodies-between}
 use Rattle.lowering.proofs.ChainTells.{lowered-filled}
 
 -- all bodies but the last are followed by a jump, and the last is not empty
-fall-between : (s : List ℕ) (rec : Rec) → Meets rec → (X : Context) (b : ℕ) (xs : List Body) → BodiesAt s rec (X .chains) b xs → Between b (b + fallExtent xs) (bodyMarks xs)
+fall-between : (s : List ℕ) (rec : Rec) → Meets rec → (X : Context) (b : ℕ) (xs : List Body) → BodiesAt s rec (X .chains) b xs
+    → Between b (b + fallExtent xs) (bodyMarks xs)
 unfolding fallExtent bodyMarks
 fall-between s rec M X b [] h = tt
 fall-between s rec M X b (x ∷ []) h =
@@ -36,30 +38,34 @@ fall-between s rec M X b (x ∷ y ∷ xs) h =
     let c = b + length (x .code) + 1 in (
       omega arith,
       omega arith,
-      between-wider c (c + fallExtent (y ∷ xs)) b (b + fallExtent (x ∷ y ∷ xs)) (bodyMarks (y ∷ xs)) (omega arith) (omega arith) (fall-between s rec M X c (y ∷ xs) (h .1)),
+      between-wider c (c + fallExtent (y ∷ xs)) b (b + fallExtent (x ∷ y ∷ xs)) (bodyMarks (y ∷ xs)) (omega arith) (omega arith)
+          (fall-between s rec M X c (y ∷ xs) (h .1)),
     )
 
 -- where there are split ranges, the bodies follow the second Switch and its chains
-pub behind-dispatch : (l : Layout) → Laid l → (e : Split.Entry) (es : List Split.Entry) → l .splits ≡ e ∷ es → l .bodiesPlace ≡ l .dispatch + 1 + armsExtent (l .rangeArms)
+pub behind-dispatch : (l : SwitchLaid) → Laid l → (e : Split.Entry) (es : List Split.Entry) → l .splits ≡ e ∷ es
+    → l .bodiesPlace ≡ l .dispatch + 1 + armsExtent (l .rangeArms)
 unfolding rangesExtent
 behind-dispatch l h e es q =
     let k = h .bodies-are in
-    let n : rangesExtent (l .splits) (l .rangeArms) ≡ suc (armsExtent (l .rangeArms)) = ap (λ (y : List Split.Entry). rangesExtent y (l .rangeArms)) q in
+    let n : rangesExtent (l .splits) (l .rangeArms) ≡ suc (armsExtent (l .rangeArms)) =
+    ap (λ (y : List Split.Entry). rangesExtent y (l .rangeArms)) q in
     omega arith
 
-pub record MarksPlaced (def : ℕ) (l : Layout) : Type 0 where
+pub record MarksPlaced (def : ℕ) (l : SwitchLaid) : Type 0 where
   pub before : (p : ℕ) → p ≤ length (l .subjectCode) → markAt (marks def l) p ≡ none
   pub in-cases : Bears (marks def l) (length (l .subjectCode) + 1) (l .dispatch) (armMarks (l .caseArms))
   pub in-ranges : Bears (marks def l) (l .dispatch) (l .bodiesPlace) (armMarks (l .rangeArms))
   pub in-bodies : Bears (marks def l) (l .bodiesPlace) (l .bodiesPlace + bodiesExtent (l .bodies)) (bodyMarks (l .bodies))
-  pub in-default : Bears (marks def l) (l .bodiesPlace + bodiesExtent (l .bodies)) (l .bodiesPlace + bodiesExtent (l .bodies) + 1) (defaultMarks def l)
+  pub in-default : Bears (marks def l) (l .bodiesPlace + bodiesExtent (l .bodies)) (l .bodiesPlace + bodiesExtent (l .bodies) + 1)
+      (defaultMarks def l)
   pub behind : (p : ℕ) → endAt def l ≤ p → markAt (marks def l) p ≡ none
 
 no-arms : (arms : List Arm) → blocksOf arms ≡ [] → arms ≡ []
 no-arms [] h = refl
 no-arms (a ∷ arms) h = absurd (List·Memᴰ·not-nil (subst (List·Memᴰ (a .blocks)) h (List·Memᴰ·head refl)))
 
-module _ (s : List ℕ) (rec : Rec) (M : Meets rec) (X : Context) (l : Layout) (L : LaidOut s rec (X .chains) l) where
+module _ (s : List ℕ) (rec : Rec) (M : Meets rec) (X : Context) (l : SwitchLaid) (L : LaidOut s rec (X .chains) l) where
   cases-between : Between (length (l .subjectCode) + 1) (l .dispatch) (armMarks (l .caseArms))
   cases-between =
       subst (λ (e : ℕ). Between (length (l .subjectCode) + 1) e (armMarks (l .caseArms))) (sym (L .places .dispatch-is))
@@ -71,14 +77,17 @@ module _ (s : List ℕ) (rec : Rec) (M : Meets rec) (X : Context) (l : Layout) (
     where
       by : (es : List Split.Entry) → l .splits ≡ es → Between (l .dispatch) (l .bodiesPlace) (armMarks (l .rangeArms))
       by [] q =
-          let empty = no-arms (l .rangeArms) (L .range-lists ∙ ap (λ (x : List Split.Entry). distinct (map (λ (e : Split.Entry). e .blocks) x)) q) in
+          let empty = no-arms (l .rangeArms)
+          (L .range-lists ∙ ap (λ (x : List Split.Entry). distinct (map (λ (e : Split.Entry). e .blocks) x)) q) in
           subst (λ (arms : List Arm). Between (l .dispatch) (l .bodiesPlace) (armMarks arms)) (sym empty) tt
       by (e ∷ es) q =
           let h = behind-dispatch l (L .places) e es q in
-          between-wider (l .dispatch + 1) (l .dispatch + 1 + armsExtent (l .rangeArms)) (l .dispatch) (l .bodiesPlace) (armMarks (l .rangeArms)) (omega arith) (omega arith)
+          between-wider (l .dispatch + 1) (l .dispatch + 1 + armsExtent (l .rangeArms)) (l .dispatch) (l .bodiesPlace)
+          (armMarks (l .rangeArms)) (omega arith) (omega arith)
           (arms-between s rec (X .chains) (l .dispatch + 1) (l .rangeArms) (L .range-arms))
 
-  default-between : (def : ℕ) → Between (l .bodiesPlace + bodiesExtent (l .bodies)) (l .bodiesPlace + bodiesExtent (l .bodies) + 1) (defaultMarks def l)
+  default-between : (def : ℕ)
+      → Between (l .bodiesPlace + bodiesExtent (l .bodies)) (l .bodiesPlace + bodiesExtent (l .bodies) + 1) (defaultMarks def l)
   unfolding defaultMarks defaultAt
   default-between zero = (omega arith, omega arith, tt)
   default-between (suc k) = tt
@@ -122,19 +131,27 @@ module _ (s : List ℕ) (rec : Rec) (M : Meets rec) (X : Context) (l : Layout) (
 
     -- up to place e the default has no mark
     but-default : (b e : ℕ) → e ≤ f → Bears these b e (ofCases ++ ofRanges ++ ofBodies)
-    but-default b e ee = bears-left these b e (f + 1) (ofCases ++ ofRanges ++ ofBodies) D (between-wider f (f + 1) e (f + 1) D ee (omega arith) hD) (λ p h k. refl)
+    but-default b e ee =
+        bears-left these b e (f + 1) (ofCases ++ ofRanges ++ ofBodies) D (between-wider f (f + 1) e (f + 1) D ee (omega arith) hD)
+        (λ p h k. refl)
 
     arm-part : (b e : ℕ) → e ≤ l .bodiesPlace → Bears these b e (ofCases ++ ofRanges)
-    arm-part b e ee = bears-left these b e f (ofCases ++ ofRanges) ofBodies (between-wider (l .bodiesPlace) f e f ofBodies ee (omega arith) hB) (but-default b e (omega arith))
+    arm-part b e ee =
+        bears-left these b e f (ofCases ++ ofRanges) ofBodies (between-wider (l .bodiesPlace) f e f ofBodies ee (omega arith) hB)
+        (but-default b e (omega arith))
 
     case-part : Bears these start (l .dispatch) ofCases
-    case-part = bears-left these start (l .dispatch) (l .bodiesPlace) ofCases ofRanges ranges-between (arm-part start (l .dispatch) dispatch-le)
+    case-part =
+        bears-left these start (l .dispatch) (l .bodiesPlace) ofCases ofRanges ranges-between (arm-part start (l .dispatch) dispatch-le)
 
     range-part : Bears these (l .dispatch) (l .bodiesPlace) ofRanges
-    range-part = bears-right these (l .dispatch) (l .bodiesPlace) start ofCases ofRanges cases-between (arm-part (l .dispatch) (l .bodiesPlace) (omega arith))
+    range-part =
+        bears-right these (l .dispatch) (l .bodiesPlace) start ofCases ofRanges cases-between
+        (arm-part (l .dispatch) (l .bodiesPlace) (omega arith))
 
     body-part : Bears these (l .bodiesPlace) f ofBodies
-    body-part = bears-right these (l .bodiesPlace) f start (ofCases ++ ofRanges) ofBodies of-arms (but-default (l .bodiesPlace) f (omega arith))
+    body-part =
+        bears-right these (l .bodiesPlace) f start (ofCases ++ ofRanges) ofBodies of-arms (but-default (l .bodiesPlace) f (omega arith))
 
     default-part : Bears these f (f + 1) D
     default-part = bears-right these f (f + 1) start (ofCases ++ ofRanges ++ ofBodies) D (of-code f ef hB) (λ p h k. refl)
@@ -150,11 +167,13 @@ module _ (s : List ℕ) (rec : Rec) (M : Meets rec) (X : Context) (l : Layout) (
       let h₂ = dispatch-le in
       let f = l .bodiesPlace + bodiesExtent (l .bodies) in
       between-append start (f + 1) (ofCases ++ ofRanges ++ ofBodies) (defaultMarks 0 l)
-      (between-wider start f start (f + 1) (ofCases ++ ofRanges ++ ofBodies) (omega arith) (omega arith) (of-code f (omega arith) bodies-behind))
+      (between-wider start f start (f + 1) (ofCases ++ ofRanges ++ ofBodies) (omega arith) (omega arith)
+      (of-code f (omega arith) bodies-behind))
       (between-wider f (f + 1) start (f + 1) (defaultMarks 0 l) (omega arith) (omega arith) (default-between 0))
   marks-end (suc k) =
       let f = l .bodiesPlace + fallExtent (l .bodies) in
-      between-append start f (ofCases ++ ofRanges ++ ofBodies) [] (of-code f (omega arith) (fall-between s rec M X (l .bodiesPlace) (l .bodies) (L .bodies-lowered))) tt
+      between-append start f (ofCases ++ ofRanges ++ ofBodies) []
+      (of-code f (omega arith) (fall-between s rec M X (l .bodiesPlace) (l .bodies) (L .bodies-lowered))) tt
 
   pub marks-placed : (def : ℕ) → MarksPlaced def l
   unfolding marks

@@ -1,11 +1,12 @@
 -- The blocks that arms name: those of their guards, of their ends and of their entries. They are the wanted ones, and blocks of the lists.
 use Prim.Native.Nat.{ℕ, _+_}
 use mathlib.Core.Path.{_≡_, refl, sym, subst}
-use mathlib.Core.Bool.{Bool, true, false, _||_, false≢true}
+use mathlib.Core.Bool.{true, false≢true}
 use mathlib.Core.List.{List, [], _∷_, _++_, List·Memᴰ, List·Memᴰ·head, List·Memᴰ·tail, List·Memᴰ·cases-cons, List·Memᴰ·not-nil}
 use mathlib.Core.Logic.{⊎-elim}
 use lib.Dec.{eqb}
 use borrow.Author.Tests.{eqb-true, eq-eqb}
+use Rattle.laws.proofs.Bool.{or-left, or-right, or-one}
 use Rattle.bytecode.specs.declared.Chain.{Chain}
 use Rattle.lowering.specs.Out.{Rec}
 use Rattle.lowering.specs.Arms.{Try, End, taken, declined, idle, Entry, toBody, toChain, toFallback, Arm, entryExtent}
@@ -34,24 +35,14 @@ ArmNames P (a ∷ arms) = EntryNames P (a .entry) × ArmNames P arms
 
 -- ---- one of two tests passes
 
-pub or-left : (a b : Bool) → a ≡ true → (a || b) ≡ true
-or-left a b h = rw h
-
-pub or-right : (a b : Bool) → b ≡ true → (a || b) ≡ true
-or-right true b h = refl
-or-right false b h = h
-
-pub or-one : {P : Type 0} (a b : Bool) → (a || b) ≡ true → (a ≡ true → P) → (b ≡ true → P) → P
-or-one true b h f g = f refl
-or-one false b h f g = g h
-
 -- ---- a block that is wanted is named
 
 module _ (P : ℕ → Type 0) (k : ℕ) where
   try-named : (ts : List Try) → TryNames P ts → tryWants k ts ≡ true → P k
   unfolding tryWants
   try-named [] n h = absurd (false≢true h)
-  try-named (t ∷ ts) n h = or-one (eqb k (t .block)) (tryWants k ts) h (λ e. subst P (sym (eqb-true k (t .block) e)) (n .0)) (try-named ts (n .1))
+  try-named (t ∷ ts) n h =
+      or-one (eqb k (t .block)) (tryWants k ts) h (λ e. subst P (sym (eqb-true k (t .block) e)) (n .0)) (try-named ts (n .1))
 
   end-named : (e : End) → EndNames P e → endWants k e ≡ true → P k
   unfolding endWants
@@ -68,7 +59,8 @@ module _ (P : ℕ → Type 0) (k : ℕ) where
   pub wanted-named : (arms : List Arm) → ArmNames P arms → wanted k arms ≡ true → P k
   unfolding wanted
   wanted-named [] n h = absurd (false≢true h)
-  wanted-named (a ∷ arms) n h = or-one (entryWants k (a .entry)) (wanted k arms) h (entry-named (a .entry) (n .0)) (wanted-named arms (n .1))
+  wanted-named (a ∷ arms) n h =
+      or-one (entryWants k (a .entry)) (wanted k arms) h (entry-named (a .entry) (n .0)) (wanted-named arms (n .1))
 
 -- ---- a block that is named is wanted
 
@@ -90,8 +82,10 @@ module _ (P Q : ℕ → Type 0) where
   entry-wants : (e : Entry) → EntryNames P e → ((k : ℕ) → entryWants k e ≡ true → P k → Q k) → EntryNames Q e
   unfolding entryWants
   entry-wants (toBody j) n f = f j (eq-eqb j j refl) n
-  entry-wants (toChain b ts e) n f =
-      (try-wants ts (n .0) (λ k h. f k (or-left (tryWants k ts) (endWants k e) h)), end-wants e (n .1) (λ k h. f k (or-right (tryWants k ts) (endWants k e) h)))
+  entry-wants (toChain b ts e) n f = (
+    try-wants ts (n .0) (λ k h. f k (or-left (tryWants k ts) (endWants k e) h)),
+    end-wants e (n .1) (λ k h. f k (or-right (tryWants k ts) (endWants k e) h)),
+  )
   entry-wants toFallback n f = tt
 
   pub named-wanted : (arms : List Arm) → ArmNames P arms → ((k : ℕ) → wanted k arms ≡ true → P k → Q k) → ArmNames Q arms
@@ -106,7 +100,8 @@ pub wanted-left : (k : ℕ) (xs ys : List Arm) → wanted k xs ≡ true → want
 unfolding wanted
 wanted-left k [] ys h = absurd (false≢true h)
 wanted-left k (a ∷ xs) ys h =
-    or-one (entryWants k (a .entry)) (wanted k xs) h (or-left (entryWants k (a .entry)) (wanted k (xs ++ ys))) (λ h′. or-right (entryWants k (a .entry)) (wanted k (xs ++ ys)) (wanted-left k xs ys h′))
+    or-one (entryWants k (a .entry)) (wanted k xs) h (or-left (entryWants k (a .entry)) (wanted k (xs ++ ys)))
+    (λ h′. or-right (entryWants k (a .entry)) (wanted k (xs ++ ys)) (wanted-left k xs ys h′))
 
 pub wanted-right : (k : ℕ) (xs ys : List Arm) → wanted k ys ≡ true → wanted k (xs ++ ys) ≡ true
 unfolding wanted
@@ -119,7 +114,7 @@ names-append P (a ∷ xs) ys n m = (n .0, names-append P xs ys (n .1) m)
 
 -- ---- a block that is named is one of the list
 
-pub chosen-names : (P : ℕ → Type 0) {s ks : List ℕ} {ts : List Try} {e : End} → Chosen s ks ts e → ((k : ℕ) → List·Memᴰ k ks → P k)
+chosen-names : (P : ℕ → Type 0) {s ks : List ℕ} {ts : List Try} {e : End} → Chosen s ks ts e → ((k : ℕ) → List·Memᴰ k ks → P k)
     → TryNames P ts × EndNames P e
 chosen-names P none-left f = (tt, tt)
 chosen-names P falls-on f = (tt, tt)
@@ -138,8 +133,12 @@ module _ (P : ℕ → Type 0) (s : List ℕ) (rec : Rec) (hs : List Chain) where
   pub arm-names : (b : ℕ) (arms : List Arm) → ArmsAt s rec hs b arms
       → ((a : Arm) → List·Memᴰ a arms → (k : ℕ) → List·Memᴰ k (a .blocks) → P k) → ArmNames P arms
   arm-names b [] h f = tt
-  arm-names b (a ∷ arms) h f = (entry-names b (a .blocks) (a .entry) (h .0) (f a (List·Memᴰ·head refl)), arm-names (b + entryExtent (a .entry)) arms (h .1) (λ x m. f x (List·Memᴰ·tail m)))
+  arm-names b (a ∷ arms) h f = (
+    entry-names b (a .blocks) (a .entry) (h .0) (f a (List·Memᴰ·head refl)),
+    arm-names (b + entryExtent (a .entry)) arms (h .1) (λ x m. f x (List·Memᴰ·tail m)),
+  )
 
 pub names-at : (P : ℕ → Type 0) (arms : List Arm) → ArmNames P arms → (a : Arm) → List·Memᴰ a arms → EntryNames P (a .entry)
 names-at P [] n a m = absurd (List·Memᴰ·not-nil m)
-names-at P (x ∷ arms) n a m = ⊎-elim (λ e. subst (λ (y : Arm). EntryNames P (y .entry)) (sym e) (n .0)) (names-at P arms (n .1) a) (List·Memᴰ·cases-cons m)
+names-at P (x ∷ arms) n a m =
+    ⊎-elim (λ e. subst (λ (y : Arm). EntryNames P (y .entry)) (sym e) (n .0)) (names-at P arms (n .1) a) (List·Memᴰ·cases-cons m)

@@ -3,7 +3,7 @@ use Prim.Native.Nat.{ℕ, zero, suc, _+_, _≤_, _<_}
 use mathlib.Core.Path.{_≡_, refl, sym, ap, _∙_, subst}
 use mathlib.Core.Bool.{Bool, true, false, _||_, true≢false}
 use mathlib.Core.Logic.{_⊎_, inl, inr, ⊎-elim}
-use mathlib.Core.List.{List, [], _∷_, _++_, map, List·Memᴰ, List·Memᴰ·head, List·Memᴰ·tail, List·Memᴰ·cases-cons, List·Memᴰ·not-nil, Memᴰ·map}
+use mathlib.Core.List.{List, [], _∷_, _++_, map, List·Memᴰ, List·Memᴰ·head, List·Memᴰ·tail, List·Memᴰ·cases-cons, List·Memᴰ·not-nil}
 use native.Mathlib.Omega.{arith}
 use native.Mathlib.Numerals.{add-one}
 use lib.Dec.{eqb}
@@ -11,30 +11,34 @@ use lib.ListN.{length}
 use borrow.Author.Tests.{eqb-true, eqb-false, eq-eqb, ne-eqb}
 use Rattle.bytecode.specs.declared.Op.the-variants.{Unit, Jump, Switch}
 use Rattle.bytecode.specs.declared.Chain.{Chain}
-use Rattle.cases.specs.Split as Split
-use Rattle.cases.specs.Split.{split}
+use Rattle.switch_split.specs.Split as Split
+use Rattle.switch_split.specs.Split.{split}
 use Rattle.lowering.specs.Code.{Code, ins, noPos}
 use Rattle.lowering.specs.Pools.{Pools, noPools, emits}
 use Rattle.lowering.specs.Out.{Rec}
 use Rattle.lowering.specs.SwitchSheet.{blockCount, defaultBlock, subject, guardOf, bodyOf, casesOf, caseBlocks, rangesOf}
-use Rattle.lowering.specs.Arms.{Try, End, taken, declined, idle, Entry, toBody, toChain, toFallback, Guard, never, always, tried, guardKind, tryAt, triesOf, entryFrom, triesExtent, endExtent, entryExtent, Arm, armsExtent, armChains, distinctFrom, distinct, dropEnd, dropEntry, dropIdleJump}
+use Rattle.lowering.specs.Arms.{Try, End, taken, declined, idle, Entry, toBody, toChain, toFallback, Guard, never, always, tried}
+use Rattle.lowering.specs.Arms.{guardKind, tryAt, triesOf, entryFrom, triesExtent, endExtent, entryExtent, Arm, armsExtent, armChains}
+use Rattle.lowering.specs.Arms.{distinctFrom, distinct, dropEnd, dropEntry, dropIdleJump}
 use Rattle.lowering.specs.Bodies.{Body, wanted, layBodies, bodyAt, fallExtent}
-use Rattle.lowering.specs.SwitchLayout.{Layout, layout, layCases, caseArmsOf, layRanges}
-use Rattle.lowering.specs.SwitchCode.{overSubject, overValue, defaultAt, endAt, fallbackAt, entryCode, armsCode, rangesCode, bodiesCode, bodiesFall, defaultCode, switchCode}
+use Rattle.lowering.specs.SwitchLaid.{SwitchLaid, layout, layCases, caseArmsOf, layRanges}
+use Rattle.lowering.specs.SwitchCode.{overSubject, overValue, defaultAt, endAt, fallbackAt, entryCode, armsCode, rangesCode}
+use Rattle.lowering.specs.SwitchCode.{bodiesCode, bodiesFall, defaultCode, switchCode}
 use Rattle.lowering.proofs.Meets.{Grows, grows-refl, grows-trans, Meets}
 use Rattle.lowering.proofs.Stands.{Stands, stands-at, stands-left, stands-right, stands-next, stands-first, stands-rest}
-use Rattle.lowering.proofs.SwitchPlaces.{entry-length, bodies-length, Laid, layout-laid, cases-stand, ranges-stand, bodies-stand}
-use Rattle.lowering.proofs.Lowered.{Lowered, tries-never, tries-always, tries-tried, EntryAt, ArmsAt, BodiesAt, bodies-lay, bodies-skip, drop-here, drop-later, arms-grow, bodies-grow, arms-at, bodies-at, drop-at}
+use Rattle.lowering.proofs.SwitchPlaces.{entry-length, bodies-length, Laid, layout-laid, ranges-stand, bodies-stand}
+use Rattle.lowering.proofs.Lowered.{Lowered, tries-never, tries-always, tries-tried, EntryAt, ArmsAt, BodiesAt, bodies-lay}
+use Rattle.lowering.proofs.Lowered.{bodies-skip, drop-here, drop-later, arms-grow, bodies-grow, arms-at, bodies-at, drop-at}
 use Rattle.lowering.proofs.SwitchEntries.{blocksOf}
 
 -- ---- the lists of the arms
 
-pub arms-blocks : (s : List ℕ) (rec : Rec) (ls : List (List ℕ)) (b : ℕ) (p : Pools) → blocksOf (armChains s rec ls b p .arms) ≡ ls
+arms-blocks : (s : List ℕ) (rec : Rec) (ls : List (List ℕ)) (b : ℕ) (p : Pools) → blocksOf (armChains s rec ls b p .arms) ≡ ls
 unfolding armChains
 arms-blocks s rec [] b p = refl
 arms-blocks s rec (l ∷ ls) b p = ap (λ (x : List (List ℕ)). l ∷ x) (arms-blocks s rec ls _ _)
 
-pub drop-blocks : (arms : List Arm) → blocksOf (dropIdleJump arms) ≡ blocksOf arms
+drop-blocks : (arms : List Arm) → blocksOf (dropIdleJump arms) ≡ blocksOf arms
 unfolding dropIdleJump
 drop-blocks [] = refl
 drop-blocks (a ∷ arms) = by (eqb (armsExtent arms) 0) refl (drop-blocks arms)
@@ -126,7 +130,9 @@ drop-fall fb b (a ∷ arms) h q = by (eqb (armsExtent arms) 0) refl (drop-fall f
     by : (t : Bool) → eqb (armsExtent arms) 0 ≡ t
         → (b + entryExtent (a .entry) + armsExtent (dropIdleJump arms) ≡ fb → FallTo fb (b + entryExtent (a .entry)) (dropIdleJump arms))
         → b + armsExtent (dropIdleJump (a ∷ arms)) ≡ fb → FallTo fb b (dropIdleJump (a ∷ arms))
-    by true z f = rw (drop-here a arms z) (λ q′. let z′ = eqb-true (armsExtent arms) 0 z in (drop-entry-falls fb b (a .entry) (omega arith), arms-fall fb _ arms (h .1)))
+    by true z f =
+        rw (drop-here a arms z)
+        (λ q′. let z′ = eqb-true (armsExtent arms) 0 z in (drop-entry-falls fb b (a .entry) (omega arith), arms-fall fb _ arms (h .1)))
     by false z f = rw (drop-later a arms z) (λ q′. (entry-falls fb b (a .entry) (h .0), f (omega arith)))
 
 -- ---- each arm stands
@@ -152,14 +158,13 @@ module _ (s : List ℕ) (rec : Rec) (hs : List Chain) (w : Code) (bodies : List 
       rest = stands-at (ap (λ (n : ℕ). b + n) (entry-length bodies fb (x .entry))) (stands-next first g)
 
       by : (a ≡ x) ⊎ List·Memᴰ a arms
-          → (Stands w (b + entryExtent (x .entry)) (armsCode bodies fb arms) → (a′ : Arm) → List·Memᴰ a′ arms → (r : ArmStands a′) × (b + entryExtent (x .entry) ≤ r .place))
+          → (Stands w (b + entryExtent (x .entry)) (armsCode bodies fb arms) → (a′ : Arm) → List·Memᴰ a′ arms
+          → (r : ArmStands a′) × (b + entryExtent (x .entry) ≤ r .place))
           → (r : ArmStands a) × (b ≤ r .place)
-      by (inl e) k = subst (λ (a′ : Arm). (r : ArmStands a′) × (b ≤ r .place)) (sym e) (record { place = b; at = h .0; falls = f .0; stands = first }, omega arith)
+      by (inl e) k =
+          subst (λ (a′ : Arm). (r : ArmStands a′) × (b ≤ r .place)) (sym e)
+          (record { place = b; at = h .0; falls = f .0; stands = first }, omega arith)
       by (inr n) k = let r = k rest a n in (r .0, let le = r .1 in omega arith)
-
-  pub arm-stands : (b : ℕ) (arms : List Arm) → ArmsAt s rec hs b arms → FallTo fb b arms → Stands w b (armsCode bodies fb arms) → (a : Arm)
-      → List·Memᴰ a arms → ArmStands a
-  arm-stands b arms h f g a m = arm-stands-from b arms h f g a m .0
 
 -- ---- each body stands
 
@@ -179,14 +184,16 @@ unfolding bodyAt
 body-later k x xs h = rw (h, bodyAt)
 
 here-has : (k : ℕ) (x : Body) (xs : List Body) → x .block ≡ k → HasBody k (x ∷ xs)
-here-has k x xs h = record { body = x; among = List·Memᴰ·head refl; block-is = h; place-is = body-here k x xs (eq-eqb k (x .block) (sym h)) }
+here-has k x xs h =
+    record { body = x; among = List·Memᴰ·head refl; block-is = h; place-is = body-here k x xs (eq-eqb k (x .block) (sym h)) }
 
 later-has : (k : ℕ) (x : Body) (xs : List Body) → HasBody k xs → HasBody k (x ∷ xs)
 later-has k x xs h = by (eqb k (x .block)) refl
   where
     by : (t : Bool) → eqb k (x .block) ≡ t → HasBody k (x ∷ xs)
     by true q = here-has k x xs (sym (eqb-true k (x .block) q))
-    by false q = record { body = h .body; among = List·Memᴰ·tail (h .among); block-is = h .block-is; place-is = body-later k x xs q ∙ h .place-is }
+    by false q =
+        record { body = h .body; among = List·Memᴰ·tail (h .among); block-is = h .block-is; place-is = body-later k x xs q ∙ h .place-is }
 
 -- something can reach block k
 abbrev pub Wanted : ℕ → List Arm → ℕ → Type 0
@@ -201,11 +208,12 @@ pub record Own (def : ℕ) (arms : List Arm) (n k : ℕ) (xs : List Body) (x : B
 
 module _ (s : List ℕ) (rec : Rec) (arms : List Arm) (def : ℕ) where
   -- a wanted block has a body
-  pub lay-has : (n k b : ℕ) (p : Pools) (j : ℕ) → k ≤ j → j < k + n → Wanted def arms j
+  lay-has : (n k b : ℕ) (p : Pools) (j : ℕ) → k ≤ j → j < k + n → Wanted def arms j
       → HasBody j (layBodies s rec arms def n k b p .bodies)
   unfolding layBodies
   lay-has zero k b p j h h′ v = absurd (omega arith)
-  lay-has (suc n) k b p j h h′ v = by (eqb def (suc k) || wanted k arms) refl (λ b′ p′ le. lay-has n (suc k) b′ p′ j le (omega arith) v) (eqb k j) refl
+  lay-has (suc n) k b p j h h′ v =
+      by (eqb def (suc k) || wanted k arms) refl (λ b′ p′ le. lay-has n (suc k) b′ p′ j le (omega arith) v) (eqb k j) refl
     where
       by : (t : Bool) → (eqb def (suc k) || wanted k arms) ≡ t
           → ((b′ : ℕ) (p′ : Pools) → suc k ≤ j → HasBody j (layBodies s rec arms def n (suc k) b′ p′ .bodies))
@@ -232,17 +240,20 @@ module _ (s : List ℕ) (rec : Rec) (arms : List Arm) (def : ℕ) where
     place-is = body-later (x .block) y xs (ne-eqb (x .block) (y .block) (λ e. let le = o .from in omega arith)) ∙ o .place-is;
   }
 
-  pub lay-own : (n k b : ℕ) (p : Pools) (x : Body) → List·Memᴰ x (layBodies s rec arms def n k b p .bodies)
+  lay-own : (n k b : ℕ) (p : Pools) (x : Body) → List·Memᴰ x (layBodies s rec arms def n k b p .bodies)
       → Own def arms n k (layBodies s rec arms def n k b p .bodies) x
   unfolding layBodies
   lay-own zero k b p x m = absurd (List·Memᴰ·not-nil m)
   lay-own (suc n) k b p x m = by (eqb def (suc k) || wanted k arms) refl (λ b′ p′. lay-own n (suc k) b′ p′ x) m
     where
       by : (t : Bool) → (eqb def (suc k) || wanted k arms) ≡ t
-          → ((b′ : ℕ) (p′ : Pools) → List·Memᴰ x (layBodies s rec arms def n (suc k) b′ p′ .bodies) → Own def arms n (suc k) (layBodies s rec arms def n (suc k) b′ p′ .bodies) x)
-          → List·Memᴰ x (layBodies s rec arms def (suc n) k b p .bodies) → Own def arms (suc n) k (layBodies s rec arms def (suc n) k b p .bodies) x
+          → ((b′ : ℕ) (p′ : Pools) → List·Memᴰ x (layBodies s rec arms def n (suc k) b′ p′ .bodies)
+          → Own def arms n (suc k) (layBodies s rec arms def n (suc k) b′ p′ .bodies) x)
+          → List·Memᴰ x (layBodies s rec arms def (suc n) k b p .bodies)
+          → Own def arms (suc n) k (layBodies s rec arms def (suc n) k b p .bodies) x
       by true q f = rw (bodies-lay s rec arms def n k b p q)
-          (λ m′. ⊎-elim (λ e. subst (Own def arms (suc n) k _) (sym e) (own-here n k _ _ refl q)) (λ m″. own-later n k _ _ x refl (f _ _ m″)) (List·Memᴰ·cases-cons m′))
+          (λ m′. ⊎-elim (λ e. subst (Own def arms (suc n) k _) (sym e) (own-here n k _ _ refl q))
+          (λ m″. own-later n k _ _ x refl (f _ _ m″)) (List·Memᴰ·cases-cons m′))
       by false q f = rw (bodies-skip s rec arms def n k b p q)
           (λ m′. let o = f _ _ m′ in record { from = omega arith; below = omega arith; wants = o .wants; place-is = o .place-is })
 
@@ -259,7 +270,10 @@ body-from s rec hs b (y ∷ xs) h x m = by (List·Memᴰ·cases-cons m) (body-fr
     first : BodyFrom s rec hs b y
     first =
         let q = h .0 .place-is in
-        record { from = omega arith; lowered = subst (λ (n : ℕ). Lowered rec hs (bodyOf s (y .block)) n 1 (y .code)) (sym q) (h .0 .lowered) }
+        record {
+          from = omega arith;
+          lowered = subst (λ (n : ℕ). Lowered rec hs (bodyOf s (y .block)) n 1 (y .code)) (sym q) (h .0 .lowered);
+        }
 
     by : (x ≡ y) ⊎ List·Memᴰ x xs → (List·Memᴰ x xs → BodyFrom s rec hs (b + length (y .code) + 1) x) → BodyFrom s rec hs b x
     by (inl e) k = subst (BodyFrom s rec hs b) (sym e) first
@@ -286,7 +300,7 @@ module _ (s : List ℕ) (rec : Rec) (hs : List Chain) (w : Code) (end : ℕ) whe
       let r = stands-rest (stands-right (x .code) (ins (Jump end) overValue noPos ∷ c) g) in
       stands-at (omega arith) r
 
-  pub bodies-stand-each : (b : ℕ) (xs : List Body) → BodiesAt s rec hs b xs → Stands w b (bodiesCode end xs) → (x : Body) → List·Memᴰ x xs
+  bodies-stand-each : (b : ℕ) (xs : List Body) → BodiesAt s rec hs b xs → Stands w b (bodiesCode end xs) → (x : Body) → List·Memᴰ x xs
       → BodyStands w end x
   unfolding bodiesCode
   bodies-stand-each b [] h g x m = absurd (List·Memᴰ·not-nil m)
@@ -295,12 +309,13 @@ module _ (s : List ℕ) (rec : Rec) (hs : List Chain) (w : Code) (end : ℕ) whe
       (λ n. bodies-stand-each (b + length (y .code) + 1) xs (h .1) (behind-stands b y (bodiesCode end xs) g) x n)
       (List·Memᴰ·cases-cons m)
 
-  pub fall-stand-each : (b : ℕ) (xs : List Body) → BodiesAt s rec hs b xs → b + fallExtent xs ≡ end → Stands w b (bodiesFall end xs)
+  fall-stand-each : (b : ℕ) (xs : List Body) → BodiesAt s rec hs b xs → b + fallExtent xs ≡ end → Stands w b (bodiesFall end xs)
       → (x : Body) → List·Memᴰ x xs → BodyStands w end x
   unfolding bodiesFall fallExtent
   fall-stand-each b [] h q g x m = absurd (List·Memᴰ·not-nil m)
   fall-stand-each b (y ∷ []) h q g x m =
-      ⊎-elim (λ e. subst (BodyStands w end) (sym e) (record { stands = stands-at (sym (h .0 .place-is)) g; leaves = inl (ap (λ (n : ℕ). n + length (y .code)) (h .0 .place-is) ∙ q) }))
+      ⊎-elim (λ e. subst (BodyStands w end) (sym e)
+      (record { stands = stands-at (sym (h .0 .place-is)) g; leaves = inl (ap (λ (n : ℕ). n + length (y .code)) (h .0 .place-is) ∙ q) }))
       (λ n. absurd (List·Memᴰ·not-nil n))
       (List·Memᴰ·cases-cons m)
   fall-stand-each b (y ∷ z ∷ xs) h q g x m =
@@ -311,7 +326,7 @@ module _ (s : List ℕ) (rec : Rec) (hs : List Chain) (w : Code) (end : ℕ) whe
 -- ---- a whole switch laid out
 
 -- hs are all chains at the end
-pub record LaidOut (s : List ℕ) (rec : Rec) (hs : List Chain) (l : Layout) : Type 0 where
+pub record LaidOut (s : List ℕ) (rec : Rec) (hs : List Chain) (l : SwitchLaid) : Type 0 where
   pub places : Laid l
   pub subject-lowered : Lowered rec hs subject 0 0 (l .subjectCode)
   pub splits-are : l .splits ≡ split (rangesOf s)
@@ -339,7 +354,7 @@ module _ (s : List ℕ) (rec : Rec) (hs : List Chain) where
   case-arms-at [] b arms h = h
   case-arms-at (e ∷ es) b arms h = drop-at s rec hs b arms h
 
-  case-arms-fall : (def : ℕ) (es : List Split.Entry) (l : Layout) (b : ℕ) (arms : List Arm) → AllJump arms
+  case-arms-fall : (def : ℕ) (es : List Split.Entry) (l : SwitchLaid) (b : ℕ) (arms : List Arm) → AllJump arms
       → b + armsExtent (caseArmsOf es arms) ≡ l .dispatch → FallTo (fallbackAt def es l) b (caseArmsOf es arms)
   unfolding caseArmsOf fallbackAt
   case-arms-fall def [] l b arms h q = arms-fall (defaultAt def l) b arms h
@@ -366,7 +381,8 @@ module _ (s : List ℕ) (rec : Rec) (hs : List Chain) where
   unfolding layRanges
   range-arms-fall fb [] b p = tt
   range-arms-fall fb (e ∷ es) b p =
-      arms-fall fb (b + 1) (layRanges s rec (e ∷ es) b p .arms) (arms-jump s rec (distinct (map (λ (x : Split.Entry). x .blocks) (e ∷ es))) (b + 1) (emits 1 p))
+      arms-fall fb (b + 1) (layRanges s rec (e ∷ es) b p .arms)
+      (arms-jump s rec (distinct (map (λ (x : Split.Entry). x .blocks) (e ∷ es))) (b + 1) (emits 1 p))
 
   pub layout-out : Meets rec → Grows (layout s rec .pools .chains) hs → LaidOut s rec hs (layout s rec)
   unfolding layout layCases emits noPools
@@ -378,7 +394,8 @@ module _ (s : List ℕ) (rec : Rec) (hs : List Chain) where
       let at-ranges = length (o .code) + 1 + armsExtent cs in
       let r = layRanges s rec es at-ranges (c .pools) in
       let at-bodies = layout s rec .bodiesPlace in
-      let g₁ : Grows (r .pools .chains) hs = grows-trans (bodies-grow s rec M (cs ++ r .arms) (defaultBlock s) (blockCount s) 0 at-bodies (r .pools)) g in
+      let g₁ : Grows (r .pools .chains) hs =
+      grows-trans (bodies-grow s rec M (cs ++ r .arms) (defaultBlock s) (blockCount s) 0 at-bodies (r .pools)) g in
       let g₂ : Grows (c .pools .chains) hs = grows-trans (ranges-grow M es at-ranges (c .pools)) g₁ in
       let g₃ : Grows (o .pools .chains) hs = grows-trans (arms-grow s rec M _ (length (o .code) + 1) (emits 1 (o .pools))) g₂ in
       record {
@@ -387,44 +404,33 @@ module _ (s : List ℕ) (rec : Rec) (hs : List Chain) where
         splits-are = refl;
         case-arms = case-arms-at es _ _ (arms-at s rec hs M _ (length (o .code) + 1) (emits 1 (o .pools)) g₂);
         case-lists = case-arms-blocks es (c .arms) ∙ arms-blocks s rec _ (length (o .code) + 1) (emits 1 (o .pools));
-        cases-fall = λ def. case-arms-fall def es (layout s rec) _ (c .arms) (arms-jump s rec _ (length (o .code) + 1) (emits 1 (o .pools))) refl;
+        cases-fall =
+            λ def. case-arms-fall def es (layout s rec) _ (c .arms) (arms-jump s rec _ (length (o .code) + 1) (emits 1 (o .pools))) refl;
         range-arms = range-arms-at M es at-ranges (c .pools) g₁;
         range-lists = range-arms-blocks es at-ranges (c .pools);
         ranges-fall = λ fb. range-arms-fall fb es at-ranges (c .pools);
         bodies-lowered = bodies-at s rec hs M (cs ++ r .arms) (defaultBlock s) (blockCount s) 0 at-bodies (r .pools) g;
-        body-has = λ k h v. lay-has s rec (cs ++ r .arms) (defaultBlock s) (blockCount s) 0 at-bodies (r .pools) k (omega arith) (omega arith) v;
+        body-has =
+            λ k h v. lay-has s rec (cs ++ r .arms) (defaultBlock s) (blockCount s) 0 at-bodies (r .pools) k (omega arith) (omega arith) v;
         body-own = lay-own s rec (cs ++ r .arms) (defaultBlock s) (blockCount s) 0 at-bodies (r .pools);
       }
 
 -- ---- the parts of a switch that is laid out stand in its code
 
-module _ (s : List ℕ) (rec : Rec) (hs : List Chain) (l : Layout) (L : LaidOut s rec hs l) (def : ℕ) where
-  pub case-arm-stands : (a : Arm) → List·Memᴰ a (l .caseArms)
-      → ArmStands s rec hs (switchCode def l) (l .bodies) (fallbackAt def (l .splits) l) a
-  case-arm-stands = arm-stands s rec hs (switchCode def l) (l .bodies) (fallbackAt def (l .splits) l) (length (l .subjectCode) + 1) (l .caseArms) (L .case-arms) (L .cases-fall def) (cases-stand def l (L .places))
-
+module _ (s : List ℕ) (rec : Rec) (hs : List Chain) (l : SwitchLaid) (L : LaidOut s rec hs l) (def : ℕ) where
   -- the second Switch, where there are split ranges
   pub dispatch-stands : (e : Split.Entry) (es : List Split.Entry) → l .splits ≡ e ∷ es
       → Stands (switchCode def l) (l .dispatch) (ins (Switch 1) overSubject noPos ∷ armsCode (l .bodies) (defaultAt def l) (l .rangeArms))
   unfolding rangesCode
-  dispatch-stands e es q = subst (λ (x : List Split.Entry). Stands (switchCode def l) (l .dispatch) (rangesCode (l .bodies) (defaultAt def l) x (l .rangeArms))) q (ranges-stand def l (L .places))
+  dispatch-stands e es q =
+      subst (λ (x : List Split.Entry). Stands (switchCode def l) (l .dispatch) (rangesCode (l .bodies) (defaultAt def l) x (l .rangeArms)))
+      q (ranges-stand def l (L .places))
 
   pub range-arms-stand : (e : Split.Entry) (es : List Split.Entry) → l .splits ≡ e ∷ es
       → Stands (switchCode def l) (l .dispatch + 1) (armsCode (l .bodies) (defaultAt def l) (l .rangeArms))
   range-arms-stand e es q = stands-at (sym (add-one (l .dispatch))) (stands-rest (dispatch-stands e es q))
 
-  pub range-arm-stands : (a : Arm) → List·Memᴰ a (l .rangeArms) → ArmStands s rec hs (switchCode def l) (l .bodies) (defaultAt def l) a
-  unfolding distinct distinctFrom
-  range-arm-stands a m = by (l .splits) refl
-    where
-      by : (es : List Split.Entry) → l .splits ≡ es → ArmStands s rec hs (switchCode def l) (l .bodies) (defaultAt def l) a
-      by [] q =
-          let none : blocksOf (l .rangeArms) ≡ [] = L .range-lists ∙ ap (λ (x : List Split.Entry). distinct (map (λ (e : Split.Entry). e .blocks) x)) q in
-          absurd (List·Memᴰ·not-nil (subst (List·Memᴰ (a .blocks)) none (Memᴰ·map (λ (y : Arm). y .blocks) m)))
-      by (e ∷ es) q =
-          arm-stands s rec hs (switchCode def l) (l .bodies) (defaultAt def l) (l .dispatch + 1) (l .rangeArms) (L .range-arms) (L .ranges-fall (defaultAt def l)) (range-arms-stand e es q) a m
-
-pub body-stands : (s : List ℕ) (rec : Rec) (hs : List Chain) (l : Layout) → LaidOut s rec hs l → (def : ℕ) (x : Body)
+pub body-stands : (s : List ℕ) (rec : Rec) (hs : List Chain) (l : SwitchLaid) → LaidOut s rec hs l → (def : ℕ) (x : Body)
     → List·Memᴰ x (l .bodies) → BodyStands (switchCode def l) (endAt def l) x
 unfolding defaultCode endAt
 body-stands s rec hs l L zero x m =
@@ -432,12 +438,14 @@ body-stands s rec hs l L zero x m =
     (stands-left _ (ins Unit overSubject noPos ∷ []) (bodies-stand zero l (L .places)))
     x m
 body-stands s rec hs l L (suc k) x m =
-    fall-stand-each s rec hs (switchCode (suc k) l) (endAt (suc k) l) (l .bodiesPlace) (l .bodies) (L .bodies-lowered) refl (bodies-stand (suc k) l (L .places)) x m
+    fall-stand-each s rec hs (switchCode (suc k) l) (endAt (suc k) l) (l .bodiesPlace) (l .bodies) (L .bodies-lowered) refl
+    (bodies-stand (suc k) l (L .places)) x m
 
 -- the Unit of a missing default
-pub missing-stands : (l : Layout) → Laid l → Stands (switchCode 0 l) (defaultAt 0 l) (ins Unit overSubject noPos ∷ [])
+pub missing-stands : (l : SwitchLaid) → Laid l → Stands (switchCode 0 l) (defaultAt 0 l) (ins Unit overSubject noPos ∷ [])
 unfolding defaultCode defaultAt
 missing-stands l h =
     let all = bodies-stand 0 l h in
-    let first : Stands (switchCode 0 l) (l .bodiesPlace) (bodiesCode (endAt 0 l) (l .bodies)) = stands-left _ (ins Unit overSubject noPos ∷ []) all in
+    let first : Stands (switchCode 0 l) (l .bodiesPlace) (bodiesCode (endAt 0 l) (l .bodies)) =
+    stands-left _ (ins Unit overSubject noPos ∷ []) all in
     stands-at (ap (λ (n : ℕ). l .bodiesPlace + n) (bodies-length (endAt 0 l) (l .bodies))) (stands-next first all)

@@ -6,13 +6,15 @@ use native.Mathlib.Omega.{arith}
 use native.Mathlib.Nat.{zero-add}
 use lib.ListN.{length, length-append}
 use Rattle.bytecode.specs.declared.Op.the-variants.{Unit, Jump, JumpIfTrue, Rotate, Pop, Switch}
-use Rattle.cases.specs.Split as Split
+use Rattle.switch_split.specs.Split as Split
 use Rattle.lowering.specs.Code.{Code, ins, noPos}
 use Rattle.lowering.specs.Out.{Rec}
-use Rattle.lowering.specs.Arms.{Try, End, taken, declined, idle, Entry, toBody, toChain, toFallback, Arm, triesExtent, endExtent, entryExtent, armsExtent}
+use Rattle.lowering.specs.Arms.{Try, End, taken, declined, idle, Entry, toBody, toChain, toFallback, Arm, triesExtent, endExtent}
+use Rattle.lowering.specs.Arms.{entryExtent, armsExtent}
 use Rattle.lowering.specs.Bodies.{Body, bodiesExtent, fallExtent, bodyAt}
-use Rattle.lowering.specs.SwitchLayout.{Layout, layout, rangesExtent}
-use Rattle.lowering.specs.SwitchCode.{overSubject, overValue, defaultAt, endAt, fallbackAt, triesCode, endCode, entryCode, armsCode, rangesCode, bodiesCode, bodiesFall, defaultCode, switchCode}
+use Rattle.lowering.specs.SwitchLaid.{SwitchLaid, layout, rangesExtent}
+use Rattle.lowering.specs.SwitchCode.{overSubject, overValue, defaultAt, endAt, fallbackAt, triesCode, endCode, entryCode, armsCode}
+use Rattle.lowering.specs.SwitchCode.{rangesCode, bodiesCode, bodiesFall, defaultCode, switchCode}
 use Rattle.lowering.proofs.Stands.{Stands, stands-whole, stands-at, stands-left, stands-next}
 
 -- ---- extents are lengths
@@ -26,7 +28,7 @@ module _ (bodies : List Body) where
       let e = length-append (t .code) (ins (JumpIfTrue (bodyAt (t .block) bodies)) overValue (t .pos) ∷ triesCode bodies ts) in
       omega arith
 
-  pub end-length : (fallback : ℕ) (e : End) → length (endCode bodies fallback e) ≡ endExtent e
+  end-length : (fallback : ℕ) (e : End) → length (endCode bodies fallback e) ≡ endExtent e
   unfolding endCode endExtent
   end-length fallback (taken k) = refl
   end-length fallback declined = refl
@@ -68,7 +70,7 @@ fall-length end (x ∷ y ∷ xs) =
     omega arith
 
 -- bodies and default end where the switch ends
-pub default-length : (def : ℕ) (l : Layout) → l .bodiesPlace + length (defaultCode def (endAt def l) (l .bodies)) ≡ endAt def l
+pub default-length : (def : ℕ) (l : SwitchLaid) → l .bodiesPlace + length (defaultCode def (endAt def l) (l .bodies)) ≡ endAt def l
 unfolding defaultCode endAt
 default-length zero l =
     let end = l .bodiesPlace + bodiesExtent (l .bodies) + 1 in
@@ -82,7 +84,7 @@ default-length (suc k) l =
 -- ---- where the parts stand
 
 -- the places of a layout follow from its parts
-pub record Laid (l : Layout) : Type 0 where
+pub record Laid (l : SwitchLaid) : Type 0 where
   pub dispatch-is : l .dispatch ≡ length (l .subjectCode) + 1 + armsExtent (l .caseArms)
   pub bodies-are : l .bodiesPlace ≡ l .dispatch + rangesExtent (l .splits) (l .rangeArms)
 
@@ -97,7 +99,7 @@ endingCode = ins (Rotate 1) overValue noPos ∷ ins Pop overValue noPos ∷ []
 abbrev pub firstSwitch : Code
 firstSwitch = ins (Switch 0) overSubject noPos ∷ []
 
-module _ (def : ℕ) (l : Layout) (h : Laid l) where
+module _ (def : ℕ) (l : SwitchLaid) (h : Laid l) where
   abbrev casesPart : Code
   casesPart = armsCode (l .bodies) (fallbackAt def (l .splits) l) (l .caseArms)
 

@@ -9,14 +9,15 @@ use native.Mathlib.Numerals.{add-one}
 use lib.ListN.{length}
 use Rattle.bytecode.specs.declared.Op.the-variants.{Unit, Jump, JumpIfTrue}
 use Rattle.bytecode.specs.declared.Chain.{Chain}
-use Rattle.cases.specs.Split as Split
+use Rattle.switch_split.specs.Split as Split
 use Rattle.lowering.specs.Code.{Code, ins, noPos}
 use Rattle.lowering.specs.Pools.{Pools}
 use Rattle.lowering.specs.Out.{Rec}
 use Rattle.lowering.specs.SwitchSheet.{guardOf, bodyOf}
 use Rattle.lowering.specs.Arms.{Try, End, taken, declined, idle, Entry, toBody, toChain, toFallback, Arm, triesExtent, entryExtent}
 use Rattle.lowering.specs.Bodies.{Body, bodyAt, bodiesExtent, fallExtent}
-use Rattle.lowering.specs.SwitchCode.{overSubject, overValue, triesCode, endCode, entryCode, armsCode, bodiesCode, bodiesFall, defaultCode}
+use Rattle.lowering.specs.SwitchCode.{overSubject, overValue, triesCode, endCode, entryCode, armsCode, bodiesCode, bodiesFall}
+use Rattle.lowering.specs.SwitchCode.{defaultCode}
 use Rattle.lowering.specs.SwitchTables.{target}
 use Rattle.lowering.proofs.Effect.{Context}
 use Rattle.lowering.proofs.Linked.{Closed, Reached, Linked, closed-left, closed-right, reached-append}
@@ -56,9 +57,13 @@ module _ (s : List ℕ) (rec : Rec) (hs : List Chain) (V′ : ℕ → Type 0) (K
         let at = g .behind R k₁ r in
         let go = k₂ .0 at in
         let e = add-one (b + length (t .code)) in
-        let more = tries-reached (b + length (t .code) + 1) ts (h .1) (v .1) (subst (λ (n : ℕ). Closed X R n (triesCode bodies ts)) (sym e) (k₂ .1)) (subst R (sym e) (go .1 .0)) in
-        let q : b + length (t .code) + 1 + triesExtent ts ≡ b + (length (t .code) + 1 + triesExtent ts) = omega arith in
-        (reached-append R b (t .code) rest (g .inside R k₁ r) (at, subst (λ (n : ℕ). Reached R n (triesCode bodies ts)) e (more .0)), subst R q (more .1), (go .0, more .2))
+        let more = tries-reached (b + length (t .code) + 1) ts (h .1) (v .1)
+        (subst (λ (n : ℕ). Closed X R n (triesCode bodies ts)) (sym e) (k₂ .1)) (subst R (sym e) (go .1 .0)) in
+        let q : b + length (t .code) + 1 + triesExtent ts ≡ b + (length (t .code) + 1 + triesExtent ts) = omega arith in (
+          reached-append R b (t .code) rest (g .inside R k₁ r) (at, subst (λ (n : ℕ). Reached R n (triesCode bodies ts)) e (more .0)),
+          subst R q (more .1),
+          (go .0, more .2),
+        )
 
     end-reached : (b : ℕ) (e : End) → Closed X R b (endCode bodies fb e) → R b
         → Reached R b (endCode bodies fb e) × EndNames (λ (k : ℕ). R (bodyAt k bodies)) e
@@ -74,8 +79,10 @@ module _ (s : List ℕ) (rec : Rec) (hs : List Chain) (V′ : ℕ → Type 0) (K
     entry-reached b ks (toBody k) h v c r = (tt, r)
     entry-reached b ks (toChain p ts e) h v c r =
         let n = tries-length bodies ts in
-        let g = tries-reached b ts (h .tries) (v .0) (closed-left X R b (triesCode bodies ts) (endCode bodies fb e) c) (subst R (h .place-is) r) in
-        let f = end-reached (b + triesExtent ts) e (behind-closed X R b (triesCode bodies ts) (endCode bodies fb e) (triesExtent ts) n c) (g .1) in
+        let g = tries-reached b ts (h .tries) (v .0) (closed-left X R b (triesCode bodies ts) (endCode bodies fb e) c)
+        (subst R (h .place-is) r) in
+        let f = end-reached (b + triesExtent ts) e (behind-closed X R b (triesCode bodies ts) (endCode bodies fb e) (triesExtent ts) n c)
+        (g .1) in
         (behind-reached X R b (triesCode bodies ts) (endCode bodies fb e) (triesExtent ts) n (g .0) (f .0), (g .2, f .1))
     entry-reached b ks toFallback h v c r = (tt, tt)
 
@@ -88,8 +95,10 @@ module _ (s : List ℕ) (rec : Rec) (hs : List Chain) (V′ : ℕ → Type 0) (K
     arms-reached b (a ∷ arms) h v c r =
         let first = entryCode bodies fb (a .entry) in
         let n = entry-length bodies fb (a .entry) in
-        let g = entry-reached b (a .blocks) (a .entry) (h .0) (v .0) (closed-left X R b first (armsCode bodies fb arms) c) (r a (List·Memᴰ·head refl)) in
-        let f = arms-reached (b + entryExtent (a .entry)) arms (h .1) (v .1) (behind-closed X R b first (armsCode bodies fb arms) (entryExtent (a .entry)) n c) (λ x m. r x (List·Memᴰ·tail m)) in
+        let g = entry-reached b (a .blocks) (a .entry) (h .0) (v .0) (closed-left X R b first (armsCode bodies fb arms) c)
+        (r a (List·Memᴰ·head refl)) in
+        let f = arms-reached (b + entryExtent (a .entry)) arms (h .1) (v .1)
+        (behind-closed X R b first (armsCode bodies fb arms) (entryExtent (a .entry)) n c) (λ x m. r x (List·Memᴰ·tail m)) in
         (behind-reached X R b first (armsCode bodies fb arms) (entryExtent (a .entry)) n (g .0) (f .0), (g .1, f .1))
 
   -- a body that is reached, and the jump behind it
@@ -100,14 +109,16 @@ module _ (s : List ℕ) (rec : Rec) (hs : List Chain) (V′ : ℕ → Type 0) (K
       let rest = ins (Jump end) overValue noPos ∷ c in
       let g = lowered-linked (bodyOf s (x .block)) b 1 (x .code) h v in
       let k₁ = closed-left X R b (x .code) rest k in
-      reached-append R b (x .code) rest (g .inside R k₁ r) (g .behind R k₁ r, subst (λ (n : ℕ). Reached R n c) (add-one (b + length (x .code))) more)
+      reached-append R b (x .code) rest (g .inside R k₁ r)
+      (g .behind R k₁ r, subst (λ (n : ℕ). Reached R n c) (add-one (b + length (x .code))) more)
 
   body-behind : (b : ℕ) (x : Body) (end : ℕ) (c : Code) → Closed X R b (x .code ++ (ins (Jump end) overValue noPos ∷ c))
       → Closed X R (b + length (x .code) + 1) c
   body-behind b x end c k =
-      subst (λ (n : ℕ). Closed X R n c) (sym (add-one (b + length (x .code)))) (closed-right X R b (x .code) (ins (Jump end) overValue noPos ∷ c) k .1)
+      subst (λ (n : ℕ). Closed X R n c) (sym (add-one (b + length (x .code))))
+      (closed-right X R b (x .code) (ins (Jump end) overValue noPos ∷ c) k .1)
 
-  pub bodies-reached : (b end : ℕ) (xs : List Body) → BodiesAt s rec hs b xs
+  bodies-reached : (b end : ℕ) (xs : List Body) → BodiesAt s rec hs b xs
       → ((x : Body) → List·Memᴰ x xs → V′ (bodyOf s (x .block)) × R (x .place)) → Closed X R b (bodiesCode end xs)
       → Reached R b (bodiesCode end xs)
   unfolding bodiesCode
@@ -117,7 +128,7 @@ module _ (s : List ℕ) (rec : Rec) (hs : List Chain) (V′ : ℕ → Type 0) (K
       body-reached b x end (bodiesCode end xs) (h .0 .lowered) (m .0) (subst R (h .0 .place-is) (m .1)) k
       (bodies-reached (b + length (x .code) + 1) end xs (h .1) (λ y n. f y (List·Memᴰ·tail n)) (body-behind b x end (bodiesCode end xs) k))
 
-  pub fall-reached : (b end : ℕ) (x : Body) (xs : List Body) → BodiesAt s rec hs b (x ∷ xs)
+  fall-reached : (b end : ℕ) (x : Body) (xs : List Body) → BodiesAt s rec hs b (x ∷ xs)
       → ((y : Body) → List·Memᴰ y (x ∷ xs) → V′ (bodyOf s (y .block)) × R (y .place)) → Closed X R b (bodiesFall end (x ∷ xs))
       → Reached R b (bodiesFall end (x ∷ xs)) × R (b + fallExtent (x ∷ xs))
   unfolding bodiesFall fallExtent
@@ -128,9 +139,12 @@ module _ (s : List ℕ) (rec : Rec) (hs : List Chain) (V′ : ℕ → Type 0) (K
       (g .inside R k r, g .behind R k r)
   fall-reached b end x (y ∷ xs) h f k =
       let m = f x (List·Memᴰ·head refl) in
-      let more = fall-reached (b + length (x .code) + 1) end y xs (h .1) (λ z n. f z (List·Memᴰ·tail n)) (body-behind b x end (bodiesFall end (y ∷ xs)) k) in
-      let q : b + length (x .code) + 1 + fallExtent (y ∷ xs) ≡ b + (length (x .code) + 1 + fallExtent (y ∷ xs)) = omega arith in
-      (body-reached b x end (bodiesFall end (y ∷ xs)) (h .0 .lowered) (m .0) (subst R (h .0 .place-is) (m .1)) k (more .0), subst R q (more .1))
+      let more = fall-reached (b + length (x .code) + 1) end y xs (h .1) (λ z n. f z (List·Memᴰ·tail n))
+      (body-behind b x end (bodiesFall end (y ∷ xs)) k) in
+      let q : b + length (x .code) + 1 + fallExtent (y ∷ xs) ≡ b + (length (x .code) + 1 + fallExtent (y ∷ xs)) = omega arith in (
+        body-reached b x end (bodiesFall end (y ∷ xs)) (h .0 .lowered) (m .0) (subst R (h .0 .place-is) (m .1)) k (more .0),
+        subst R q (more .1),
+      )
 
   -- bodies and default, from a default that is reached: all of them, and the end of the switch
   pub missing-reached : (b end : ℕ) (xs : List Body) → BodiesAt s rec hs b xs
@@ -142,8 +156,10 @@ module _ (s : List ℕ) (rec : Rec) (hs : List Chain) (V′ : ℕ → Type 0) (K
       let c′ = ins Unit overSubject noPos ∷ [] in
       let n = bodies-length end xs in
       let k₂ = behind-closed X R b (bodiesCode end xs) c′ (bodiesExtent xs) n k in
-      let g = bodies-reached b end xs h f (closed-left X R b (bodiesCode end xs) c′ k) in
-      (behind-reached X R b (bodiesCode end xs) c′ (bodiesExtent xs) n g (r, tt), subst R (sym (add-one (b + bodiesExtent xs)) ∙ q) (k₂ .0 r .0))
+      let g = bodies-reached b end xs h f (closed-left X R b (bodiesCode end xs) c′ k) in (
+        behind-reached X R b (bodiesCode end xs) c′ (bodiesExtent xs) n g (r, tt),
+        subst R (sym (add-one (b + bodiesExtent xs)) ∙ q) (k₂ .0 r .0),
+      )
 
   pub given-reached : (k b end : ℕ) (xs : List Body) → HasBody k xs → BodiesAt s rec hs b xs
       → ((x : Body) → List·Memᴰ x xs → V′ (bodyOf s (x .block)) × R (x .place)) → b + fallExtent xs ≡ end

@@ -5,12 +5,14 @@ use mathlib.Core.List.{List, [], _∷_, List·Memᴰ·not-nil}
 use native.Mathlib.Omega.{arith}
 use lib.ListN.{length}
 use Rattle.bytecode.specs.declared.Op.the-variants.{Unit, Jump, JumpIfTrue, Rotate, Pop}
-use Rattle.cases.specs.Split as Split
+use Rattle.switch_split.specs.Split as Split
 use Rattle.lowering.specs.Code.{Code, ins, noPos}
 use Rattle.lowering.specs.Out.{Rec}
-use Rattle.lowering.specs.Arms.{Try, End, taken, declined, idle, Entry, toBody, toChain, toFallback, Arm, triesExtent, endExtent, entryExtent, armsExtent}
+use Rattle.lowering.specs.Arms.{Try, End, taken, declined, idle, Entry, toBody, toChain, toFallback, Arm, triesExtent, endExtent}
+use Rattle.lowering.specs.Arms.{entryExtent, armsExtent}
 use Rattle.lowering.specs.Bodies.{Body, bodyAt, bodiesExtent, fallExtent}
-use Rattle.lowering.specs.SwitchCode.{overSubject, overValue, triesCode, endCode, entryCode, armsCode, bodiesCode, bodiesFall, defaultCode}
+use Rattle.lowering.specs.SwitchCode.{overSubject, overValue, triesCode, endCode, entryCode, armsCode, bodiesCode, bodiesFall}
+use Rattle.lowering.specs.SwitchCode.{defaultCode}
 use Rattle.lowering.proofs.Effect.{Context}
 use Rattle.lowering.proofs.Typed.{Outside, Nothing, Exit, Sound, seq, none, one, weaken}
 use Rattle.lowering.proofs.Meets.{Meets}
@@ -48,7 +50,8 @@ module _ (s : List ℕ) (rec : Rec) (M : Meets rec) (X : Context) (bodies : List
   tries-sound b [] h n le = none
   tries-sound b (t ∷ ts) h n le =
       let first = lowered-sound rec M X {O = Ahead bodies lo fb} _ b 1 (t .code) (h .0 .lowered) in
-      let jump = one {X = X} {O = Ahead bodies lo fb} {b = b + length (t .code)} {d = 2} {e = 1} (ins (JumpIfTrue (bodyAt (t .block) bodies)) overValue (t .pos)) refl
+      let jump = one {X = X} {O = Ahead bodies lo fb} {b = b + length (t .code)} {d = 2} {e = 1}
+      (ins (JumpIfTrue (bodyAt (t .block) bodies)) overValue (t .pos)) refl
       (λ A N o a e m. let q = o .to-body (t .block) (n .0) in omega arith) in
       seq first (seq jump (tries-sound (b + length (t .code) + 1) ts (h .1) (n .1) (omega arith)))
 
@@ -74,7 +77,8 @@ module _ (s : List ℕ) (rec : Rec) (M : Meets rec) (X : Context) (bodies : List
   arms-sound b [] h n le = none
   arms-sound b (a ∷ arms) h n le =
       seq (entry-sound b (a .blocks) (a .entry) (h .0) (n .0) (omega arith))
-      (sound-at (ap (λ (m : ℕ). b + m) (sym (entry-length bodies fb (a .entry)))) (arms-sound (b + entryExtent (a .entry)) arms (h .1) (n .1) (omega arith)))
+      (sound-at (ap (λ (m : ℕ). b + m) (sym (entry-length bodies fb (a .entry))))
+      (arms-sound (b + entryExtent (a .entry)) arms (h .1) (n .1) (omega arith)))
 
 -- ---- bodies: each goes to the end, with the value over the subject
 
@@ -82,7 +86,7 @@ module _ (s : List ℕ) (rec : Rec) (M : Meets rec) (X : Context) (end : ℕ) wh
   leave-sound : (b : ℕ) → b + 1 ≤ end → Sound X (Exit end 2) b 2 1 (ins (Jump end) overValue noPos ∷ [])
   leave-sound b le = one (ins (Jump end) overValue noPos) refl (λ A N o a e n. omega arith)
 
-  pub bodies-sound : (b : ℕ) (xs : List Body) → BodiesAt s rec (X .chains) b xs → b + bodiesExtent xs ≤ end
+  bodies-sound : (b : ℕ) (xs : List Body) → BodiesAt s rec (X .chains) b xs → b + bodiesExtent xs ≤ end
       → Sound X (Exit end 2) b 1 1 (bodiesCode end xs)
   unfolding bodiesCode bodiesExtent
   bodies-sound b [] h le = none
@@ -90,7 +94,7 @@ module _ (s : List ℕ) (rec : Rec) (M : Meets rec) (X : Context) (end : ℕ) wh
       seq (lowered-sound rec M X _ b 1 (x .code) (h .0 .lowered))
       (seq (leave-sound (b + length (x .code)) (omega arith)) (bodies-sound (b + length (x .code) + 1) xs (h .1) (omega arith)))
 
-  pub fall-sound : (b : ℕ) (x : Body) (xs : List Body) → BodiesAt s rec (X .chains) b (x ∷ xs) → b + fallExtent (x ∷ xs) ≤ end
+  fall-sound : (b : ℕ) (x : Body) (xs : List Body) → BodiesAt s rec (X .chains) b (x ∷ xs) → b + fallExtent (x ∷ xs) ≤ end
       → Sound X (Exit end 2) b 1 2 (bodiesFall end (x ∷ xs))
   unfolding bodiesFall fallExtent
   fall-sound b x [] h le = lowered-sound rec M X _ b 1 (x .code) (h .0 .lowered)

@@ -6,17 +6,19 @@ use mathlib.Core.List.{List, [], _∷_, _++_, map, List·Memᴰ, List·Memᴰ·h
 use native.Mathlib.Omega.{arith}
 use native.Mathlib.Nat.{add-zero, zero-add}
 use lib.ListN.{length, length-append}
+use Rattle.lowering.proofs.WholeLaws.{depth-end}
 use Rattle.bytecode.specs.declared.Op.the-variants.{Switch}
 use Rattle.bytecode.specs.declared.Chain.{Chain}
-use Rattle.cases.specs.Split as Split
+use Rattle.switch_split.specs.Split as Split
 use Rattle.lowering.specs.Code.{Ins, Code, ins, noPos}
 use Rattle.lowering.specs.Pools.{Pools, emits, pushConst, constOf}
 use Rattle.lowering.specs.Out.{Rec}
 use Rattle.lowering.specs.SwitchSheet.{defaultBlock, subject, casesOf, caseBlocks, bodyOf}
 use Rattle.lowering.specs.Arms.{Entry, toBody, toChain, toFallback, Arm, entryExtent, armsExtent}
 use Rattle.lowering.specs.Bodies.{bodyAt}
-use Rattle.lowering.specs.SwitchLayout.{Layout, layout, rangesExtent}
-use Rattle.lowering.specs.SwitchCode.{overSubject, defaultAt, endAt, fallbackAt, entryCode, armsCode, rangesCode, defaultCode, switchCode, lastEmits}
+use Rattle.lowering.specs.SwitchLaid.{SwitchLaid, layout, rangesExtent}
+use Rattle.lowering.specs.SwitchCode.{overSubject, defaultAt, endAt, fallbackAt, entryCode, armsCode, rangesCode, defaultCode}
+use Rattle.lowering.specs.SwitchCode.{switchCode, lastEmits}
 use Rattle.lowering.specs.SwitchTables.{entryOf, target, casePools, rangeTable}
 use Rattle.lowering.specs.Switch.{switchOf, switch}
 use Rattle.lowering.specs.All.{All}
@@ -25,14 +27,17 @@ use Rattle.lowering.proofs.Typed.{Outside, Nothing, Goes, Exit, Agree, 
 use Rattle.lowering.proofs.Meets.{Meets, Grows, grows-refl}
 use Rattle.lowering.proofs.Whole.{targetsOf, contextOf, depthAt, WellTyped}
 use Rattle.lowering.proofs.Stands.{Stands, stands-within, agree-part}
-use Rattle.lowering.proofs.SwitchPlaces.{arms-length, ranges-length, default-length, entry-length, firstSwitch, cases-stand, ending-stands}
+use Rattle.lowering.proofs.SwitchPlaces.{arms-length, ranges-length, default-length, entry-length, firstSwitch, cases-stand}
+use Rattle.lowering.proofs.SwitchPlaces.{ending-stands}
 use Rattle.lowering.proofs.Lowered.{EntryAt, ArmsAt}
 use Rattle.lowering.proofs.SwitchEntries.{entry-any}
-use Rattle.lowering.proofs.SwitchParts.{HasBody, LaidOut, ArmStands, arm-stands-from, layout-out, body-from, body-stands, FallTo, dispatch-stands, range-arms-stand, missing-stands}
+use Rattle.lowering.proofs.SwitchParts.{HasBody, LaidOut, ArmStands, arm-stands-from, layout-out, body-from, body-stands, FallTo}
+use Rattle.lowering.proofs.SwitchParts.{dispatch-stands, range-arms-stand, missing-stands}
 use Rattle.lowering.proofs.SwitchTargets.{caseTarget, rangeTarget, case-targets, range-targets}
 use Rattle.lowering.proofs.SwitchNames.{EntryNames, ArmNames, names-at}
 use Rattle.lowering.proofs.SwitchBlocks.{Blocks, case-names, range-names, default-has}
-use Rattle.lowering.proofs.SwitchSound.{Aim, sound-at, lowered-sound, entry-sound, arms-sound, missing-sound, given-sound, ending-sound}
+use Rattle.lowering.proofs.SwitchSound.{Aim, sound-at, lowered-sound, entry-sound, arms-sound, missing-sound, given-sound}
+use Rattle.lowering.proofs.SwitchSound.{ending-sound}
 
 -- ---- depths at the places of parts
 
@@ -45,14 +50,14 @@ first-depth A b d e [] n h g = absurd (omega arith)
 first-depth A b d e (i ∷ c) n h g = g .0 ∙ h
 
 -- where sound code stands, the depth is the one it starts with
-pub sound-first : {X : Context} {O : Outside} {w c : Code} {b d e : ℕ} (A : ℕ → ℕ) (N : ℕ) → Sound X O b d e c → 0 < length c → Stands w b c
+sound-first : {X : Context} {O : Outside} {w c : Code} {b d e : ℕ} (A : ℕ → ℕ) (N : ℕ) → Sound X O b d e c → 0 < length c → Stands w b c
     → Within w A N → Exit b d A N
 sound-first {c = c} {b = b} {d = d} {e = e} A N h n g o =
     let le = stands-within g in
     let le′ = o .1 in
     (omega arith, first-depth A b d e c n (h .starts) (agree-part A g (o .0)))
 
-pub ins-first : {w c : Code} {b : ℕ} {i : Ins} (A : ℕ → ℕ) (N : ℕ) → Stands w b (i ∷ c) → Within w A N → Exit b (i .depth) A N
+ins-first : {w c : Code} {b : ℕ} {i : Ins} (A : ℕ → ℕ) (N : ℕ) → Stands w b (i ∷ c) → Within w A N → Exit b (i .depth) A N
 ins-first {i = i} A N g o =
     let le = stands-within g in
     let le′ = o .1 in
@@ -80,18 +85,19 @@ unfolding casePools pushConst
 case-pools-chains s [] p = refl
 case-pools-chains s (c ∷ cs) p = case-pools-chains s cs (pushConst s (constOf s (Rattle.sheet.specs.Node.child c)) p)
 
-pub switch-chains : (s : List ℕ) (def : ℕ) (l : Layout) → switchOf s def l .pools .chains ≡ l .pools .chains
+switch-chains : (s : List ℕ) (def : ℕ) (l : SwitchLaid) → switchOf s def l .pools .chains ≡ l .pools .chains
 unfolding switchOf emits
 switch-chains s def l = case-pools-chains s (casesOf s) (emits (lastEmits def) (l .pools))
 
 -- a switch laid out whose named blocks and default have bodies
-pub record Ready (s : List ℕ) (rec : Rec) (def : ℕ) (X : Context) (l : Layout) : Type 0 where
+pub record Ready (s : List ℕ) (rec : Rec) (def : ℕ) (X : Context) (l : SwitchLaid) : Type 0 where
   pub out : LaidOut s rec (X .chains) l
   pub case-bodies : ArmNames (λ (k : ℕ). HasBody k (l .bodies)) (l .caseArms)
   pub range-bodies : ArmNames (λ (k : ℕ). HasBody k (l .bodies)) (l .rangeArms)
   pub default-body : (k : ℕ) → def ≡ suc k → HasBody k (l .bodies)
 
-module _ (s : List ℕ) (rec : Rec) (M : Meets rec) (def : ℕ) (X : Context) (l : Layout) (Y : Ready s rec def X l) (A : ℕ → ℕ) (N : ℕ) (W : Within (switchCode def l) A N) where
+module _ (s : List ℕ) (rec : Rec) (M : Meets rec) (def : ℕ) (X : Context) (l : SwitchLaid) (Y : Ready s rec def X l) (A : ℕ → ℕ) (N : ℕ)
+    (W : Within (switchCode def l) A N) where
   body-aim : (k : ℕ) → HasBody k (l .bodies) → Aim (l .bodiesPlace) 1 (bodyAt k (l .bodies)) A N
   body-aim k h =
       let x = h .body in
@@ -135,7 +141,10 @@ module _ (s : List ℕ) (rec : Rec) (M : Meets rec) (def : ℕ) (X : Context) (l
       by (toBody k) h t m = let q = body-aim k m in omega arith
       by (toChain p ts e) h t m =
           let n′ = entry-length (l .bodies) fb (toChain p ts e) in
-          let x = sound-first A N (entry-sound s rec M X (l .bodies) (g .place + entryExtent (toChain p ts e)) fb (g .place) (a .blocks) (toChain p ts e) h m (omega arith)) (omega arith) t W in
+          let x = sound-first A N
+          (entry-sound s rec M X (l .bodies) (g .place + entryExtent (toChain p ts e)) fb (g .place) (a .blocks) (toChain p ts e) h m
+          (omega arith))
+          (omega arith) t W in
           subst (λ (u : ℕ). Aim lo 1 u A N) (sym (h .place-is)) (le, x .0, x .1)
       by toFallback h t m = f
 
@@ -154,14 +163,16 @@ module _ (s : List ℕ) (rec : Rec) (M : Meets rec) (def : ℕ) (X : Context) (l
       let f = fallback-aim in
       let h₁ = Y .out .places .dispatch-is in
       let h₂ = Y .out .places .bodies-are in
-      arms-aim (length (l .subjectCode) + 1) (fallbackAt def (l .splits) l) (l .caseArms) (Y .out .case-arms) (Y .out .cases-fall def) (cases-stand def l (Y .out .places)) (Y .case-bodies) (omega arith) (omega arith) (caseBlocks s c)
+      arms-aim (length (l .subjectCode) + 1) (fallbackAt def (l .splits) l) (l .caseArms) (Y .out .case-arms) (Y .out .cases-fall def)
+      (cases-stand def l (Y .out .places)) (Y .case-bodies) (omega arith) (omega arith) (caseBlocks s c)
 
   -- the bodies lie behind the second Switch, where there is one
   behind-dispatch : (e : Split.Entry) (es : List Split.Entry) → l .splits ≡ e ∷ es → l .dispatch + 1 ≤ l .bodiesPlace
   unfolding rangesExtent
   behind-dispatch e es q =
       let h = Y .out .places .bodies-are in
-      let x : rangesExtent (l .splits) (l .rangeArms) ≡ suc (armsExtent (l .rangeArms)) = ap (λ (y : List Split.Entry). rangesExtent y (l .rangeArms)) q in
+      let x : rangesExtent (l .splits) (l .rangeArms) ≡ suc (armsExtent (l .rangeArms)) =
+      ap (λ (y : List Split.Entry). rangesExtent y (l .rangeArms)) q in
       omega arith
 
   pub range-aim : (e : Split.Entry) (es : List Split.Entry) → l .splits ≡ e ∷ es → (x : Split.Entry)
@@ -169,7 +180,8 @@ module _ (s : List ℕ) (rec : Rec) (M : Meets rec) (def : ℕ) (X : Context) (l
   range-aim e es q x =
       let f = default-aim in
       let h = behind-dispatch e es q in
-      arms-aim (l .dispatch + 1) (defaultAt def l) (l .rangeArms) (Y .out .range-arms) (Y .out .ranges-fall (defaultAt def l)) (range-arms-stand s rec (X .chains) l (Y .out) def e es q) (Y .range-bodies) (omega arith) (omega arith) (x .blocks)
+      arms-aim (l .dispatch + 1) (defaultAt def l) (l .rangeArms) (Y .out .range-arms) (Y .out .ranges-fall (defaultAt def l))
+      (range-arms-stand s rec (X .chains) l (Y .out) def e es q) (Y .range-bodies) (omega arith) (omega arith) (x .blocks)
 
   -- every target of a table lies ahead
   ahead : (lo t : ℕ) → Aim (lo + 1) 1 t A N → Goes A N lo 1 t
@@ -198,7 +210,7 @@ module _ (s : List ℕ) (rec : Rec) (M : Meets rec) (def : ℕ) (X : Context) (l
 
 -- ---- the whole code
 
-module _ (s : List ℕ) (rec : Rec) (M : Meets rec) (def : ℕ) (l : Layout) (Y : Ready s rec def (contextOf (switchOf s def l)) l) where
+module _ (s : List ℕ) (rec : Rec) (M : Meets rec) (def : ℕ) (l : SwitchLaid) (Y : Ready s rec def (contextOf (switchOf s def l)) l) where
   abbrev inContext : Context
   inContext = contextOf (switchOf s def l)
 
@@ -207,7 +219,8 @@ module _ (s : List ℕ) (rec : Rec) (M : Meets rec) (def : ℕ) (l : Layout) (Y 
 
   first-sound : Sound inContext inside (length (l .subjectCode)) 1 1 firstSwitch
   unfolding switchOf
-  first-sound = one (ins (Switch 0) overSubject noPos) refl (λ A N o a e n. (omega arith, omega arith, first-table s rec M def inContext l Y A N o))
+  first-sound =
+      one (ins (Switch 0) overSubject noPos) refl (λ A N o a e n. (omega arith, omega arith, first-table s rec M def inContext l Y A N o))
 
   cases-sound : Sound inContext inside (length (l .subjectCode) + 1) 1 1 (armsCode (l .bodies) (fallbackAt def (l .splits) l) (l .caseArms))
   cases-sound =
@@ -218,7 +231,8 @@ module _ (s : List ℕ) (rec : Rec) (M : Meets rec) (def : ℕ) (l : Layout) (Y 
         to-body = λ k h. let q = body-aim s rec M def inContext l Y A N o k h in omega arith;
         to-fallback = fallback-aim s rec M def inContext l Y A N o;
       })
-      (arms-sound s rec M inContext (l .bodies) (l .dispatch) (fallbackAt def (l .splits) l) (length (l .subjectCode) + 1) (l .caseArms) (Y .out .case-arms) (Y .case-bodies) (omega arith))
+      (arms-sound s rec M inContext (l .bodies) (l .dispatch) (fallbackAt def (l .splits) l) (length (l .subjectCode) + 1) (l .caseArms)
+      (Y .out .case-arms) (Y .case-bodies) (omega arith))
 
   ranges-sound : Sound inContext inside (l .dispatch) 1 1 (rangesCode (l .bodies) (defaultAt def l) (l .splits) (l .rangeArms))
   unfolding rangesCode rangesExtent switchOf rangeTable
@@ -228,17 +242,21 @@ module _ (s : List ℕ) (rec : Rec) (M : Meets rec) (def : ℕ) (l : Layout) (Y 
           → Sound inContext inside (l .dispatch) 1 1 (rangesCode (l .bodies) (defaultAt def l) es (l .rangeArms))
       by [] q = none
       by (e ∷ es) q =
-          let two : length (rangeTable (defaultAt def l) (l .splits)) ≡ 1 = ap (λ (x : List Split.Entry). length (rangeTable (defaultAt def l) x)) q in
-          let h : rangesExtent (l .splits) (l .rangeArms) ≡ suc (armsExtent (l .rangeArms)) = ap (λ (y : List Split.Entry). rangesExtent y (l .rangeArms)) q in
+          let two : length (rangeTable (defaultAt def l) (l .splits)) ≡ 1 =
+          ap (λ (x : List Split.Entry). length (rangeTable (defaultAt def l) x)) q in
+          let h : rangesExtent (l .splits) (l .rangeArms) ≡ suc (armsExtent (l .rangeArms)) =
+          ap (λ (y : List Split.Entry). rangesExtent y (l .rangeArms)) q in
           let h′ = Y .out .places .bodies-are in
           seq {c = ins (Switch 1) overSubject noPos ∷ []}
-          (one (ins (Switch 1) overSubject noPos) refl (λ A N o a u n. (omega arith, omega arith, second-table s rec M def inContext l Y A N o e es q)))
+          (one (ins (Switch 1) overSubject noPos) refl
+          (λ A N o a u n. (omega arith, omega arith, second-table s rec M def inContext l Y A N o e es q)))
           (weaken
           (λ A N o. record {
             to-body = λ k v. body-aim s rec M def inContext l Y A N o k v;
             to-fallback = default-aim s rec M def inContext l Y A N o;
           })
-          (arms-sound s rec M inContext (l .bodies) (l .bodiesPlace) (defaultAt def l) (l .dispatch + 1) (l .rangeArms) (Y .out .range-arms) (Y .range-bodies) (omega arith)))
+          (arms-sound s rec M inContext (l .bodies) (l .bodiesPlace) (defaultAt def l) (l .dispatch + 1) (l .rangeArms) (Y .out .range-arms)
+          (Y .range-bodies) (omega arith)))
 
   default-sound : Sound inContext inside (l .bodiesPlace) 1 2 (defaultCode def (endAt def l) (l .bodies))
   unfolding endAt
@@ -249,7 +267,9 @@ module _ (s : List ℕ) (rec : Rec) (M : Meets rec) (def : ℕ) (l : Layout) (Y 
 
       by : (n : ℕ) → def ≡ n → Sound inContext (Exit (endAt def l) 2) (l .bodiesPlace) 1 2 (defaultCode def (endAt def l) (l .bodies))
       by zero q = subst for (sym q) (missing-sound s rec M inContext (endAt 0 l) (l .bodiesPlace) (l .bodies) (Y .out .bodies-lowered) refl)
-      by (suc k) q = subst for (sym q) (given-sound s rec M inContext (endAt (suc k) l) k (l .bodiesPlace) (l .bodies) (Y .default-body k q) (Y .out .bodies-lowered) refl)
+      by (suc k) q =
+          subst for (sym q) (given-sound s rec M inContext (endAt (suc k) l) k (l .bodiesPlace) (l .bodies) (Y .default-body k q)
+          (Y .out .bodies-lowered) refl)
 
   whole-sound : Sound inContext inside 0 0 1 (switchCode def l)
   unfolding switchCode
@@ -278,11 +298,7 @@ agree-at A b (i ∷ c) h = (
 pub depths-agree : (c : Code) → Agree (depthAt c) 0 c
 depths-agree c = agree-at (depthAt c) 0 c (λ p lt. ap (depthAt c) (zero-add p))
 
-depth-end : (c : Code) → depthAt c (length c) ≡ 1
-depth-end [] = refl
-depth-end (i ∷ c) = depth-end c
-
-pub ready-typed : (s : List ℕ) (rec : Rec) (M : Meets rec) (def : ℕ) (l : Layout) → Ready s rec def (contextOf (switchOf s def l)) l
+pub ready-typed : (s : List ℕ) (rec : Rec) (M : Meets rec) (def : ℕ) (l : SwitchLaid) → Ready s rec def (contextOf (switchOf s def l)) l
     → WellTyped (switchOf s def l)
 unfolding switchOf
 ready-typed s rec M def l Y =

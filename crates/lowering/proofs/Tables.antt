@@ -57,11 +57,13 @@ module _ {A : Type 0} (f : A → ℕ) (xs : List A) (first rows : ℕ) (h : firs
       ∙ ap f (getD-take rows (drop first xs) n d g ∙ getD-drop first xs n d)
 
 -- the two kinds of rows
-case-rows : (r : Program) (t : Switch) → eqb (t .ranged) 0 ≡ true → rowTargets r t ≡ map (λ (c : SwitchCase). c .target) (take (t .rows) (drop (t .first) (r .cases)))
+case-rows : (r : Program) (t : Switch) → eqb (t .ranged) 0 ≡ true
+    → rowTargets r t ≡ map (λ (c : SwitchCase). c .target) (take (t .rows) (drop (t .first) (r .cases)))
 unfolding rowTargets
 case-rows r t h = rw (h, rowTargets)
 
-range-rows : (r : Program) (t : Switch) → eqb (t .ranged) 0 ≡ false → rowTargets r t ≡ map (λ (c : SwitchRange). c .target) (take (t .rows) (drop (t .first) (r .ranges)))
+range-rows : (r : Program) (t : Switch) → eqb (t .ranged) 0 ≡ false
+    → rowTargets r t ≡ map (λ (c : SwitchRange). c .target) (take (t .rows) (drop (t .first) (r .ranges)))
 unfolding rowTargets
 range-rows r t h = rw (h, rowTargets)
 
@@ -82,7 +84,9 @@ unfolding tableTarget
 past-table w i n h = rw (h, tableTarget)
 
 -- the words of a table
-pub table-words : (r : Program) (i : ℕ) → i < length (r .switches) → (switchWord (words r) i 0 ≡ tableOf r i .ranged) × (switchWord (words r) i 1 ≡ tableOf r i .first) × (switchWord (words r) i 2 ≡ tableOf r i .rows) × (switchWord (words r) i 3 ≡ tableOf r i .default)
+table-words : (r : Program) (i : ℕ) → i < length (r .switches)
+    → (switchWord (words r) i 0 ≡ tableOf r i .ranged) × (switchWord (words r) i 1 ≡ tableOf r i .first)
+    × (switchWord (words r) i 2 ≡ tableOf r i .rows) × (switchWord (words r) i 3 ≡ tableOf r i .default)
 unfolding switchWords
 table-words r i h =
     let at-word = switch-word r noSwitch i in

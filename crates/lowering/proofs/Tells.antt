@@ -35,7 +35,9 @@ module _ (F : Fed) where
 
   place-ended : (g : Guided) → g .state .place ≡ instructions (F .image) → guidedStep F g .state .place ≡ instructions (F .image)
   unfolding guidedStep
-  place-ended g h = ap (λ (x : State). x .place) (stays (F .image) (wayAt F g) (g .state) (le-ltb (g .state .place) (instructions (F .image)) (omega arith))) ∙ h
+  place-ended g h =
+      ap (λ (x : State). x .place)
+      (stays (F .image) (wayAt F g) (g .state) (le-ltb (g .state .place) (instructions (F .image)) (omega arith))) ∙ h
 
   step-used : (g : Guided) (p : ℕ) (t : Bool) → g .state .place ≡ p → answeredAt F p ≡ t → guidedStep F g .used ≡ usedBehind t (g .used)
   unfolding guidedStep
@@ -53,7 +55,8 @@ module _ (F : Fed) where
 
   module _ (fwd : Forward (F .image)) where
     -- one step from place p on, where mark m stands
-    pub tells-step : (p u : ℕ) (t : Bool) (m : Option Mark) (evs : List Event) → p < instructions (F .image) → markAt (F .marks) p ≡ m → isAnswered m ≡ t
+    pub tells-step : (p u : ℕ) (t : Bool) (m : Option Mark) (evs : List Event) → p < instructions (F .image) → markAt (F .marks) p ≡ m
+        → isAnswered m ≡ t
         → ((g : Guided) → g .state .place ≡ p → g .used ≡ u → Tells F (next (F .image) (wayAt F g) p) (usedBehind t u) evs)
         → Tells F p u (eventOf m ++ evs)
     unfolding eventsFrom answeredAt
@@ -83,6 +86,7 @@ module _ (F : Fed) where
               tells-on q u evs (omega arith) (h q (omega arith) m)
               (λ way.
               let lt = fwd q way (omega arith) in
-              cross e u evs i t n (next (F .image) way q) (λ p a b. h p (omega arith) b) (λ p v a b. f p v (omega arith) b) (f q way (omega arith) m) (omega arith))
+              cross e u evs i t n (next (F .image) way q) (λ p a b. h p (omega arith) b) (λ p v a b. f p v (omega arith) b)
+              (f q way (omega arith) m) (omega arith))
           | no m ↦ subst (λ (x : ℕ). Tells F x u evs) (omega arith) t
         ]

@@ -35,7 +35,8 @@ module _ (F : Fed) where
   unfolding wayAt effect guidedWay
   way-answer g p u h e k a = rw (h, e, k) (rw (a, guidedWay) (ap (λ (v : ℕ). answerWay v (F .answers u)) k))
 
-  way-switch : (g : Guided) (p : ℕ) → g .state .place ≡ p → kindAt (F .image) p ≡ 15 → wayAt F g ≡ switchWay (F .image) (F .integer) (aAt (F .image) p)
+  way-switch : (g : Guided) (p : ℕ) → g .state .place ≡ p → kindAt (F .image) p ≡ 15
+      → wayAt F g ≡ switchWay (F .image) (F .integer) (aAt (F .image) p)
   unfolding wayAt effect guidedWay
   way-switch g p h k = rw (h, k)
 
@@ -47,7 +48,8 @@ module _ (F : Fed) where
         tells-on F fwd p u evs runs m (λ way. subst (λ (q : ℕ). Tells F q u evs) (sym (next-jump (F .image) way p k ∙ a)) f)
 
     -- the jump that pops a guard's value
-    pub tells-answer : (t u : ℕ) (y n : List Event) → markAt (F .marks) p ≡ some Marks.branch → kindAt (F .image) p ≡ 9 → aAt (F .image) p ≡ t
+    pub tells-answer : (t u : ℕ) (y n : List Event) → markAt (F .marks) p ≡ some Marks.branch → kindAt (F .image) p ≡ 9
+        → aAt (F .image) p ≡ t
         → Tells F t (suc u) y → Tells F (p + 1) (suc u) n → Tells F p u (byAnswer (F .answers u) y n)
     unfolding eventOf isAnswered answeredAt answerWay branchTarget
     tells-answer t u y n m k a f g =

@@ -11,7 +11,8 @@ use Rattle.lowering.specs.Kinds.{boolKind}
 use Rattle.bytecode.specs.declared.Chain.{Chain}
 use Rattle.lowering.specs.Out.{Rec}
 use Rattle.lowering.specs.SwitchSheet.{defaultBlock, guardOf}
-use Rattle.lowering.specs.Arms.{Try, End, taken, declined, idle, Entry, toBody, toChain, toFallback, Guard, never, always, guardKind, entryExtent, Arm}
+use Rattle.lowering.specs.Arms.{Try, End, taken, declined, idle, Entry, toBody, toChain, toFallback, Guard, never, always, guardKind}
+use Rattle.lowering.specs.Arms.{entryExtent, Arm}
 use Rattle.lowering.specs.Arms as Arms
 use Rattle.lowering.specs.SwitchTables.{entryOf}
 use Rattle.lowering.specs.Guided.{Event, tried, reached}
@@ -45,10 +46,13 @@ by-tests false f true k over on = refl
 by-tests false f false k over on = refl
 
 module _ (s : List ℕ) (answers : ℕ → Bool) where
-  go-cons : (n k : ℕ) (ks : List ℕ) → goThrough s answers n (k ∷ ks) ≡ byGuard (guardKind s (guardOf s k)) k (answers n) (goThrough s answers n ks) (goThrough s answers (suc n) ks)
+  go-cons : (n k : ℕ) (ks : List ℕ)
+      → goThrough s answers n (k ∷ ks)
+      ≡ byGuard (guardKind s (guardOf s k)) k (answers n) (goThrough s answers n ks) (goThrough s answers (suc n) ks)
   unfolding goThrough isBool isFalse guardKind
   go-cons n k ks =
-      by-tests (eqb (kind s (guardOf s k)) boolKind) (eqb (fieldA s (guardOf s k)) 0) (answers n) k (goThrough s answers n ks) (goThrough s answers (suc n) ks)
+      by-tests (eqb (kind s (guardOf s k)) boolKind) (eqb (fieldA s (guardOf s k)) 0) (answers n) k (goThrough s answers n ks)
+      (goThrough s answers (suc n) ks)
 
   -- a list is gone through, then the rest
   pub go-append : (n : ℕ) (xs ys : List ℕ) → goThrough s answers n (xs ++ ys) ≡ through s answers (λ m. goThrough s answers m ys) n xs
@@ -86,7 +90,8 @@ module _ (s : List ℕ) (answers : ℕ → Bool) (after : ℕ → List Event) wh
   through-by n k ks g h =
       ap (λ (x : Guard). byGuard x k (answers n) (through s answers after n ks) (through s answers after (suc n) ks)) (sym h)
 
-  chosen-through : {ks : List ℕ} {ts : List Try} {e : End} → Chosen s ks ts e → (n : ℕ) → triesEvents answers after n ts e ≡ through s answers after n ks
+  chosen-through : {ks : List ℕ} {ts : List Try} {e : End} → Chosen s ks ts e → (n : ℕ)
+      → triesEvents answers after n ts e ≡ through s answers after n ks
   chosen-through none-left n = refl
   chosen-through falls-on n = refl
   chosen-through (passed {k = k} {ks = ks} h c) n = chosen-through c n ∙ through-by n k ks never h
@@ -95,7 +100,8 @@ module _ (s : List ℕ) (answers : ℕ → Bool) (after : ℕ → List Event) wh
       ap (λ (l : List Event). tried (t .block) ∷ byAnswer (answers n) (reached (t .block) ∷ []) l) (chosen-through c (suc n))
       ∙ through-by n (t .block) ks Arms.tried h
 
-  entry-through : (rec : Rec) (hs : List Chain) (b : ℕ) (ks : List ℕ) (e : Entry) → EntryAt s rec hs b ks e → (n : ℕ) → entryEvents answers after n e ≡ through s answers after n ks
+  entry-through : (rec : Rec) (hs : List Chain) (b : ℕ) (ks : List ℕ) (e : Entry) → EntryAt s rec hs b ks e → (n : ℕ)
+      → entryEvents answers after n e ≡ through s answers after n ks
   entry-through rec hs b ks (toBody k) h n = chosen-through h n
   entry-through rec hs b ks (toChain p ts e) h n = chosen-through (h .chosen) n
   entry-through rec hs b ks toFallback h n = chosen-through h n
@@ -105,12 +111,14 @@ module _ (s : List ℕ) (answers : ℕ → Bool) (after : ℕ → List Event) wh
   among-through rec hs b [] h a m n = absurd (List·Memᴰ·not-nil m)
   among-through rec hs b (x ∷ arms) h a m n =
       ⊎-elim
-      (λ e. subst (λ (y : Arm). entryEvents answers after n (y .entry) ≡ through s answers after n (y .blocks)) (sym e) (entry-through rec hs b (x .blocks) (x .entry) (h .0) n))
+      (λ e. subst (λ (y : Arm). entryEvents answers after n (y .entry) ≡ through s answers after n (y .blocks)) (sym e)
+      (entry-through rec hs b (x .blocks) (x .entry) (h .0) n))
       (λ k. among-through rec hs (b + entryExtent (x .entry)) arms (h .1) a k n)
       (List·Memᴰ·cases-cons m)
 
   -- the entry that a list of blocks finds tells what the list says
-  pub found-through : (rec : Rec) (hs : List Chain) (b : ℕ) (arms : List Arm) → ArmsAt s rec hs b arms → (l : List ℕ) → List·Memᴰ l (blocksOf arms) → (n : ℕ)
+  pub found-through : (rec : Rec) (hs : List Chain) (b : ℕ) (arms : List Arm) → ArmsAt s rec hs b arms → (l : List ℕ)
+      → List·Memᴰ l (blocksOf arms) → (n : ℕ)
       → entryEvents answers after n (entryOf l arms) ≡ through s answers after n l
   found-through rec hs b arms h l m n =
       let f = finds l arms m in

@@ -46,7 +46,7 @@ pub record Sound (X : Context) (O : Outside) (b d e : ℕ) (c : Code) : Type 0 w
   pub typed : (A : ℕ → ℕ) (N : ℕ) → O A N → Agree A b c → A (b + length c) ≡ e → b + length c ≤ N → Typed X A N b c
 
 module _ (X : Context) (A : ℕ → ℕ) (N : ℕ) where
-  pub typed-append : (b : ℕ) (c c′ : Code) → Typed X A N b c → Typed X A N (b + length c) c′ → Typed X A N b (c ++ c′)
+  typed-append : (b : ℕ) (c c′ : Code) → Typed X A N b c → Typed X A N (b + length c) c′ → Typed X A N b (c ++ c′)
   typed-append b [] c′ t u = subst (λ (n : ℕ). Typed X A N n c′) (add-zero b) u
   typed-append b (i ∷ c) c′ t u =
       (t .0, typed-append (suc b) c c′ (t .1) (subst (λ (n : ℕ). Typed X A N n c′) (add-suc b (length c) ∙ sym (suc-add b (length c))) u))
@@ -61,11 +61,11 @@ agree-right A b (i ∷ c) c′ h =
     subst (λ (n : ℕ). Agree A n c′) (suc-add b (length c) ∙ sym (add-suc b (length c))) (agree-right A (suc b) c c′ (h .1))
 
 -- the depth where code starts
-pub start-depth : (A : ℕ → ℕ) (b d e : ℕ) (c : Code) → Starts d e c → Agree A b c → A (b + length c) ≡ e → A b ≡ d
+start-depth : (A : ℕ → ℕ) (b d e : ℕ) (c : Code) → Starts d e c → Agree A b c → A (b + length c) ≡ e → A b ≡ d
 start-depth A b d e [] h g f = ap A (sym (add-zero b)) ∙ f ∙ sym h
 start-depth A b d e (i ∷ c) h g f = g .0 ∙ h
 
-pub starts-append : (d e f : ℕ) (c c′ : Code) → Starts d e c → Starts e f c′ → Starts d f (c ++ c′)
+starts-append : (d e f : ℕ) (c c′ : Code) → Starts d e c → Starts e f c′ → Starts d f (c ++ c′)
 starts-append d e f [] [] g h = g ∙ h
 starts-append d e f [] (i ∷ c′) g h = h ∙ sym g
 starts-append d e f (i ∷ c) c′ g h = g
@@ -91,7 +91,8 @@ module _ {X : Context} {O : Outside} where
   none = record { starts = refl; typed = λ A N o a end le. tt }
 
   -- one instruction
-  pub one : {b d e : ℕ} (i : Ins) → i .depth ≡ d → ((A : ℕ → ℕ) (N : ℕ) → O A N → A b ≡ d → A (suc b) ≡ e → suc b ≤ N → TypedAt X A N b i) → Sound X O b d e (i ∷ [])
+  pub one : {b d e : ℕ} (i : Ins) → i .depth ≡ d → ((A : ℕ → ℕ) (N : ℕ) → O A N → A b ≡ d → A (suc b) ≡ e → suc b ≤ N → TypedAt X A N b i)
+      → Sound X O b d e (i ∷ [])
   one {b} {d} {e} i h f = record {
     starts = h;
     typed = λ A N o a end le.
@@ -100,7 +101,8 @@ module _ {X : Context} {O : Outside} where
   }
 
 -- assumptions that follow from others
-pub weaken : {X : Context} {O O′ : Outside} {b d e : ℕ} {c : Code} → ((A : ℕ → ℕ) (N : ℕ) → O′ A N → O A N) → Sound X O b d e c → Sound X O′ b d e c
+pub weaken : {X : Context} {O O′ : Outside} {b d e : ℕ} {c : Code} → ((A : ℕ → ℕ) (N : ℕ) → O′ A N → O A N) → Sound X O b d e c
+    → Sound X O′ b d e c
 weaken f g = record { starts = g .starts; typed = λ A N o a end le. g .typed A N (f A N o) a end le }
 
 -- code that jumps only to its own end assumes nothing

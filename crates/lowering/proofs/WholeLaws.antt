@@ -10,7 +10,7 @@ use Rattle.lowering.specs.Program.{Program}
 use Rattle.lowering.proofs.Typed.{Agree, Nothing, Sound}
 use Rattle.lowering.proofs.Whole.{contextOf, depthAt, WellTyped}
 
-pub depth-seam : (pre : Code) (i : Ins) (c : Code) → depthAt (pre ++ (i ∷ c)) (length pre) ≡ i .depth
+depth-seam : (pre : Code) (i : Ins) (c : Code) → depthAt (pre ++ (i ∷ c)) (length pre) ≡ i .depth
 depth-seam [] i c = refl
 depth-seam (k ∷ pre) i c = depth-seam pre i c
 
@@ -19,7 +19,7 @@ depth-end [] = refl
 depth-end (i ∷ c) = depth-end c
 
 -- the part of a code behind `pre`
-pub agree-self : (pre c : Code) → Agree (depthAt (pre ++ c)) (length pre) c
+agree-self : (pre c : Code) → Agree (depthAt (pre ++ c)) (length pre) c
 agree-self pre [] = tt
 agree-self pre (i ∷ c) =
     let one : Code = i ∷ [] in

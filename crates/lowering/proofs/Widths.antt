@@ -1,4 +1,4 @@
--- Each kind of record has one width: instruction 4, constant 3, name 2, chain and step 6, switch 4, case 2, range 6 words.
+-- Each kind of record has the width that Limits names.
 use Prim.Native.Nat.{ℕ}
 use mathlib.Core.Path.{_≡_, refl}
 use mathlib.Core.List.{List, [], _∷_, _++_}
@@ -12,14 +12,17 @@ use Rattle.bytecode.specs.declared.Switch as SwitchRecord
 use Rattle.bytecode.specs.declared.SwitchCase.{SwitchCase}
 use Rattle.bytecode.specs.declared.SwitchRange.{SwitchRange}
 use Rattle.bytecode.specs.declared.Op.{Op}
-use Rattle.bytecode.specs.declared.Op.the-variants.{Const, Unit, Bool, LoadLocal, LoadNamed, LoadThis, Pop, Jump, JumpIfTrue, JumpIfFalse, SkipIfNotUnit, Call, CallRef, Rotate, Switch, MakeFnPtr, CallFnPtr, InterpolateStart, InterpolateAppend, InterpolateEnd, MakeArray, CheckSize, Chain, EvalAst}
+use Rattle.bytecode.specs.declared.Op.the-variants.{Const, Unit, Bool, LoadLocal, LoadNamed, LoadThis, Pop, Jump, JumpIfTrue, JumpIfFalse}
+use Rattle.bytecode.specs.declared.Op.the-variants.{SkipIfNotUnit, Call, CallRef, Rotate, Switch, MakeFnPtr, CallFnPtr, InterpolateStart}
+use Rattle.bytecode.specs.declared.Op.the-variants.{InterpolateAppend, InterpolateEnd, MakeArray, CheckSize, Chain, EvalAst}
 use Rattle.bytecode.specs.Op.{opWords}
 use Rattle.bytecode.specs.Chain.{rootWords, stepWords, chainWords}
 use Rattle.bytecode.specs.Switch.{switchWords, caseWords, rangeWords}
+use Rattle.lowering.specs.Limits.{opWidth, constWidth, nameWidth, chainWidth, stepWidth, switchWidth, caseWidth, rangeWidth}
 use Rattle.lowering.specs.Pools as Pools
 use Rattle.lowering.specs.Image.{constWords, nameWords}
 
-pub op-width : (op : Op) → length (opWords op) ≡ 4
+pub op-width : (op : Op) → length (opWords op) ≡ opWidth
 unfolding opWords
 op-width (Const i) = refl
 op-width Unit = refl
@@ -46,39 +49,39 @@ op-width (CheckSize i) = refl
 op-width (Chain i) = refl
 op-width (EvalAst i) = refl
 
-pub const-width : (c : Pools.Const) → length (constWords c) ≡ 3
+pub const-width : (c : Pools.Const) → length (constWords c) ≡ constWidth
 unfolding constWords
 const-width c = refl
 
-pub name-width : (n : Pools.Name) → length (nameWords n) ≡ 2
+pub name-width : (n : Pools.Name) → length (nameWords n) ≡ nameWidth
 unfolding nameWords
 name-width n = refl
 
-root-width : (root : Root) (xs : List ℕ) → length xs ≡ 3 → length (rootWords root ++ xs) ≡ 6
+root-width : (root : Root) (xs : List ℕ) → length xs ≡ 3 → length (rootWords root ++ xs) ≡ chainWidth
 unfolding rootWords
 root-width (Local slot i) xs h = rw h
 root-width (Named i pos) xs h = rw h
 root-width (This pos) xs h = rw h
 root-width Temporary xs h = rw h
 
-pub chain-width : (c : ChainRecord.Chain) → length (chainWords c) ≡ 6
+pub chain-width : (c : ChainRecord.Chain) → length (chainWords c) ≡ chainWidth
 unfolding chainWords
 chain-width c = root-width (c .root) (c .first ∷ c .steps ∷ c .operands ∷ []) refl
 
-pub step-width : (t : Step) → length (stepWords t) ≡ 6
+pub step-width : (t : Step) → length (stepWords t) ≡ stepWidth
 unfolding stepWords
 step-width (Index operand flags pos bracket) = refl
 step-width (Property i getter setter flags pos) = refl
 step-width (Method i argc operand flags pos) = refl
 
-pub switch-width : (t : SwitchRecord.Switch) → length (switchWords t) ≡ 4
+pub switch-width : (t : SwitchRecord.Switch) → length (switchWords t) ≡ switchWidth
 unfolding switchWords
 switch-width t = refl
 
-pub case-width : (c : SwitchCase) → length (caseWords c) ≡ 2
+pub case-width : (c : SwitchCase) → length (caseWords c) ≡ caseWidth
 unfolding caseWords
 case-width c = refl
 
-pub range-width : (c : SwitchRange) → length (rangeWords c) ≡ 6
+pub range-width : (c : SwitchRange) → length (rangeWords c) ≡ rangeWidth
 unfolding rangeWords
 range-width c = refl

@@ -9,11 +9,10 @@ use Rattle.sheet.specs.Node.{kind, fieldA, position, child}
 use Rattle.sheet.specs.Text.{text}
 use Rattle.bytecode.specs.declared.Root.{Root}
 use Rattle.bytecode.specs.declared.Root.the-variants.{Local, Named, This, Temporary}
-use Rattle.bytecode.specs.declared.Step.{Step}
 use Rattle.bytecode.specs.declared.Op.the-variants.{Chain}
 use Rattle.lowering.specs.Limits.{maxLevels}
 use Rattle.lowering.specs.Kinds.{variableKind, thisKind}
-use Rattle.lowering.specs.Code.{Code, ins}
+use Rattle.lowering.specs.Code.{ins}
 use Rattle.lowering.specs.Pools.{Pools, emits, name, nameAt, pushName, chainAt, pushChain}
 use Rattle.lowering.specs.Out.{Out, out, Rec, residualExpr}
 use Rattle.lowering.specs.Slots.{resolve}
@@ -51,16 +50,13 @@ rootCode rec (Named i pos) v b d p = out [] p
 rootCode rec (This pos) v b d p = out [] p
 rootCode rec Temporary v b d p = rec v b d p
 
--- the root behind the steps' code, and the chain instruction
-unfoldable pub closeChain : List ℕ → Rec → Root → ℕ → ℕ → ℕ → Code → List Step → ℕ → Pools → Out
-closeChain s rec root j b d code xs n p =
+-- the root behind the steps' code, and the chain instruction; a residual where the walk stopped
+unfoldable pub chainOf : List ℕ → Rec → Root → ℕ → ℕ → ℕ → Walked → Out
+chainOf s rec root j b d (walked code xs n p) =
     let o = rootCode rec root (child j) (b + length code) (d + n) p in
     let i = chainAt root xs n (o .pools) in
     let last = ins (Chain i) (d + n + onStack root) (position s j) in
     out (code ++ o .code ++ (last ∷ [])) (emits 1 (pushChain root xs n (o .pools)))
-
-unfoldable pub chainOf : List ℕ → Rec → Root → ℕ → ℕ → ℕ → Walked → Out
-chainOf s rec root j b d (walked code xs n p) = closeChain s rec root j b d code xs n p
 chainOf s rec root j b d (stopped p) = residualExpr j d p
 
 unfoldable pub chain : List ℕ → Rec → ℕ → ℕ → ℕ → Pools → Out

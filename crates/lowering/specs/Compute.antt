@@ -5,12 +5,10 @@ use mathlib.Core.List.{List}
 use Rattle.bytecode.specs.Chain as BytecodeChain
 use Rattle.bytecode.specs.Op as BytecodeOp
 use Rattle.bytecode.specs.Switch as BytecodeSwitch
-use Rattle.cases.specs.Excess as CasesExcess
-use Rattle.cases.specs.Points as CasesPoints
-use Rattle.cases.specs.Range as CasesRange
-use Rattle.cases.specs.Split as CasesSplit
-use Rattle.checks.specs.Checked as ChecksChecked
-use Rattle.depth.specs.Depth as DepthDepth
+use Rattle.switch_split.specs.Excess as CasesExcess
+use Rattle.switch_split.specs.Points as CasesPoints
+use Rattle.switch_split.specs.Range as CasesRange
+use Rattle.switch_split.specs.Split as CasesSplit
 use Rattle.lowering.specs.Arms
 use Rattle.lowering.specs.Array
 use Rattle.lowering.specs.Bodies
@@ -34,49 +32,65 @@ use Rattle.lowering.specs.Slots
 use Rattle.lowering.specs.Steps
 use Rattle.lowering.specs.Switch
 use Rattle.lowering.specs.SwitchCode
-use Rattle.lowering.specs.SwitchLayout
+use Rattle.lowering.specs.SwitchLaid as SwitchLayout
 use Rattle.lowering.specs.SwitchSheet
 use Rattle.lowering.specs.SwitchTables
-use Rattle.numbers.specs.Numbers as NumbersNumbers
-use Rattle.shape.specs.Kinds as ShapeKinds
-use Rattle.shape.specs.Shape as ShapeShape
+use Rattle.check_shape.specs.Kinds as ShapeKinds
 use Rattle.sheet.specs.Node as SheetNode
 use Rattle.sheet.specs.Start as SheetStart
-use Rattle.sheet.specs.Text as SheetText
-use Rattle.sheet.specs.Walk as SheetWalk
-use Rattle.sizes.specs.Sizes as SizesSizes
-use Rattle.support.specs.Support as SupportSupport
-use Rattle.switches.specs.Switch as SwitchesSwitch
 use Rattle.text.specs.Keyword as TextKeyword
-use Rattle.text.specs.Same as TextSame
-use Rattle.text.specs.Utf8 as TextUtf8
-use Rattle.texts.specs.Texts as TextsTexts
-use Rattle.words.specs.Count as WordsCount
-use Rattle.words.specs.Word as WordsWord
-use Rattle.checks.specs.Checked.{numberOf, checked}
+use Rattle.checks.specs.Checked.{verdictNumber, checked}
+use Rattle.checks.specs.Compute as ChecksCompute
 use Rattle.lowering.specs.Out.{Rec}
 use Rattle.lowering.specs.Program.{Program}
 
 -- the check of 1 to 8
 unfoldable pub checkedNumber : List ℕ → ℕ
-unfolding WordsWord.word WordsCount.allBelow TextSame.same TextKeyword.isEval TextKeyword.isFn TextKeyword.isCall TextKeyword.isCurry TextUtf8.rowIn TextUtf8.rowOf TextUtf8.utf8Rest TextUtf8.utf8 SheetNode.field SheetNode.position SheetNode.localText SheetNode.child SheetNode.next SheetText.textStart SheetText.textLength SheetText.text SheetStart.startWithin SheetStart.startOf SheetWalk.siblings SheetWalk.skip SizesSizes.limitsOk SizesSizes.lengthOk SizesSizes.padOk SizesSizes.paddingOk SizesSizes.sizesOk ShapeKinds.bound ShapeKinds.scalar ShapeKinds.expression ShapeKinds.caseValue ShapeKinds.switchChild ShapeKinds.caseChild ShapeKinds.childKind ShapeShape.withinBounds ShapeShape.ownRule ShapeShape.fieldsOk ShapeShape.childFits ShapeShape.childOk ShapeShape.tiles ShapeShape.selfOk ShapeShape.nodeOk ShapeShape.rootOk ShapeShape.nodesOk ShapeShape.shapeOk TextsTexts.textOk TextsTexts.textsOk NumbersNumbers.namesText NumbersNumbers.exist NumbersNumbers.numberAmong NumbersNumbers.localOk NumbersNumbers.nodeNumbersOk NumbersNumbers.localsOk NumbersNumbers.numbersOk DepthDepth.within DepthDepth.depthOk SwitchesSwitch.isSwitch SwitchesSwitch.firstCase SwitchesSwitch.refsOk SwitchesSwitch.countsOk SwitchesSwitch.entriesOk SwitchesSwitch.sameValue SwitchesSwitch.apart SwitchesSwitch.distinct SwitchesSwitch.casesOk SupportSupport.refusedKind SupportSupport.longCurry SupportSupport.supported SupportSupport.supportedOk ChecksChecked.treeChecked ChecksChecked.checked
-checkedNumber s = numberOf (checked s)
+unfolding ChecksCompute.openedBy TextKeyword.isEval TextKeyword.isFn TextKeyword.isCall
+    SheetNode.field SheetNode.position SheetStart.startWithin SheetStart.startOf ShapeKinds.bound
+checkedNumber s = verdictNumber (checked s)
 
 -- expressions
 unfoldable pub expressionOut : ℕ → List ℕ → Rec
-unfolding Pools.noPools Pools.firstWhere Pools.added Pools.emits Pools.defeat Pools.sameConst Pools.constAt Pools.pushConst Pools.nameBytes Pools.sameName Pools.nameAt Pools.pushName Pools.tokenAt Pools.pushToken Pools.pushResidual Pools.stepsOf Pools.stepsWords Pools.sameChain Pools.chainAt Pools.newChain Pools.pushChain Out.andThen Out.emitAt Out.residualExpr Slots.resolveBelow Slots.resolve Leaf.boolean Leaf.unit Leaf.constant Leaf.loadNamed Leaf.variable Leaf.this Operands.operands Array.elements Array.array Interpolated.segments Interpolated.interpolated ShortCircuit.fragments ShortCircuit.extent ShortCircuit.decided ShortCircuit.jumpOn ShortCircuit.verdict ShortCircuit.shortCircuit Coalesce.skipped Coalesce.coalesce Call.syntactic Call.isLowerableCall Call.isFnPtr Call.isFnPtrCall Call.callRule Call.makeFnPtr Call.callFnPtr Call.variableFirst Call.firstOf Call.receiver Call.otherArgs Call.callRef Call.callLocal Call.callThis Call.rotate Call.callNamed Call.storesToken Call.callAs Call.callToken Call.callValues Call.lowerCallBy Call.fnCallBy Call.fnCall Flatten.restOf Flatten.goesOn Flatten.operandOf Flatten.links Flatten.dotRule Flatten.stepRule Flatten.hasStep Flatten.flattens Steps.indexStep Steps.propertyStep Steps.isLowerableMethod Steps.methodAfter Steps.methodStep Steps.stepBy Steps.onto Steps.steps Chain.variableRoot Chain.rootOf Chain.rootPools Chain.onStack Chain.rootCode Chain.closeChain Chain.chainOf Chain.chain Expression.rules Expression.rule Expression.byRule Expression.expression
+unfolding Pools.noPools Pools.firstWhere Pools.added Pools.emits Pools.defeat Pools.sameConst Pools.constAt Pools.pushConst Pools.nameBytes
+    Pools.sameName Pools.nameAt Pools.pushName Pools.tokenAt Pools.pushToken Pools.pushResidual Pools.stepsOf Pools.stepsWords
+    Pools.sameChain Pools.chainAt Pools.newChain Pools.pushChain Out.andThen Out.emitAt Out.residualExpr Slots.resolveBelow Slots.resolve
+    Leaf.boolean Leaf.unit Leaf.constant Leaf.loadNamed Leaf.variable Leaf.this Operands.operands Array.elements Array.array
+    Interpolated.segments Interpolated.interpolated ShortCircuit.fragments ShortCircuit.extent ShortCircuit.decided ShortCircuit.jumpOn
+    ShortCircuit.decision ShortCircuit.shortCircuit Coalesce.skipped Coalesce.coalesce Call.syntactic Call.isLowerableCall Call.isFnPtr
+    Call.isFnPtrCall Call.callRule Call.makeFnPtr Call.callFnPtr Call.variableFirst Call.firstOf Call.receiver Call.otherArgs Call.callRef
+    Call.callLocal Call.callThis Call.rotate Call.callNamed Call.storesToken Call.callAs Call.callToken Call.callValues Call.lowerCallBy
+    Call.fnCallBy Call.fnCall Flatten.restOf Flatten.goesOn Flatten.operandOf Flatten.links Flatten.dotRule Flatten.stepRule Flatten.hasStep
+    Flatten.flattens Steps.indexStep Steps.propertyStep Steps.isLowerableMethod Steps.methodAfter Steps.methodStep Steps.stepBy Steps.onto
+    Steps.steps Chain.variableRoot Chain.rootOf Chain.rootPools Chain.onStack Chain.rootCode Chain.chainOf Chain.chain Expression.rules
+    Expression.rule Expression.byRule Expression.expression
 expressionOut levels s j b d p = Expression.expression levels s j b d p
 
 -- switches
 unfoldable pub switchProgram : List ℕ → Rec → Program
-unfolding CasesExcess.shifted CasesExcess.excess CasesExcess.lowWord CasesExcess.highWord CasesExcess.excessOf CasesRange.inside CasesRange.blocksWhere CasesPoints.points CasesPoints.insert CasesPoints.sortOnto CasesPoints.sort CasesPoints.dedupAfter CasesPoints.dedup CasesPoints.cuts CasesSplit.firstMatch CasesSplit.atomsFrom CasesSplit.atoms CasesSplit.covers CasesSplit.piece CasesSplit.opened CasesSplit.join CasesSplit.pieces CasesSplit.split SwitchSheet.nodesFrom SwitchSheet.guardOf SwitchSheet.bodyOf SwitchSheet.casesOf SwitchSheet.rangeNodes SwitchSheet.caseBlocks SwitchSheet.rangeOf SwitchSheet.rangesOf Arms.guardKind Arms.tryAt Arms.triesOf Arms.entryFrom Arms.triesExtent Arms.endExtent Arms.entryExtent Arms.endEmits Arms.armsExtent Arms.armChains Arms.memberOf Arms.distinctFrom Arms.distinct Arms.dropEnd Arms.dropEntry Arms.dropIdleJump Bodies.tryWants Bodies.endWants Bodies.entryWants Bodies.wanted Bodies.layBodies Bodies.bodiesExtent Bodies.fallExtent Bodies.bodyAt SwitchLayout.layCases SwitchLayout.caseArmsOf SwitchLayout.layRanges SwitchLayout.rangesExtent SwitchLayout.layout SwitchCode.defaultAt SwitchCode.endAt SwitchCode.fallbackAt SwitchCode.triesCode SwitchCode.endCode SwitchCode.entryCode SwitchCode.armsCode SwitchCode.rangesCode SwitchCode.bodiesCode SwitchCode.bodiesFall SwitchCode.defaultCode SwitchCode.lastEmits SwitchCode.switchCode SwitchTables.entryOf SwitchTables.target SwitchTables.casePools SwitchTables.caseRows SwitchTables.rangeRows SwitchTables.rangeTable SwitchTables.caseTable Switch.switchOf Switch.switch
+unfolding CasesExcess.shifted CasesExcess.excess CasesExcess.lowWord CasesExcess.highWord CasesExcess.excessOf CasesRange.inside
+    CasesRange.blocksWhere CasesPoints.points CasesPoints.insert CasesPoints.sortOnto CasesPoints.sort CasesPoints.dedupAfter
+    CasesPoints.dedup CasesPoints.cuts CasesSplit.firstMatch CasesSplit.atomsFrom CasesSplit.atoms CasesSplit.covers CasesSplit.piece
+    CasesSplit.opened CasesSplit.join CasesSplit.pieces CasesSplit.split SwitchSheet.nodesFrom SwitchSheet.guardOf SwitchSheet.bodyOf
+    SwitchSheet.casesOf SwitchSheet.rangeNodes SwitchSheet.caseBlocks SwitchSheet.rangeOf SwitchSheet.rangesOf Arms.guardKind Arms.tryAt
+    Arms.triesOf Arms.entryFrom Arms.triesExtent Arms.endExtent Arms.entryExtent Arms.endEmits Arms.armsExtent Arms.armChains Arms.memberOf
+    Arms.distinctFrom Arms.distinct Arms.dropEnd Arms.dropEntry Arms.dropIdleJump Bodies.tryWants Bodies.endWants Bodies.entryWants
+    Bodies.wanted Bodies.layBodies Bodies.bodiesExtent Bodies.fallExtent Bodies.bodyAt SwitchLayout.layCases SwitchLayout.caseArmsOf
+    SwitchLayout.layRanges SwitchLayout.rangesExtent SwitchLayout.layout SwitchCode.defaultAt SwitchCode.endAt SwitchCode.fallbackAt
+    SwitchCode.triesCode SwitchCode.endCode SwitchCode.entryCode SwitchCode.armsCode SwitchCode.rangesCode SwitchCode.bodiesCode
+    SwitchCode.bodiesFall SwitchCode.defaultCode SwitchCode.lastEmits SwitchCode.switchCode SwitchTables.entryOf SwitchTables.target
+    SwitchTables.casePools SwitchTables.caseRows SwitchTables.rangeRows SwitchTables.rangeTable SwitchTables.caseTable Switch.switchOf
+    Switch.switch
 switchProgram s rec = Switch.switch s rec
 
 -- the image
 unfoldable pub imageWords : Program → List ℕ
-unfolding BytecodeOp.receiverKind BytecodeOp.receiverWord BytecodeOp.opWords BytecodeChain.rootWords BytecodeChain.stepWords BytecodeChain.chainWords BytecodeSwitch.switchWords BytecodeSwitch.caseWords BytecodeSwitch.rangeWords Code.greatest Code.codeWords Code.positions Image.section Image.constWords Image.nameWords Image.maxStack Image.sizes Image.words
+unfolding BytecodeOp.receiverKind BytecodeOp.receiverWord BytecodeOp.opWords BytecodeChain.rootWords BytecodeChain.stepWords
+    BytecodeChain.chainWords BytecodeSwitch.switchWords BytecodeSwitch.caseWords BytecodeSwitch.rangeWords Code.greatest Code.codeWords
+    Code.positions Image.section Image.constWords Image.nameWords Image.maxStack Image.sizes Image.words
 imageWords r = Image.words r
 
 unfoldable pub answer : List ℕ → ℕ → ℕ → Outcome.Outcome
-unfolding checkedNumber expressionOut switchProgram imageWords Program.plain MakeSheet.bytesOf MakeSheet.joined MakeSheet.startsFrom MakeSheet.pad MakeSheet.sheet Outcome.lower Outcome.scratchNeeded Outcome.lowered Outcome.outcomeAfter Outcome.outcome
+unfolding checkedNumber expressionOut switchProgram imageWords Program.plain MakeSheet.bytesOf MakeSheet.joined MakeSheet.startsFrom
+    MakeSheet.pad MakeSheet.sheet Outcome.lower Outcome.scratchNeeded Outcome.lowered Outcome.outcomeAfter Outcome.outcome
 answer s imageLength scratchLength = Outcome.outcome s imageLength scratchLength

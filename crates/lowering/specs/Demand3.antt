@@ -8,7 +8,7 @@ use Rattle.lowering.specs.Limits.{maxLevels}
 use Rattle.lowering.specs.Kinds.{switchKind}
 use Rattle.lowering.specs.Expression.{expression}
 use Rattle.lowering.specs.SwitchSheet.{defaultBlock}
-use Rattle.lowering.specs.SwitchLayout.{layout}
+use Rattle.lowering.specs.SwitchLaid.{layout}
 use Rattle.lowering.specs.Marks.{Marked, marks}
 use Rattle.lowering.specs.Outcome.{image, outcome}
 use Rattle.lowering.specs.Words.{instructions, greatestDepth}

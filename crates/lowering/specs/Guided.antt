@@ -5,8 +5,8 @@ use mathlib.Core.Bool.{Bool, true, false, _&&_}
 use mathlib.Core.Option.{Option, none, some}
 use mathlib.Core.List.{List, [], _∷_, _++_}
 use lib.Dec.{eqb}
-use Rattle.cases.specs.Excess.{excess}
-use Rattle.cases.specs.Range.{inside}
+use Rattle.switch_split.specs.Excess.{excess}
+use Rattle.switch_split.specs.Range.{inside}
 use Rattle.bytecode.specs.Effect.{effect, Flow, on, jump, branch, table}
 use Rattle.lowering.specs.Kinds.{intKind}
 use Rattle.lowering.specs.Marks.{Marked, Mark, markAt}

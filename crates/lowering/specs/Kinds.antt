@@ -1,32 +1,3 @@
--- The node kinds that the lowering asks for by name.
-use Prim.Native.Nat.{ℕ}
-
-abbrev pub boolKind : ℕ
-boolKind = 1
-
-abbrev pub intKind : ℕ
-intKind = 3
-
-abbrev pub stringKind : ℕ
-stringKind = 6
-
-abbrev pub variableKind : ℕ
-variableKind = 9
-
-abbrev pub thisKind : ℕ
-thisKind = 10
-
-abbrev pub propertyKind : ℕ
-propertyKind = 11
-
-abbrev pub methodCallKind : ℕ
-methodCallKind = 12
-
-abbrev pub dotKind : ℕ
-dotKind = 14
-
-abbrev pub indexKind : ℕ
-indexKind = 15
-
-abbrev pub switchKind : ℕ
-switchKind = 19
+-- The node kinds that the lowering asks for by name; their numbers stand in crate sheet.
+pub use Rattle.sheet.specs.Kinds.{boolKind, intKind, stringKind, variableKind, thisKind, propertyKind}
+pub use Rattle.sheet.specs.Kinds.{methodCallKind, dotKind, indexKind, switchKind}

@@ -4,27 +4,15 @@ use Prim.Native.Nat.{ℕ, _+_, _<_}
 use mathlib.Core.Path.{_≡_}
 use mathlib.Core.Bool.{true, false}
 use mathlib.Core.List.{List, [], _∷_}
-use lib.Dec.{eqb}
 use Rattle.sheet.specs.Node.{kind, count, position, child}
 use Rattle.sheet.specs.Walk.{skip}
 use Rattle.sheet.specs.Start.{startsInside, startWithin, startOf}
-use Rattle.checks.specs.Checked.{numberOf, checked}
+use Rattle.checks.specs.Checked.{verdictNumber, checked}
 use Rattle.lowering.specs.Limits.{maxLevels}
-use Rattle.lowering.specs.Kinds.{switchKind}
-use Rattle.lowering.specs.Pools.{Pools, noPools}
+use Rattle.lowering.specs.Pools.{Pools}
 use Rattle.lowering.specs.Flatten.{isChain, restOf, goesOn, links}
 use Rattle.lowering.specs.Expression.{rule, byRule, expression}
-use Rattle.lowering.specs.Program.{Program, plain}
-use Rattle.lowering.specs.Switch.{switch}
-use Rattle.lowering.specs.Outcome.{lower}
-
--- `lower` with another count of levels
-unfoldable pub lowerWith : ℕ → List ℕ → Program
-lowerWith levels s =
-    elim (eqb (kind s 0) switchKind) [
-      | true ↦ switch s (expression levels s)
-      | false ↦ plain (expression levels s 0 0 0 noPools)
-    ]
+use Rattle.lowering.specs.Outcome.{lower, lowerWith}
 
 -- the nodes of the tree: node 0, and the children of each
 pub data InTree (s : List ℕ) : ℕ → Type 0 where
@@ -46,4 +34,4 @@ pub record Levelless (s : List ℕ) : Type 0 where
 
 -- what is to be proved, for every sheet that passes the check
 abbrev pub Statement : Type 0
-Statement = (s : List ℕ) → numberOf (checked s) ≡ 0 → Levelless s
+Statement = (s : List ℕ) → verdictNumber (checked s) ≡ 0 → Levelless s

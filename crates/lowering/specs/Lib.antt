@@ -18,7 +18,7 @@ pub mod Expression
 pub mod SwitchSheet
 pub mod Arms
 pub mod Bodies
-pub mod SwitchLayout
+pub mod SwitchLaid
 pub mod Program
 pub mod SwitchCode
 pub mod SwitchTables

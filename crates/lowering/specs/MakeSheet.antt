@@ -1,14 +1,20 @@
--- A sheet from its parts, for worked examples: nodes of six words, their positions, texts as bytes, locals as text numbers.
+-- A sheet from its parts, for worked examples: nodes as their words, their positions, texts as bytes, locals as text numbers.
 use Prim.Native.Nat.{ℕ, _+_, _*_, _/_, _%_, _-_, _^_}
 use mathlib.Core.List.{List, [], _∷_, _++_, map}
 use lib.ListN.{length, replicate}
 
+-- nodes by their words
 pub record Sheet : Type 0 where
   pub nodes : List (List ℕ)
   pub positions : List ℕ
   pub texts : List (List ℕ)
   pub locals : List ℕ
 
+-- the words of a node
+abbrev pub node : ℕ → ℕ → ℕ → ℕ → ℕ → ℕ → List ℕ
+node kind span count a b c = kind ∷ span ∷ count ∷ a ∷ b ∷ c ∷ []
+
+-- the bytes of words, the lowest first
 unfoldable pub bytesOf : List ℕ → List ℕ
 bytesOf [] = []
 bytesOf (w ∷ ws) = w % 256 ∷ w / 256 % 256 ∷ w / 65536 % 256 ∷ w / 2 ^ 24 ∷ bytesOf ws

@@ -8,7 +8,7 @@ use lib.Dec.{eqb}
 use lib.ListN.{length}
 use Rattle.lowering.specs.Arms.{Try, Entry, toBody, toChain, toFallback, Arm}
 use Rattle.lowering.specs.Bodies.{Body}
-use Rattle.lowering.specs.SwitchLayout.{Layout}
+use Rattle.lowering.specs.SwitchLaid.{SwitchLaid}
 use Rattle.lowering.specs.SwitchCode.{defaultAt}
 
 pub data Mark : Type 0 where
@@ -41,12 +41,12 @@ unfoldable pub bodyMarks : List Body → List Marked
 bodyMarks [] = []
 bodyMarks (x ∷ xs) = marked (x .place) (body (x .block)) ∷ bodyMarks xs
 
-unfoldable pub defaultMarks : ℕ → Layout → List Marked
+unfoldable pub defaultMarks : ℕ → SwitchLaid → List Marked
 defaultMarks zero l = marked (defaultAt zero l) missing ∷ []
 defaultMarks (suc k) l = []
 
 -- the marks of a layout, with the default block plus 1, or 0
-unfoldable pub marks : ℕ → Layout → List Marked
+unfoldable pub marks : ℕ → SwitchLaid → List Marked
 marks def l = armMarks (l .caseArms) ++ armMarks (l .rangeArms) ++ bodyMarks (l .bodies) ++ defaultMarks def l
 
 -- the mark at a place

@@ -4,7 +4,7 @@ use mathlib.Core.Bool.{true, false}
 use mathlib.Core.List.{List}
 use lib.Dec.{ltb, eqb}
 use lib.ListN.{length}
-use Rattle.sheet.specs.Layout.{nodeCount}
+use Rattle.sheet.specs.Sections.{nodeCount}
 use Rattle.sheet.specs.Node.{kind}
 use Rattle.checks.specs.Checked.{checked}
 use Rattle.checks.specs.declared.Verdict.{Verdict}
@@ -23,13 +23,17 @@ pub data Outcome : Type 0 where
   refused : Refusal → Outcome
   image : List ℕ → Outcome
 
--- node 0 is a Switch or an expression
-unfoldable pub lower : List ℕ → Program
-lower s =
+-- node 0 is a Switch or an expression; its nodes are lowered down to so many levels
+abbrev pub lowerWith : ℕ → List ℕ → Program
+lowerWith levels s =
     elim (eqb (kind s 0) switchKind) [
-      | true ↦ switch s (expression maxLevels s)
-      | false ↦ plain (expression maxLevels s 0 0 0 noPools)
+      | true ↦ switch s (expression levels s)
+      | false ↦ plain (expression levels s 0 0 0 noPools)
     ]
+
+-- with the levels that suffice for a checked sheet (Levels)
+unfoldable pub lower : List ℕ → Program
+lower s = lowerWith maxLevels s
 
 unfoldable pub scratchNeeded : List ℕ → Pools → ℕ
 scratchNeeded s p = scratchPerEmitted * p .emitted + scratchPerNode * nodeCount s + scratchBesides

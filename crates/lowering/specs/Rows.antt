@@ -1,17 +1,16 @@
 -- The rows of document 01 that are marked P, as one table with one theorem.
 use Prim.Native.Nat.{ℕ, _+_, _*_}
-use mathlib.Core.Path.{_≡_, refl}
 use mathlib.Core.Bool.{true, false}
 use mathlib.Core.List.{List, [], _∷_, _++_, map}
-use Rattle.cases.specs.Range.{Range, range}
-use Rattle.cases.specs.Split.{Entry, split}
-use Rattle.cases.specs.Rows.{small, least, greatest, entry}
+use Rattle.switch_split.specs.Range.{Range, range}
+use Rattle.switch_split.specs.Split.{Entry, split}
+use Rattle.switch_split.specs.Rows.{small, least, greatest, entry}
 use Rattle.bytecode.specs.declared.Receiver.the-variants.{Local, Named}
 use Rattle.bytecode.specs.declared.Op.{Op}
 use Rattle.bytecode.specs.declared.Op.the-variants.{Const, Unit, Bool, LoadNamed, Pop, Jump, JumpIfFalse, CallRef, Rotate, Switch, EvalAst}
 use Rattle.bytecode.specs.Op.{four}
 use Rattle.lowering.specs.Code.{Ins}
-use Rattle.lowering.specs.MakeSheet.{Sheet, sheet}
+use Rattle.lowering.specs.MakeSheet.{Sheet, node, sheet}
 use Rattle.lowering.specs.Outcome.{Outcome, image, lower}
 use Rattle.lowering.specs.Compute.{answer}
 
@@ -19,9 +18,6 @@ use Rattle.lowering.specs.Compute.{answer}
 pub data Row : Type 0 where
   splits : List Range → List Entry → Row
   lowers : Sheet → List Op → Outcome → Row
-
-abbrev pub node : ℕ → ℕ → ℕ → ℕ → ℕ → ℕ → List ℕ
-node kind span count a b c = kind ∷ span ∷ count ∷ a ∷ b ∷ c ∷ []
 
 abbrev pub at-line : ℕ → ℕ → ℕ
 at-line line column = 65536 * line + column
@@ -94,7 +90,12 @@ overlapping =
 unfoldable pub callLocal : Row
 callLocal =
     lowers
-    (record { nodes = node 13 2 1 0 0 0 ∷ node 9 1 0 1 0 0 ∷ []; positions = at-line 1 1 ∷ at-line 1 3 ∷ []; texts = textsGV; locals = 1 ∷ [] })
+    (record {
+      nodes = node 13 2 1 0 0 0 ∷ node 9 1 0 1 0 0 ∷ [];
+      positions = at-line 1 1 ∷ at-line 1 3 ∷ [];
+      texts = textsGV;
+      locals = 1 ∷ [];
+    })
     (CallRef 0 1 (Local 0) ∷ [])
     (image
     (listed (1 ∷ 0 ∷ 1 ∷ 0 ∷ 0 ∷ 0 ∷ 0 ∷ 0 ∷ 0 ∷ 0 ∷ 1 ∷ 1 ∷ []) (four 13 0 1 0) (at-line 1 1 ∷ []) (0 ∷ 0 ∷ [])))
@@ -181,7 +182,3 @@ unfoldable pub computed : Row → Row
 computed (splits rs es) = splits rs (split rs)
 computed (lowers sh ops out) =
     lowers sh (map (λ (i : Ins). i .op) ((lower (sheet sh)) .code)) (answer (sheet sh) 16384 16384)
-
-pub rows-right : (p : ℕ) → map computed (rows p) ≡ rows p
-unfolding unit andBool coalesceUnit nested empties widest overlapping callLocal callNamed emptySwitch defaultSwitch methodEval rows computed answer small least greatest entry
-rows-right p = refl

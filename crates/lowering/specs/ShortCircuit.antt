@@ -42,11 +42,11 @@ jumpOn zero t = JumpIfFalse t
 jumpOn (suc n) t = JumpIfTrue t
 
 -- the end of And and Or, with the first of its three instructions at place e
-unfoldable pub verdict : ℕ → ℕ → ℕ → Code
-verdict stop e d = ins (Bool (1 - stop)) d noPos ∷ ins (Jump (e + 3)) (suc d) noPos ∷ ins (Bool stop) d noPos ∷ []
+unfoldable pub decision : ℕ → ℕ → ℕ → Code
+decision stop e d = ins (Bool (1 - stop)) d noPos ∷ ins (Jump (e + 3)) (suc d) noPos ∷ ins (Bool stop) d noPos ∷ []
 
 unfoldable pub shortCircuit : ℕ → List ℕ → Rec → ℕ → ℕ → ℕ → Pools → Out
 shortCircuit stop s rec j b d p =
     let r = fragments s rec 1 (count s j) (child j) b d p in
     let e = b + extent 1 (r .parts) in
-    out (decided (jumpOn stop (e + 2)) d (r .parts) ++ verdict stop e d) (emits 3 (r .pools))
+    out (decided (jumpOn stop (e + 2)) d (r .parts) ++ decision stop e d) (emits 3 (r .pools))

@@ -4,7 +4,7 @@ use mathlib.Core.Bool.{true, false}
 use mathlib.Core.Option.{Option, none, some}
 use mathlib.Core.List.{List}
 use Rattle.text.specs.Same.{same}
-use Rattle.sheet.specs.Layout.{localCount}
+use Rattle.sheet.specs.Sections.{localCount}
 use Rattle.sheet.specs.Node.{localText}
 use Rattle.sheet.specs.Text.{text}
 

@@ -4,7 +4,7 @@ use mathlib.Core.Bool.{Bool, true, false, _&&_}
 use mathlib.Core.List.{List, [], _∷_, _++_}
 use lib.Dec.{eqb}
 use Rattle.sheet.specs.Node.{kind, fieldA, child}
-use Rattle.cases.specs.Range.{containing}
+use Rattle.switch_split.specs.Range.{containing}
 use Rattle.lowering.specs.Kinds.{boolKind, intKind}
 use Rattle.lowering.specs.SwitchSheet.{defaultBlock, guardOf, casesOf, caseBlocks, intAt, rangesOf}
 use Rattle.lowering.specs.Guided.{Event, tried, reached, missing}

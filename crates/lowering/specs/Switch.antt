@@ -4,13 +4,13 @@ use mathlib.Core.List.{List, _∷_}
 use Rattle.lowering.specs.Pools.{emits}
 use Rattle.lowering.specs.Out.{Rec}
 use Rattle.lowering.specs.SwitchSheet.{defaultBlock, casesOf}
-use Rattle.lowering.specs.SwitchLayout.{Layout, layout}
+use Rattle.lowering.specs.SwitchLaid.{SwitchLaid, layout}
 use Rattle.lowering.specs.SwitchCode.{defaultAt, fallbackAt, switchCode, lastEmits}
 use Rattle.lowering.specs.SwitchTables.{casePools, caseRows, rangeRows, caseTable, rangeTable}
 use Rattle.lowering.specs.Program.{Program}
 
 -- the program of a layout, with the default block plus 1, or 0
-unfoldable pub switchOf : List ℕ → ℕ → Layout → Program
+unfoldable pub switchOf : List ℕ → ℕ → SwitchLaid → Program
 switchOf s def l =
     let p = emits (lastEmits def) (l .pools) in
     let default = defaultAt def l in

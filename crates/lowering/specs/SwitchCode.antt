@@ -1,12 +1,12 @@
 -- A switch that is laid out, written with the targets of its jumps.
 use Prim.Native.Nat.{ℕ, zero, suc, _+_}
 use mathlib.Core.List.{List, [], _∷_, _++_}
-use Rattle.cases.specs.Split as Split
+use Rattle.switch_split.specs.Split as Split
 use Rattle.bytecode.specs.declared.Op.the-variants.{Unit, Jump, JumpIfTrue, Rotate, Pop, Switch}
 use Rattle.lowering.specs.Code.{Code, ins, noPos}
 use Rattle.lowering.specs.Arms.{Try, End, taken, declined, idle, Entry, toBody, toChain, toFallback, Arm}
 use Rattle.lowering.specs.Bodies.{Body, bodiesExtent, fallExtent, bodyAt}
-use Rattle.lowering.specs.SwitchLayout.{Layout}
+use Rattle.lowering.specs.SwitchLaid.{SwitchLaid}
 
 -- the depths at a Switch and at a guard, and behind a guard or a body: the subject lies below
 abbrev pub overSubject : ℕ
@@ -16,17 +16,17 @@ abbrev pub overValue : ℕ
 overValue = 2
 
 -- the default's body, or the Unit behind the bodies in its stead
-unfoldable pub defaultAt : ℕ → Layout → ℕ
+unfoldable pub defaultAt : ℕ → SwitchLaid → ℕ
 defaultAt zero l = l .bodiesPlace + bodiesExtent (l .bodies)
 defaultAt (suc k) l = bodyAt k (l .bodies)
 
 -- where the switch ends. A missing default has its Unit; with a default the last body's jump is dropped
-unfoldable pub endAt : ℕ → Layout → ℕ
+unfoldable pub endAt : ℕ → SwitchLaid → ℕ
 endAt zero l = l .bodiesPlace + bodiesExtent (l .bodies) + 1
 endAt (suc k) l = l .bodiesPlace + fallExtent (l .bodies)
 
 -- where a case goes that no guard takes: to the ranges, or to the default where there are none
-unfoldable pub fallbackAt : ℕ → List Split.Entry → Layout → ℕ
+unfoldable pub fallbackAt : ℕ → List Split.Entry → SwitchLaid → ℕ
 fallbackAt def [] l = defaultAt def l
 fallbackAt def (e ∷ es) l = l .dispatch
 
@@ -76,7 +76,7 @@ unfoldable pub lastEmits : ℕ → ℕ
 lastEmits zero = 3
 lastEmits (suc k) = 2
 
-unfoldable pub switchCode : ℕ → Layout → Code
+unfoldable pub switchCode : ℕ → SwitchLaid → Code
 switchCode def l =
     let x = l .bodies in
     l .subjectCode

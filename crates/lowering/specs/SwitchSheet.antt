@@ -4,8 +4,8 @@ use mathlib.Core.List.{List, [], _∷_, map}
 use lib.Dec.{eqb}
 use Rattle.sheet.specs.Node.{count, fieldA, fieldB, fieldC, child, next}
 use Rattle.sheet.specs.Walk.{skip}
-use Rattle.cases.specs.Excess.{excess}
-use Rattle.cases.specs.Range.{Range}
+use Rattle.switch_split.specs.Excess.{excess}
+use Rattle.switch_split.specs.Range.{Range}
 
 abbrev pub blockCount : List ℕ → ℕ
 blockCount s = fieldA s 0

@@ -5,8 +5,8 @@ use mathlib.Core.List.{List, [], _∷_}
 use lib.ListN.{length}
 use Rattle.text.specs.Same.{same}
 use Rattle.sheet.specs.Node.{child}
-use Rattle.cases.specs.Excess.{shifted}
-use Rattle.cases.specs.Split as Split
+use Rattle.switch_split.specs.Excess.{shifted}
+use Rattle.switch_split.specs.Split as Split
 use Rattle.bytecode.specs.declared.Switch.{Switch}
 use Rattle.bytecode.specs.declared.SwitchCase.{SwitchCase}
 use Rattle.bytecode.specs.declared.SwitchRange.{SwitchRange}
@@ -14,7 +14,7 @@ use Rattle.lowering.specs.Pools.{Pools, constOf, constAt, pushConst}
 use Rattle.lowering.specs.SwitchSheet.{caseBlocks}
 use Rattle.lowering.specs.Arms.{Entry, toBody, toChain, toFallback, Arm}
 use Rattle.lowering.specs.Bodies.{Body, bodyAt}
-use Rattle.lowering.specs.SwitchLayout.{Layout}
+use Rattle.lowering.specs.SwitchLaid.{SwitchLaid}
 
 -- the entry of a list of blocks
 unfoldable pub entryOf : List ℕ → List Arm → Entry
@@ -31,7 +31,7 @@ unfoldable pub casePools : List ℕ → List ℕ → Pools → Pools
 casePools s [] p = p
 casePools s (c ∷ cs) p = casePools s cs (pushConst s (constOf s (child c)) p)
 
-unfoldable pub caseRows : List ℕ → Layout → ℕ → List ℕ → Pools → List SwitchCase
+unfoldable pub caseRows : List ℕ → SwitchLaid → ℕ → List ℕ → Pools → List SwitchCase
 caseRows s l fallback [] p = []
 caseRows s l fallback (c ∷ cs) p =
     let v = constOf s (child c) in
@@ -42,7 +42,7 @@ abbrev pub oneIf : Bool → ℕ
 oneIf true = 1
 oneIf false = 0
 
-unfoldable pub rangeRows : Layout → ℕ → List Split.Entry → List SwitchRange
+unfoldable pub rangeRows : SwitchLaid → ℕ → List Split.Entry → List SwitchRange
 rangeRows l fallback [] = []
 rangeRows l fallback (e ∷ es) =
     record {

@@ -2,7 +2,8 @@
 use Prim.Native.Nat.{ℕ, _+_, _*_}
 use mathlib.Core.List.{List}
 use lib.ListN.{getD}
-use Rattle.lowering.specs.Limits.{sizesWords}
+use Rattle.lowering.specs.Limits.{sizesWords, opWidth, codeWidth, constWidth, chainWidth, stepWidth, switchWidth, caseWidth}
+use Rattle.lowering.specs.Limits.{rangeWidth, nameWidth}
 
 abbrev pub word : List ℕ → ℕ → ℕ
 word w i = getD w i 0
@@ -19,42 +20,42 @@ abbrev pub codeAt : ℕ
 codeAt = sizesWords
 
 unfoldable pub constsAt : List ℕ → ℕ
-constsAt w = codeAt + 5 * instructions w
+constsAt w = codeAt + codeWidth * instructions w
 
 unfoldable pub chainsAt : List ℕ → ℕ
-chainsAt w = constsAt w + 3 * word w 1 + 2 * word w 2 + word w 3 + word w 4
+chainsAt w = constsAt w + constWidth * word w 1 + nameWidth * word w 2 + word w 3 + word w 4
 
 unfoldable pub switchesAt : List ℕ → ℕ
-switchesAt w = chainsAt w + 6 * word w 5 + 6 * word w 6
+switchesAt w = chainsAt w + chainWidth * word w 5 + stepWidth * word w 6
 
 unfoldable pub casesAt : List ℕ → ℕ
-casesAt w = switchesAt w + 4 * word w 7
+casesAt w = switchesAt w + switchWidth * word w 7
 
 unfoldable pub rangesAt : List ℕ → ℕ
-rangesAt w = casesAt w + 2 * word w 8
+rangesAt w = casesAt w + caseWidth * word w 8
 
 -- the words of the instruction at a place: kind, a, b
 abbrev pub kindAt : List ℕ → ℕ → ℕ
-kindAt w p = word w (codeAt + 4 * p)
+kindAt w p = word w (codeAt + opWidth * p)
 
 abbrev pub aAt : List ℕ → ℕ → ℕ
-aAt w p = word w (codeAt + 4 * p + 1)
+aAt w p = word w (codeAt + opWidth * p + 1)
 
 abbrev pub bAt : List ℕ → ℕ → ℕ
-bAt w p = word w (codeAt + 4 * p + 2)
+bAt w p = word w (codeAt + opWidth * p + 2)
 
 -- word f of a record
 unfoldable pub constWord : List ℕ → ℕ → ℕ → ℕ
-constWord w i f = word w (constsAt w + 3 * i + f)
+constWord w i f = word w (constsAt w + constWidth * i + f)
 
 unfoldable pub chainWord : List ℕ → ℕ → ℕ → ℕ
-chainWord w i f = word w (chainsAt w + 6 * i + f)
+chainWord w i f = word w (chainsAt w + chainWidth * i + f)
 
 unfoldable pub switchWord : List ℕ → ℕ → ℕ → ℕ
-switchWord w i f = word w (switchesAt w + 4 * i + f)
+switchWord w i f = word w (switchesAt w + switchWidth * i + f)
 
 unfoldable pub caseWord : List ℕ → ℕ → ℕ → ℕ
-caseWord w i f = word w (casesAt w + 2 * i + f)
+caseWord w i f = word w (casesAt w + caseWidth * i + f)
 
 unfoldable pub rangeWord : List ℕ → ℕ → ℕ → ℕ
-rangeWord w i f = word w (rangesAt w + 6 * i + f)
+rangeWord w i f = word w (rangesAt w + rangeWidth * i + f)

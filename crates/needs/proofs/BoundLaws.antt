@@ -4,18 +4,18 @@ use mathlib.Core.Path.{_≡_, refl, sym, ap₂, _∙_}
 use mathlib.Core.Bool.{_||_}
 use mathlib.Core.List.{List, [], _∷_}
 use native.Mathlib.Omega.{arith}
-use Rattle.cases.specs.Split as Split
+use Rattle.switch_split.specs.Split as Split
 use Rattle.lowering.specs.SwitchSheet.{guardOf, bodyOf, subject, defaultBlock}
 use Rattle.lowering.specs.Arms.{Guard, never, always, tried, guardKind}
-use Rattle.counting.specs.declared.tallies.Tally.{Tally}
-use Rattle.counting.specs.Tally.{instructions, nothing, plus}
-use Rattle.counting.specs.Count.{Rec}
-use Rattle.counting.proofs.BoundLaws.{Below, below-refl, below-plus, Under}
-use Rattle.totals.specs.Arms.{triesTally, hasTry, endTally, armTally, armsTally, fallsTally}
-use Rattle.totals.specs.ArmsAdd.{falls-emitted, falls-defeated}
-use Rattle.totals.specs.Bodies.{bodiesTally, fallTally, defaultTally}
-use Rattle.totals.specs.BodiesAdd.{fall-emitted, fall-defeated}
-use Rattle.totals.specs.Total.{caseLists, splitLists, casesTally, rangesTally, bodiesOf, switchTally}
+use Rattle.expr_count.specs.declared.tallies.Tally.{Tally}
+use Rattle.expr_count.specs.Tally.{instructions, nothing, plus}
+use Rattle.expr_count.specs.Count.{Rec}
+use Rattle.expr_count.proofs.BoundLaws.{Below, below-refl, below-plus, Under}
+use Rattle.switch_count.specs.Arms.{triesTally, hasTry, endTally, armTally, armsTally, fallsTally}
+use Rattle.switch_count.proofs.ArmsAdd.{falls-emitted, falls-defeated}
+use Rattle.switch_count.specs.Bodies.{bodiesTally, fallTally, defaultTally}
+use Rattle.switch_count.proofs.BodiesAdd.{fall-emitted, fall-defeated}
+use Rattle.switch_count.specs.Total.{caseLists, splitLists, casesTally, rangesTally, bodiesOf, switchTally}
 
 -- no more is emitted, and an `eval` is reached where the other reaches one
 pub record Less (a b : Tally) : Type 0 where

@@ -1,5 +1,5 @@
 -- The refusals by counts, way by way, and the counts of a sheet by its kind.
-use Prim.Native.Nat.{ℕ, zero, suc, _+_, _*_, _<_, _≤_, min}
+use Prim.Native.Nat.{ℕ, _+_, _*_, _<_, _≤_, min}
 use mathlib.Core.Path.{_≡_, refl, sym, ap, _∙_, subst}
 use mathlib.Core.Bool.{Bool, true, false}
 use mathlib.Core.List.{List}
@@ -9,18 +9,18 @@ use borrow.Author.Tests.{lt-ltb, le-ltb, ltb-true, ltb-false, eq-eqb, ne-eqb}
 use Rattle.refusals.specs.declared.Refusal.{Refusal}
 use Rattle.refusals.specs.declared.Refusal.the-variants.{Eval, Emitted, ScratchShort}
 use Rattle.refusals.proofs.RefusalLaws.{number-some}
-use Rattle.checks.specs.Checked.{numberOf}
+use Rattle.checks.specs.Checked.{verdictNumber}
 use Rattle.checks.specs.declared.Verdict.{Verdict}
 use Rattle.checks.specs.declared.Verdict.the-variants.{Accepted, Refused}
 use Rattle.sheet.specs.Limits.{maxDepth}
 use Rattle.sheet.specs.Node.{kind}
-use Rattle.counting.specs.declared.tallies.Tally.{Tally}
-use Rattle.counting.specs.Limits.{cap}
-use Rattle.counting.specs.Tally.{takenBack, capped}
-use Rattle.counting.specs.Count.{tally}
-use Rattle.lowering.specs.Limits.{maxEmitted}
+use Rattle.expr_count.specs.declared.tallies.Tally.{Tally}
+use Rattle.expr_count.specs.Limits.{cap}
+use Rattle.expr_count.specs.Tally.{takenBack, capped}
+use Rattle.expr_count.specs.Count.{tally}
+use Rattle.lowering.specs.Limits.{maxEmitted, scratchPerEmitted, scratchPerNode, scratchBesides}
 use Rattle.lowering.specs.Kinds.{switchKind}
-use Rattle.totals.specs.Total.{total, switchTotal}
+use Rattle.switch_count.specs.Total.{total, switchTotal}
 use Rattle.needs.specs.Counts.{Counts, over, early}
 
 -- ---- whatever is lent
@@ -45,8 +45,8 @@ module _ {d : Bool} {e : ℕ} where
   over-capped (within h g) = within h (omega arith)
 
   pub over-few : {k : Verdict} → Over d e k → k ≡ Accepted → e ≤ maxEmitted
-  over-few (reached h) z = let n = ap numberOf z in absurd (omega arith)
-  over-few (above h g) z = let n = ap numberOf z in absurd (omega arith)
+  over-few (reached h) z = let n = ap verdictNumber z in absurd (omega arith)
+  over-few (above h g) z = let n = ap verdictNumber z in absurd (omega arith)
   over-few (within h g) z = g
 
 pub over-told : (d : Bool) (e : ℕ) (k : Verdict) → k ≡ over d e → Over d e k
@@ -66,16 +66,17 @@ over-told d e k k-is = by d refl (ltb maxEmitted e) refl
 pub data Early (d : Bool) (e m n : ℕ) : Verdict → Type 0 where
   eval : d ≡ true → Early d e m n (Refused Eval)
   many : d ≡ false → maxEmitted < e → Early d e m n (Refused Emitted)
-  short : d ≡ false → e ≤ maxEmitted → m < 16 * e + 16 * n + 4096 → Early d e m n (Refused ScratchShort)
-  none : d ≡ false → e ≤ maxEmitted → 16 * e + 16 * n + 4096 ≤ m → Early d e m n Accepted
+  short : d ≡ false → e ≤ maxEmitted → m < scratchPerEmitted * e + scratchPerNode * n + scratchBesides
+      → Early d e m n (Refused ScratchShort)
+  none : d ≡ false → e ≤ maxEmitted → scratchPerEmitted * e + scratchPerNode * n + scratchBesides ≤ m → Early d e m n Accepted
 
 module _ {d : Bool} {e m n : ℕ} where
   pub early-is : {k : Verdict} → Early d e m n k → k ≡ early d e m n
   unfolding early
   early-is (eval h) = rw (h, early)
   early-is (many h g) = rw (h, lt-ltb maxEmitted e g, early)
-  early-is (short h g l) = rw (h, le-ltb maxEmitted e g, lt-ltb m (16 * e + 16 * n + 4096) l, early)
-  early-is (none h g l) = rw (h, le-ltb maxEmitted e g, le-ltb m (16 * e + 16 * n + 4096) l, early)
+  early-is (short h g l) = rw (h, le-ltb maxEmitted e g, lt-ltb m (scratchPerEmitted * e + scratchPerNode * n + scratchBesides) l, early)
+  early-is (none h g l) = rw (h, le-ltb maxEmitted e g, le-ltb m (scratchPerEmitted * e + scratchPerNode * n + scratchBesides) l, early)
 
   -- a count that is cut off is still over the limit
   pub early-capped : {k : Verdict} → Early d e m n k → Early d (min e cap) m n k
@@ -85,22 +86,25 @@ module _ {d : Bool} {e m n : ℕ} where
   early-capped (none h g l) = none h (omega arith) (omega arith)
 
   pub few-emitted : {k : Verdict} → Early d e m n k → k ≡ Accepted → e ≤ maxEmitted
-  few-emitted (eval h) z = let n = ap numberOf z in absurd (omega arith)
-  few-emitted (many h g) z = let n = ap numberOf z in absurd (omega arith)
+  few-emitted (eval h) z = let n = ap verdictNumber z in absurd (omega arith)
+  few-emitted (many h g) z = let n = ap verdictNumber z in absurd (omega arith)
   few-emitted (short h g l) z = g
   few-emitted (none h g l) z = g
 
 pub early-told : (d : Bool) (e m n : ℕ) (k : Verdict) → k ≡ early d e m n → Early d e m n k
-early-told d e m n k k-is = by d refl (ltb maxEmitted e) refl (ltb m (16 * e + 16 * n + 4096)) refl
+early-told d e m n k k-is = by d refl (ltb maxEmitted e) refl (ltb m (scratchPerEmitted * e + scratchPerNode * n + scratchBesides)) refl
   where
     at : {j : Verdict} → Early d e m n j → Early d e m n k
     at w = subst (Early d e m n) (early-is w ∙ sym k-is) w
 
-    by : (a : Bool) → d ≡ a → (b : Bool) → ltb maxEmitted e ≡ b → (c : Bool) → ltb m (16 * e + 16 * n + 4096) ≡ c → Early d e m n k
+    by : (a : Bool) → d ≡ a → (b : Bool) → ltb maxEmitted e ≡ b → (c : Bool)
+        → ltb m (scratchPerEmitted * e + scratchPerNode * n + scratchBesides) ≡ c → Early d e m n k
     by true h b p c q = at (eval h)
     by false h true p c q = at (many h (ltb-true maxEmitted e p))
-    by false h false p true q = at (short h (ltb-false maxEmitted e p) (ltb-true m (16 * e + 16 * n + 4096) q))
-    by false h false p false q = at (none h (ltb-false maxEmitted e p) (ltb-false m (16 * e + 16 * n + 4096) q))
+    by false h false p true q =
+        at (short h (ltb-false maxEmitted e p) (ltb-true m (scratchPerEmitted * e + scratchPerNode * n + scratchBesides) q))
+    by false h false p false q =
+        at (none h (ltb-false maxEmitted e p) (ltb-false m (scratchPerEmitted * e + scratchPerNode * n + scratchBesides) q))
 
 -- ---- in the shapes of the code: k by the counts, w words of scratch
 
@@ -108,29 +112,22 @@ module _ {d : Bool} {e : ℕ} (m n : ℕ) where
   pub early-over : {k : Verdict} {r : Refusal} → Over d e k → k ≡ Refused r → Refused r ≡ early d e m n
   early-over (reached h) q = sym q ∙ early-is (eval h)
   early-over (above h g) q = sym q ∙ early-is (many h g)
-  early-over {r = r} (within h g) q = let n = ap numberOf q in absurd (omega (arith, number-some r))
+  early-over {r = r} (within h g) q = let n = ap verdictNumber q in absurd (omega (arith, number-some r))
 
-  module _ {w : ℕ} (w-is : w ≡ 16 * e + 16 * n + 4096) where
+  module _ {w : ℕ} (w-is : w ≡ scratchPerEmitted * e + scratchPerNode * n + scratchBesides) where
     pub early-short : {k : Verdict} → Over d e k → k ≡ Accepted → m < w → Refused ScratchShort ≡ early d e m n
-    early-short (reached h) z l = let n = ap numberOf z in absurd (omega arith)
-    early-short (above h g) z l = let n = ap numberOf z in absurd (omega arith)
+    early-short (reached h) z l = let n = ap verdictNumber z in absurd (omega arith)
+    early-short (above h g) z l = let n = ap verdictNumber z in absurd (omega arith)
     early-short (within h g) z l = early-is (short h g (omega arith))
 
     pub early-none : {k : Verdict} → Over d e k → k ≡ Accepted → w ≤ m → Accepted ≡ early d e m n
-    early-none (reached h) z l = let n = ap numberOf z in absurd (omega arith)
-    early-none (above h g) z l = let n = ap numberOf z in absurd (omega arith)
+    early-none (reached h) z l = let n = ap verdictNumber z in absurd (omega arith)
+    early-none (above h g) z l = let n = ap verdictNumber z in absurd (omega arith)
     early-none (within h g) z l = early-is (none h g (omega arith))
 
 -- ---- by the counts as the code has them, cut off
 
 module _ {s : List ℕ} {t : Tally} (C : Counts s t) where
-  pub decided : (m n : ℕ) (k : Verdict) → k ≡ early (t .defeated) (t .emitted) m n → Early (total s .defeated) (total s .emitted) m n k
-  unfolding capped takenBack
-  decided m n k k-is =
-      let way = early-told (total s .defeated) (total s .emitted) m n _ refl in
-      let same = k-is ∙ ap (λ (u : Tally). early (u .defeated) (u .emitted) m n) (C .is) in
-      subst (Early _ _ _ _) (early-is (early-capped way) ∙ sym same) way
-
   pub decided-over : (k : Verdict) → k ≡ over (t .defeated) (t .emitted) → Over (total s .defeated) (total s .emitted) k
   unfolding capped takenBack
   decided-over k k-is =

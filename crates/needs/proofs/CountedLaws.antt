@@ -4,18 +4,18 @@ use mathlib.Core.Path.{_≡_, refl, subst}
 use mathlib.Core.Bool.{Bool, true, false}
 use mathlib.Core.List.{List, [], _∷_}
 use lib.Dec.{eqb}
-use Rattle.checks.specs.Checked.{numberOf}
+use Rattle.checks.specs.Checked.{verdictNumber}
 use Rattle.sheet.specs.Limits.{maxDepth}
-use Rattle.sheet.specs.Layout.{nodeCount}
+use Rattle.sheet.specs.Sections.{nodeCount}
 use Rattle.sheet.specs.Node.{kind}
 use Rattle.lowering.specs.Kinds.{switchKind}
-use Rattle.counting.specs.declared.tallies.Tally.{Tally}
-use Rattle.counting.specs.Tally.{takenBack, capped}
-use Rattle.counting.specs.Locals.{answer}
-use Rattle.counting.specs.LocalLaws.{asked-answer, all-locals, no-locals}
-use Rattle.counting.specs.Count.{tallyBy, tally}
-use Rattle.totals.specs.Total.{switchTotal}
-use Rattle.plan.specs.Counted.{Counted}
+use Rattle.expr_count.specs.declared.tallies.Tally.{Tally}
+use Rattle.expr_count.specs.Tally.{takenBack, capped}
+use Rattle.expr_count.specs.Locals.{answer}
+use Rattle.expr_count.proofs.LocalLaws.{asked-answer, all-locals, no-locals}
+use Rattle.expr_count.specs.Count.{tallyBy, tally}
+use Rattle.switch_count.specs.Total.{switchTotal}
+use Rattle.switch_places.specs.Counted.{Counted}
 use Rattle.needs.specs.Counts.{early, Decides, Exact}
 use Rattle.needs.proofs.CountLaws.{switch-counted}
 use Rattle.needs.proofs.DecideLaws.{exact-decides, greater-decides, switch-between}
@@ -45,7 +45,8 @@ module _ (s w : List ℕ) (r : Tally) where
 pub greater-switch : (s w v : List ℕ) (m : ℕ) (t u : Tally) {k : Bool} {nodes : ℕ} → kind s 0 ≡ switchKind
     → Counted s (tallyBy (answer (0 ∷ []) s) maxDepth s) w u → Counted s (tallyBy (answer (1 ∷ []) s) maxDepth s) v t
     → nodes ≡ nodeCount s
-    → k ≡ eqb (numberOf (early (t .defeated) (t .emitted) m nodes)) (numberOf (early (u .defeated) (u .emitted) m nodes)) → k ≡ true
+    → k ≡ eqb (verdictNumber (early (t .defeated) (t .emitted) m nodes)) (verdictNumber (early (u .defeated) (u .emitted) m nodes))
+    → k ≡ true
     → Decides s m u
 greater-switch s w v m t u h high low n-is k-is same =
     let between = switch-between s h in

@@ -6,20 +6,20 @@ use mathlib.Core.List.{List}
 use native.Mathlib.Omega.{arith}
 use lib.Dec.{eqb}
 use borrow.Author.Tests.{ne-eqb, eqb-true}
-use Rattle.checks.specs.Checked.{numberOf}
+use Rattle.checks.specs.Checked.{verdictNumber}
 use Rattle.checks.specs.declared.Verdict.{Verdict}
 use Rattle.sheet.specs.Limits.{maxDepth}
-use Rattle.sheet.specs.Layout.{nodeCount}
+use Rattle.sheet.specs.Sections.{nodeCount}
 use Rattle.sheet.specs.Node.{kind}
 use Rattle.lowering.specs.Kinds.{switchKind}
-use Rattle.counting.specs.declared.tallies.Tally.{Tally}
-use Rattle.counting.specs.Limits.{cap}
-use Rattle.counting.specs.Tally.{takenBack, capped}
-use Rattle.counting.specs.TallyLaws.{back-capped}
-use Rattle.counting.specs.Count.{tallyBy, tally}
-use Rattle.counting.proofs.BoundLaws.{tally-least, tally-greatest}
-use Rattle.totals.specs.Total.{total, switchTally, switchTotal}
-use Rattle.tables.specs.Planned.{entries}
+use Rattle.expr_count.specs.declared.tallies.Tally.{Tally}
+use Rattle.expr_count.specs.Limits.{cap}
+use Rattle.expr_count.specs.Tally.{takenBack, capped}
+use Rattle.expr_count.proofs.TallyLaws.{back-capped}
+use Rattle.expr_count.specs.Count.{tallyBy, tally}
+use Rattle.expr_count.proofs.BoundLaws.{tally-least, tally-greatest}
+use Rattle.switch_count.specs.Total.{total, switchTally, switchTotal}
+use Rattle.switch_tables.specs.Planned.{entries}
 use Rattle.needs.specs.Counts.{Counts, early, Decides}
 use Rattle.needs.proofs.BoundLaws.{Less, less-of, switch-less}
 use Rattle.needs.proofs.CountLaws.{Early, eval, many, short, none, early-is, early-capped, early-told, total-switch}
@@ -29,7 +29,8 @@ early-cut : (d : Bool) (e m n : ℕ) → early d e m n ≡ early d (min e cap) m
 early-cut d e m n = early-is (early-capped (early-told d e m n _ refl))
 
 -- so does a count between two that do
-early-between : {d : Bool} {e f g m n : ℕ} {k l : Verdict} → e ≤ f → f ≤ g → Early d e m n k → Early d g m n l → numberOf k ≡ numberOf l
+early-between : {d : Bool} {e f g m n : ℕ} {k l : Verdict} → e ≤ f → f ≤ g → Early d e m n k → Early d g m n l
+    → verdictNumber k ≡ verdictNumber l
     → Early d f m n l
 early-between p q (eval h) (eval i) z = eval h
 early-between p q (eval h) (many i j) z = absurd (omega arith)
@@ -61,7 +62,8 @@ module _ (s : List ℕ) (m : ℕ) where
   -- the greater of two between which they lie, where both are refused alike
   pub greater-decides : (a b t u : Tally) {k : Bool} {nodes : ℕ} → Less a (total s) → Less (total s) b → takenBack t ≡ capped (takenBack a)
       → takenBack u ≡ capped (takenBack b) → nodes ≡ nodeCount s
-      → k ≡ eqb (numberOf (early (t .defeated) (t .emitted) m nodes)) (numberOf (early (u .defeated) (u .emitted) m nodes)) → k ≡ true
+      → k ≡ eqb (verdictNumber (early (t .defeated) (t .emitted) m nodes)) (verdictNumber (early (u .defeated) (u .emitted) m nodes))
+      → k ≡ true
       → Decides s m u
   unfolding capped takenBack
   greater-decides a b t u {nodes = nodes} low high t-is u-is n-is k-is same =
@@ -80,9 +82,9 @@ module _ (s : List ℕ) (m : ℕ) where
       let h = high .emitted in
       let x-is = early (t .defeated) (t .emitted) m nodes in
       let y-is = early (u .defeated) (u .emitted) m nodes in
-      let equal = eqb-true (numberOf x-is) (numberOf y-is) (sym k-is ∙ same) in
+      let equal = eqb-true (verdictNumber x-is) (verdictNumber y-is) (sym k-is ∙ same) in
       let alike =
-      ap numberOf (sym down) ∙ equal ∙ ap numberOf (ap (early (u .defeated) (u .emitted) m) n-is ∙ up) in
+      ap verdictNumber (sym down) ∙ equal ∙ ap verdictNumber (ap (early (u .defeated) (u .emitted) m) n-is ∙ up) in
       let way =
       early-between {e = x} {f = min e cap} {g = y} (omega arith) (omega arith) (early-told d x m n _ refl) (early-told d y m n _ refl)
       alike in

@@ -7,7 +7,7 @@ use native.Mathlib.Omega.{arith}
 use lib.Dec.{ltb}
 use lib.ListN.{length}
 use borrow.Author.Tests.{lt-ltb, le-ltb, ltb-true, ltb-false}
-use Rattle.sheet.specs.Layout.{nodeCount}
+use Rattle.sheet.specs.Sections.{nodeCount}
 use Rattle.checks.specs.Checked as Checked
 use Rattle.checks.specs.declared.Verdict.{Verdict}
 use Rattle.checks.specs.declared.Verdict.the-variants as Verdicts
@@ -15,15 +15,15 @@ use Rattle.checks.proofs.VerdictLaws.{accepted-is, refused-own}
 use Rattle.refusals.specs.declared.Refusal.{Refusal}
 use Rattle.refusals.specs.declared.Refusal.the-variants.{Eval, Emitted, ScratchShort, ImageLong}
 use Rattle.refusals.proofs.RefusalLaws.{number-some}
-use Rattle.counting.specs.declared.tallies.Tally.{Tally}
-use Rattle.counting.specs.Limits.{cap}
-use Rattle.lowering.specs.Limits.{maxEmitted}
+use Rattle.expr_count.specs.declared.tallies.Tally.{Tally}
+use Rattle.expr_count.specs.Limits.{cap}
+use Rattle.lowering.specs.Limits.{maxEmitted, scratchPerEmitted, scratchPerNode, scratchBesides}
 use Rattle.lowering.specs.Image.{words}
-use Rattle.lowering.specs.Nodes.{right, accepted-sizes, accepted-shape}
+use Rattle.lowering.proofs.NodesLaws.{right, accepted-sizes, accepted-shape}
 use Rattle.lowering.specs.Outcome.{Outcome, refused, image, lower, outcomeAfter, outcome}
-use Rattle.totals.specs.Total.{total}
-use Rattle.totals.specs.TotalLaws.{total-emitted, total-defeated}
-use Rattle.totals.specs.OutcomeLaws.{scratchTotal, scratch-total, outcome-9, outcome-10, outcome-11, outcome-12, outcome-image}
+use Rattle.switch_count.specs.Total.{total}
+use Rattle.switch_count.proofs.TotalLaws.{total-emitted, total-defeated}
+use Rattle.switch_count.proofs.OutcomeLaws.{scratchTotal, scratch-total, outcome-9, outcome-10, outcome-11, outcome-12, outcome-image}
 use Rattle.needs.specs.declared.Need.{Need}
 use Rattle.needs.specs.declared.Need.the-variants.{Scratch, Refused}
 use Rattle.needs.specs.Needed.{neededBy, neededAfter, needed}
@@ -49,7 +49,7 @@ abbrev named : Verdict → Need
 named Verdicts.Accepted = Scratch 0
 named (Verdicts.Refused r) = Refused r
 
-module _ (s : List ℕ) (ok : Checked.numberOf (Checked.checked s) ≡ 0) where
+module _ (s : List ℕ) (ok : Checked.verdictNumber (Checked.checked s) ≡ 0) where
   accepted-need : needed s ≡ neededBy s (lower s .pools)
   unfolding needed neededAfter
   accepted-need = rw (accepted-is (Checked.checked s) ok)
@@ -75,13 +75,13 @@ module _ (s : List ℕ) (ok : Checked.numberOf (Checked.checked s) ≡ 0) where
   need-over : {k : Verdict} {r : Refusal} → Over (total s .defeated) (total s .emitted) k → k ≡ Verdicts.Refused r → needed s ≡ Refused r
   need-over (reached d) q = need-9 d ∙ ap named q
   need-over (above d g) q = need-10 d g ∙ ap named q
-  need-over {r = r} (within d g) q = let n = ap Checked.numberOf q in absurd (omega (arith, number-some r))
+  need-over {r = r} (within d g) q = let n = ap Checked.verdictNumber q in absurd (omega (arith, number-some r))
 
   need-within : {k : Verdict} → Over (total s .defeated) (total s .emitted) k → k ≡ Verdicts.Accepted → (e w : ℕ)
-      → e ≡ min (total s .emitted) cap → w ≡ 16 * e + 16 * nodeCount s + 4096 → needed s ≡ Scratch w
+      → e ≡ min (total s .emitted) cap → w ≡ scratchPerEmitted * e + scratchPerNode * nodeCount s + scratchBesides → needed s ≡ Scratch w
   unfolding scratchTotal
-  need-within (reached d) z e w e-is w-is = let n = ap Checked.numberOf z in absurd (omega arith)
-  need-within (above d g) z e w e-is w-is = let n = ap Checked.numberOf z in absurd (omega arith)
+  need-within (reached d) z e w e-is w-is = let n = ap Checked.verdictNumber z in absurd (omega arith)
+  need-within (above d g) z e w e-is w-is = let n = ap Checked.verdictNumber z in absurd (omega arith)
   need-within (within d g) z e w e-is w-is = need-words d g ∙ ap Scratch (omega arith)
 
   -- in the shapes of the code
@@ -89,7 +89,8 @@ module _ (s : List ℕ) (ok : Checked.numberOf (Checked.checked s) ≡ 0) where
     pub counted-refused : (r : Refusal) → k ≡ Verdicts.Refused r → Refused r ≡ needed s
     counted-refused r q = sym (need-over (decided-over C k k-is) q)
 
-    pub counted-words : k ≡ Verdicts.Accepted → (n w : ℕ) → n ≡ nodeCount s → w ≡ 16 * t .emitted + 16 * n + 4096 → Scratch w ≡ needed s
+    pub counted-words : k ≡ Verdicts.Accepted → (n w : ℕ) → n ≡ nodeCount s
+        → w ≡ scratchPerEmitted * t .emitted + scratchPerNode * n + scratchBesides → Scratch w ≡ needed s
     counted-words z n w n-is w-is = sym (need-within (decided-over C k k-is) z (t .emitted) w (emitted-is C) (omega arith))
 
 -- ---- what a need means
@@ -103,7 +104,7 @@ abbrev why : Outcome → Refusal
 why (refused r) = r
 why (image xs) = ImageLong
 
-module _ (s : List ℕ) (ok : Checked.numberOf (Checked.checked s) ≡ 0) where
+module _ (s : List ℕ) (ok : Checked.verdictNumber (Checked.checked s) ≡ 0) where
   over-means : {k : Verdict} → Over (total s .defeated) (total s .emitted) k → Means s (needed s)
   unfolding scratchTotal
   over-means (reached d) = subst (Means s) (sym (need-9 s ok d)) (refuses refl (λ i m. outcome-9 s i m ok d))
@@ -125,5 +126,5 @@ pub means : (s : List ℕ) → Means s (needed s)
 means s = by (Checked.checked s) refl
   where
     by : (v : Verdict) → Checked.checked s ≡ v → Means s (needed s)
-    by Verdicts.Accepted e = over-means s (ap Checked.numberOf e) (over-told (total s .defeated) (total s .emitted) _ refl)
+    by Verdicts.Accepted e = over-means s (ap Checked.verdictNumber e) (over-told (total s .defeated) (total s .emitted) _ refl)
     by (Verdicts.Refused r) e = subst (Means s) (sym (refused-need s r e)) (refuses (refused-own s r e) (refused-is s r e))

@@ -4,16 +4,16 @@ use mathlib.Core.Path.{_≡_}
 use mathlib.Core.Bool.{Bool, true, false}
 use mathlib.Core.List.{List}
 use lib.Dec.{ltb}
-use Rattle.sheet.specs.Layout.{nodeCount}
+use Rattle.sheet.specs.Sections.{nodeCount}
 use Rattle.lowering.specs.Limits.{maxEmitted, scratchPerEmitted, scratchPerNode, scratchBesides}
 use Rattle.refusals.specs.declared.Refusal.the-variants.{Eval, Emitted, ScratchShort}
 use Rattle.checks.specs.declared.Verdict.{Verdict}
 use Rattle.checks.specs.declared.Verdict.the-variants.{Accepted, Refused}
-use Rattle.counting.specs.declared.tallies.Tally.{Tally}
-use Rattle.counting.specs.Limits.{cap}
-use Rattle.counting.specs.Tally.{takenBack, capped}
-use Rattle.totals.specs.Total.{total, switchTotal}
-use Rattle.tables.specs.Planned.{Tables, Placed}
+use Rattle.expr_count.specs.declared.tallies.Tally.{Tally}
+use Rattle.expr_count.specs.Limits.{cap}
+use Rattle.expr_count.specs.Tally.{takenBack, capped}
+use Rattle.switch_count.specs.Total.{total, switchTotal}
+use Rattle.switch_tables.specs.Planned.{Tables, Placed}
 
 -- t has what the sheet emits, and whether it reaches an `eval`
 pub record Counts (s : List ℕ) (t : Tally) : Type 0 where
@@ -31,7 +31,10 @@ early d e m n =
       | false ↦
           elim (ltb maxEmitted e) [
             | true ↦ Refused Emitted
-            | false ↦ elim (ltb m (scratchPerEmitted * e + scratchPerNode * n + scratchBesides)) [ true ↦ Refused ScratchShort | false ↦ Accepted ]
+            | false ↦ elim (ltb m (scratchPerEmitted * e + scratchPerNode * n + scratchBesides)) [
+              | true ↦ Refused ScratchShort
+              | false ↦ Accepted
+            ]
           ]
     ]
 

@@ -16,7 +16,8 @@ use Rattle.needs.specs.declared.Need.the-variants.{Scratch, Refused}
 abbrev pub scratchMost : ℕ
 scratchMost = scratchPerEmitted * maxEmitted + scratchPerNode * maxNodes + scratchBesides
 
--- a refusal of the sheet's own meets every lowering; with w words of scratch, 11 is the outcome where fewer are lent, and else no refusal but 12
+-- a refusal of the sheet's own meets every lowering; with w words of scratch, 11 is the outcome where fewer are
+-- lent, and else no refusal but 12
 pub data Means (s : List ℕ) : Need → Type 0 where
   refuses : {r : Refusal} → ofSheet r ≡ true → ((i m : ℕ) → outcome s i m ≡ refused r) → Means s (Refused r)
   asks : {w : ℕ} → w ≤ scratchMost → ((i m : ℕ) → m < w → outcome s i m ≡ refused ScratchShort)

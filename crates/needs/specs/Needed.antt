@@ -15,9 +15,9 @@ use Rattle.needs.specs.declared.Need.{Need}
 use Rattle.needs.specs.declared.Need.the-variants.{Scratch, Refused}
 
 -- 01's number of a need: 0 is none
-abbrev pub numberOf : Need → ℕ
-numberOf (Scratch words) = 0
-numberOf (Refused by) = refusalNumber by
+abbrev pub needNumber : Need → ℕ
+needNumber (Scratch words) = 0
+needNumber (Refused by) = refusalNumber by
 
 -- the words of scratch, 0 under a refusal
 abbrev pub wordsOf : Need → ℕ

@@ -5,32 +5,33 @@ ghost use lib.Dec.{eqb};
 ghost use lib.ListN.{length};
 ghost use Rattle.checks.specs.Checked as Checked;
 ghost use Rattle.sheet.specs.Limits.{maxDepth};
-ghost use Rattle.sheet.specs.Layout.{localCount};
+ghost use Rattle.sheet.specs.Sections.{localCount};
 ghost use Rattle.sheet.specs.Node as nodes;
 ghost use Rattle.lowering.specs.Kinds.{switchKind};
 ghost use Rattle.lowering.specs.Limits.{scratchPerEmitted, scratchPerNode, scratchBesides};
-ghost use Rattle.counting.specs.Locals.{answer};
-ghost use Rattle.counting.specs.Count.{tallyBy, tally};
-ghost use Rattle.tables.specs.Columns as columns;
-ghost use Rattle.plan.specs.Counted.{Counted};
+ghost use Rattle.expr_count.specs.Locals.{answer};
+ghost use Rattle.expr_count.specs.Count.{tallyBy, tally};
+ghost use Rattle.switch_tables.specs.Columns as columns;
+ghost use Rattle.switch_places.specs.Counted.{Counted};
 ghost use Rattle.needs.specs.Counts.{Counts, Decides, Exact, over, early};
 ghost use Rattle.needs.specs.Needed.{needed};
 use checks::Verdict;
 use checks::check;
 use checks::number;
-use counting::exact;
-use counting::greatest;
-use counting::least;
-use counting::tallies::MAX_EMITTED;
-use counting::tallies::Tally;
-use plan::count;
-use plan::read;
+use expr_count::exact;
+use expr_count::greatest;
+use expr_count::least;
+use expr_count::tallies::Tally;
+use lowering::MAX_EMITTED;
 use refusals::Refusal;
 use sheet::kind;
+use sheet::kinds::SWITCH;
 use sheet::limits::MAX_DEPTH;
 use sheet::local_count;
 use sheet::node_count;
-use tables::SIZE;
+use switch_places::count;
+use switch_places::read;
+use switch_tables::SIZE;
 
 // What a sheet needs: so many words of scratch; or it is refused, whatever is lent.
 pub enum Need {
@@ -39,9 +40,7 @@ pub enum Need {
 }
 
 // The kind of a Switch.
-pub const SWITCH: u32 = 19;
-
-// words of scratch for each emitted instruction, for each node, and besides
+// Words of scratch for each emitted instruction, for each node, and besides, as lowering/specs/Limits has them.
 pub const PER_EMITTED: u64 = 16;
 
 pub const PER_NODE: u64 = 16;
@@ -89,62 +88,62 @@ pub fn refusal(t: Tally, scratch: usize, nodes: u32) -> Verdict
 
 // Both counts are refused alike, or neither is refused.
 fn alike(a: Tally, b: Tally, scratch: usize, nodes: u32) -> bool
-    ensures { λ r. ⌜ r ≡ eqb (Checked.numberOf (early (a .defeated) (a .emitted) scratch nodes))
-        (Checked.numberOf (early (b .defeated) (b .emitted) scratch nodes)) ⌝ }
+    ensures { λ r. ⌜ r ≡ eqb (Checked.verdictNumber (early (a .defeated) (a .emitted) scratch nodes))
+        (Checked.verdictNumber (early (b .defeated) (b .emitted) scratch nodes)) ⌝ }
 {
     number(refusal(a, scratch, nodes)) == number(refusal(b, scratch, nodes))
 }
 
 // The counts of an accepted expression.
-fn count_plain(s: &[u8]) -> Tally
-    ensures { λ r. let sheet = now (s .entry) in ⌜ ((nodes.kind sheet 0 ≡ switchKind → ⊥) → Counts sheet r) ⌝ }
+fn count_plain(sheet: &[u8]) -> Tally
+    ensures { λ r. let sheet = now (sheet .entry) in ⌜ ((nodes.kind sheet 0 ≡ switchKind → ⊥) → Counts sheet r) ⌝ }
 {
-    exact(MAX_DEPTH, s, 0)
+    exact(MAX_DEPTH, sheet, 0)
 }
 
 // An accepted Switch read into the flat table and counted, with the locals that are told.
-fn planned(s: &[u8], told: &[u32], w: &mut [u32; SIZE]) -> Tally
-    ensures { λ r. let sheet = now (s .entry) in let t = tallyBy (answer (now (told .entry)) sheet) maxDepth sheet in ⌜
-        (length (now (w .entry)) ≡ columns.size → Checked.numberOf (Checked.checked sheet) ≡ 0 → nodes.kind sheet 0 ≡ switchKind
-        → Counted sheet t (now (w .exit)) r) ⌝ }
-    ensures { λ _. ⌜ length (now (w .exit)) ≡ length (now (w .entry)) ⌝ }
+fn planned(sheet: &[u8], told: &[u32], flat: &mut [u32; SIZE]) -> Tally
+    ensures { λ r. let sheet = now (sheet .entry) in let t = tallyBy (answer (now (told .entry)) sheet) maxDepth sheet in ⌜
+        (length (now (flat .entry)) ≡ columns.size → Checked.verdictNumber (Checked.checked sheet) ≡ 0 → nodes.kind sheet 0 ≡ switchKind
+        → Counted sheet t (now (flat .exit)) r) ⌝ }
+    ensures { λ _. ⌜ length (now (flat .exit)) ≡ length (now (flat .entry)) ⌝ }
 {
-    read(s, told, &mut w[..]);
-    count(s, told, &mut w[..])
+    read(sheet, told, &mut flat[..]);
+    count(sheet, told, &mut flat[..])
 }
 
 // The counts of an accepted Switch, read into the flat table.
-fn count_switch(s: &[u8], w: &mut [u32; SIZE]) -> Tally
-    ensures { λ r. let sheet = now (s .entry) in ⌜ (length (now (w .entry)) ≡ columns.size
-        → Checked.numberOf (Checked.checked sheet) ≡ 0 → nodes.kind sheet 0 ≡ switchKind
-        → Counted sheet (tally maxDepth sheet) (now (w .exit)) r) ⌝ }
-    ensures { λ _. ⌜ length (now (w .exit)) ≡ length (now (w .entry)) ⌝ }
+fn count_switch(sheet: &[u8], flat: &mut [u32; SIZE]) -> Tally
+    ensures { λ r. let sheet = now (sheet .entry) in ⌜ (length (now (flat .entry)) ≡ columns.size
+        → Checked.verdictNumber (Checked.checked sheet) ≡ 0 → nodes.kind sheet 0 ≡ switchKind
+        → Counted sheet (tally maxDepth sheet) (now (flat .exit)) r) ⌝ }
+    ensures { λ _. ⌜ length (now (flat .exit)) ≡ length (now (flat .entry)) ⌝ }
 {
     let none = [0u32; 0];
-    planned(s, &none[..], w)
+    planned(sheet, &none[..], flat)
 }
 
 // The counts of an accepted sheet.
-fn counts(s: &[u8]) -> Tally
-    ensures { λ r. let sheet = now (s .entry) in ⌜ (Checked.numberOf (Checked.checked sheet) ≡ 0 → Counts sheet r) ⌝ }
+fn counts(sheet: &[u8]) -> Tally
+    ensures { λ r. let sheet = now (sheet .entry) in ⌜ (Checked.verdictNumber (Checked.checked sheet) ≡ 0 → Counts sheet r) ⌝ }
 {
-    if kind(s, 0) == SWITCH {
+    if kind(sheet, 0) == SWITCH {
         let mut w = [0u32; SIZE];
-        return count_switch(s, &mut w);
+        return count_switch(sheet, &mut w);
     }
-    count_plain(s)
+    count_plain(sheet)
 }
 
 // What an accepted sheet needs.
-fn need_of(s: &[u8]) -> Need
-    ensures { λ r. let sheet = now (s .entry) in ⌜ (Checked.numberOf (Checked.checked sheet) ≡ 0 → r ≡ needed sheet) ⌝ }
+fn need_of(sheet: &[u8]) -> Need
+    ensures { λ r. let sheet = now (sheet .entry) in ⌜ (Checked.verdictNumber (Checked.checked sheet) ≡ 0 → r ≡ needed sheet) ⌝ }
 {
-    let t = counts(s);
+    let t = counts(sheet);
     let k = over_limits(t);
     match k {
         Verdict::Refused(by) => Need::Refused { by },
         Verdict::Accepted => Need::Scratch {
-            words: scratch_words(t.emitted as u32, node_count(s)),
+            words: scratch_words(t.emitted as u32, node_count(sheet)),
         },
     }
 }
@@ -160,52 +159,52 @@ pub fn needs(sheet: &[u8]) -> Need
     }
 }
 
-// The counts by which an expression is refused or built. Beside many locals no name is looked up, where all of them or none as receivers are
-// refused alike: the greater count is then enough.
-pub fn plain_counts(s: &[u8], scratch: usize) -> Tally
-    ensures { λ r. ⌜ ((nodes.kind (now (s .entry)) 0 ≡ switchKind → ⊥) → Decides (now (s .entry)) scratch r) ⌝ }
+// The counts by which an expression is refused or built. Beside many locals no name is looked up, where all of them or none as receivers
+// are refused alike: the greater count is then enough.
+pub fn plain_counts(sheet: &[u8], scratch: usize) -> Tally
+    ensures { λ r. ⌜ ((nodes.kind (now (sheet .entry)) 0 ≡ switchKind → ⊥) → Decides (now (sheet .entry)) scratch r) ⌝ }
 {
-    if local_count(s) <= FEW_LOCALS {
-        return count_plain(s);
+    if local_count(sheet) <= FEW_LOCALS {
+        return count_plain(sheet);
     }
-    let n = node_count(s);
-    let most = greatest(MAX_DEPTH, s, 0);
-    if alike(least(MAX_DEPTH, s, 0), most, scratch, n) {
+    let n = node_count(sheet);
+    let most = greatest(MAX_DEPTH, sheet, 0);
+    if alike(least(MAX_DEPTH, sheet, 0), most, scratch, n) {
         return most;
     }
-    count_plain(s)
+    count_plain(sheet)
 }
 
 // The counts by which a Switch is refused or built, as plain_counts has them. Beside few locals its table is counted by them.
-pub fn switch_counts(s: &[u8], scratch: usize, w: &mut [u32; SIZE]) -> Tally
-    ensures { λ r. let sheet = now (s .entry) in ⌜
-        (length (now (w .entry)) ≡ columns.size → Checked.numberOf (Checked.checked sheet) ≡ 0 → nodes.kind sheet 0 ≡ switchKind
-        → Decides sheet scratch r × (localCount sheet ≤ 64 → Exact sheet (now (w .exit)))) ⌝ }
-    ensures { λ _. ⌜ length (now (w .exit)) ≡ length (now (w .entry)) ⌝ }
+pub fn switch_counts(sheet: &[u8], scratch: usize, flat: &mut [u32; SIZE]) -> Tally
+    ensures { λ r. let sheet = now (sheet .entry) in ⌜
+        (length (now (flat .entry)) ≡ columns.size → Checked.verdictNumber (Checked.checked sheet) ≡ 0 → nodes.kind sheet 0 ≡ switchKind
+        → Decides sheet scratch r × (localCount sheet ≤ 64 → Exact sheet (now (flat .exit)))) ⌝ }
+    ensures { λ _. ⌜ length (now (flat .exit)) ≡ length (now (flat .entry)) ⌝ }
 {
-    if local_count(s) <= FEW_LOCALS {
-        return count_switch(s, w);
+    if local_count(sheet) <= FEW_LOCALS {
+        return count_switch(sheet, flat);
     }
-    let n = node_count(s);
+    let n = node_count(sheet);
     let none = [0u32; 1];
-    let high = planned(s, &none[..], w);
+    let high = planned(sheet, &none[..], flat);
     let all = [1u32; 1];
-    let low = planned(s, &all[..], w);
+    let low = planned(sheet, &all[..], flat);
     if alike(low, high, scratch, n) {
         return high;
     }
-    count_switch(s, w)
+    count_switch(sheet, flat)
 }
 
 // The table of a Switch that is not refused, counted by its own locals.
-pub fn settle(s: &[u8], w: &mut [u32; SIZE])
-    ensures { λ _. let sheet = now (s .entry) in ⌜
-        (length (now (w .entry)) ≡ columns.size → Checked.numberOf (Checked.checked sheet) ≡ 0 → nodes.kind sheet 0 ≡ switchKind
-        → (localCount sheet ≤ 64 → Exact sheet (now (w .entry))) → Exact sheet (now (w .exit))) ⌝ }
-    ensures { λ _. ⌜ length (now (w .exit)) ≡ length (now (w .entry)) ⌝ }
+pub fn settle(sheet: &[u8], flat: &mut [u32; SIZE])
+    ensures { λ _. let sheet = now (sheet .entry) in ⌜
+        (length (now (flat .entry)) ≡ columns.size → Checked.verdictNumber (Checked.checked sheet) ≡ 0 → nodes.kind sheet 0 ≡ switchKind
+        → (localCount sheet ≤ 64 → Exact sheet (now (flat .entry))) → Exact sheet (now (flat .exit))) ⌝ }
+    ensures { λ _. ⌜ length (now (flat .exit)) ≡ length (now (flat .entry)) ⌝ }
 {
-    if local_count(s) <= FEW_LOCALS {
+    if local_count(sheet) <= FEW_LOCALS {
         return;
     }
-    count_switch(s, w);
+    count_switch(sheet, flat);
 }

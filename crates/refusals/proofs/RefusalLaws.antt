@@ -4,7 +4,8 @@ use mathlib.Core.Path.{_≡_, refl, sym}
 use mathlib.Core.Bool.{true, true≢false}
 use native.Mathlib.Omega.{arith}
 use Rattle.refusals.specs.declared.Refusal.{Refusal}
-use Rattle.refusals.specs.declared.Refusal.the-variants.{Size, Shape, Text, Number, Depth, Arms, Twice, Unsupported, Eval, Emitted, ScratchShort, ImageLong, IllMade}
+use Rattle.refusals.specs.declared.Refusal.the-variants.{Size, Shape, Text, Number, Depth, Arms, Twice, Unsupported, Eval, Emitted}
+use Rattle.refusals.specs.declared.Refusal.the-variants.{ScratchShort, ImageLong, IllMade}
 use Rattle.refusals.specs.Refusal.{refusalNumber, ofSheet, kept, scratchLeft}
 
 -- 0 is no refusal
@@ -40,7 +41,8 @@ own-keeps ImageLong h = absurd (true≢false (sym h))
 own-keeps IllMade h = absurd (true≢false (sym h))
 
 -- and has no number of a buffer's
-pub own-number : (r : Refusal) → ofSheet r ≡ true → (refusalNumber r ≡ refusalNumber ScratchShort → ⊥) × (refusalNumber r ≡ refusalNumber ImageLong → ⊥)
+pub own-number : (r : Refusal) → ofSheet r ≡ true
+    → (refusalNumber r ≡ refusalNumber ScratchShort → ⊥) × (refusalNumber r ≡ refusalNumber ImageLong → ⊥)
 own-number Size h = (λ e. omega arith, λ e. omega arith)
 own-number Shape h = (λ e. omega arith, λ e. omega arith)
 own-number Text h = (λ e. omega arith, λ e. omega arith)

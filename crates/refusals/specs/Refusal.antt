@@ -2,9 +2,11 @@
 use Prim.Native.Nat.{ℕ}
 use mathlib.Core.Bool.{Bool, true, false}
 use mathlib.Core.List.{List}
-use lib.ListN.{length, replicate}
+use lib.ListN.{length}
+use Rattle.zeros.specs.Zeros.{zeros}
 use Rattle.refusals.specs.declared.Refusal.{Refusal}
-use Rattle.refusals.specs.declared.Refusal.the-variants.{Size, Shape, Text, Number, Depth, Arms, Twice, Unsupported, Eval, Emitted, ScratchShort, ImageLong, IllMade}
+use Rattle.refusals.specs.declared.Refusal.the-variants.{Size, Shape, Text, Number, Depth, Arms, Twice, Unsupported, Eval, Emitted}
+use Rattle.refusals.specs.declared.Refusal.the-variants.{ScratchShort, ImageLong, IllMade}
 
 -- the one place of the numbers; 0 is no refusal
 abbrev pub refusalNumber : Refusal → ℕ
@@ -45,7 +47,7 @@ pub data Left : Type 0 where
 
 unfoldable pub leaves : Left → List ℕ → List ℕ
 leaves kept xs = xs
-leaves zeroed xs = replicate (length xs) 0
+leaves zeroed xs = zeros (length xs)
 
 -- of the scratch; an image is kept under every refusal
 abbrev pub scratchLeft : Refusal → Left

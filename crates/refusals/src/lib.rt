@@ -2,8 +2,8 @@
 ghost use mathlib.Core.Path.{_≡_};
 ghost use Rattle.refusals.specs.Refusal.{refusalNumber};
 
-// The cause: in the sheet (Size to Unsupported), of its lowering (Eval, Emitted), in a lent buffer (ScratchShort, ImageLong), in a lent image
-// (IllMade).
+// The cause: in the sheet (Size to Unsupported), of its lowering (Eval, Emitted), in a lent buffer (ScratchShort,
+// ImageLong), in a lent image (IllMade).
 pub enum Refusal {
     Size,
     Shape,

@@ -5,11 +5,11 @@ ghost use Prim.Native.Nat.{_≤_};
 ghost use lib.ListN.{length};
 ghost use mathlib.Core.Path.{_≡_};
 use image_check::check_image;
-use records::fill;
-use records::left_as;
-use records::print_result;
-use records::put_noise;
 use refusals::ILL_MADE;
+use replay_records::fill;
+use replay_records::left_as;
+use replay_records::print_result;
+use replay_records::put_noise;
 
 // Room for the image or the scratch of a record.
 fn room() -> [u32; 8192]

@@ -10,14 +10,14 @@ ghost use Rattle.words.specs.Count.{allBelow};
 ghost use Rattle.replay_lower.specs.Left as left;
 use needs::Need;
 use needs::needs;
-use records::fill;
-use records::left_as;
-use records::noise;
-use records::print_result;
-use records::put_noise;
 use refusals::IMAGE_LONG;
 use refusals::SCRATCH_SHORT;
 use refusals::refusal_number;
+use replay_records::fill;
+use replay_records::left_as;
+use replay_records::noise;
+use replay_records::print_result;
+use replay_records::put_noise;
 use to_image::Answer;
 use to_image::lower;
 
@@ -60,7 +60,8 @@ fn image_word(wanted: &[u8], count: usize, i: usize) -> u32
 
 // Each word of the image's room is as it must be.
 fn image_same(image: &[u32], wanted: &[u8], count: usize) -> bool
-    ensures { λ r. ⌜ r ≡ allBelow (length (now (image .entry))) (λ i. eqb (getD (now (image .entry)) i 0) (left.imageWord (now (wanted .entry)) count i)) ⌝ }
+    ensures { λ r. ⌜ r ≡ allBelow (length (now (image .entry)))
+        (λ i. eqb (getD (now (image .entry)) i 0) (left.imageWord (now (wanted .entry)) count i)) ⌝ }
 {
     let mut i = 0;
     while i < image.len() {

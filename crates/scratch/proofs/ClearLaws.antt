@@ -10,7 +10,7 @@ use lib.ListN.{length, getD, set, length-set}
 use lib.Seq.{getD-set-same, getD-set-other, set-out}
 use Rattle.scratch.specs.Clear.{cleared}
 
-pub cleared-more : (at n : ℕ) (xs ys zs : List ℕ) → ys ≡ cleared at n xs → zs ≡ set ys (at + n) 0 → zs ≡ cleared at (n + 1) xs
+cleared-more : (at n : ℕ) (xs ys zs : List ℕ) → ys ≡ cleared at n xs → zs ≡ set ys (at + n) 0 → zs ≡ cleared at (n + 1) xs
 unfolding cleared
 cleared-more at n xs ys zs e f = f ∙ ap (λ (l : List ℕ). set l (at + n) 0) e ∙ sym (ap (λ (m : ℕ). cleared at m xs) (add-one n))
 

@@ -9,12 +9,8 @@ use native.Mathlib.Nat.{add-zero}
 use lib.ListN.{length, getD, set, take, drop, length-drop, length-set}
 use lib.Seq.{sets, append-snoc, take-set-le, drop-set-lt, drop-set-add, take-suc-set}
 use lib.Seq.{take-take, take-at, length-take-le, getD-take, getD-drop}
-use Rattle.words.specs.PartLaws.{part-between}
+use Rattle.words.proofs.PartLaws.{part-between}
 use Rattle.scratch.specs.Places.{region}
-
-pub region-none : (at : ℕ) (xs : List ℕ) → region at 0 xs ≡ []
-unfolding region
-region-none at xs = refl
 
 pub region-length : (at k : ℕ) (xs : List ℕ) → at + k ≤ length xs → length (region at k xs) ≡ k
 unfolding region
@@ -65,11 +61,6 @@ pub regions-before : (at k i : ℕ) (vs xs : List ℕ) → i + length vs ≤ at 
 regions-before at k i [] xs h = refl
 regions-before at k i (v ∷ vs) xs h =
     regions-before at k (suc i) vs (set xs i v) (omega arith) ∙ region-before at k i v xs (omega arith)
-
-pub regions-behind : (at k i : ℕ) (vs xs : List ℕ) → at + k ≤ i → region at k (sets xs i vs) ≡ region at k xs
-regions-behind at k i [] xs h = refl
-regions-behind at k i (v ∷ vs) xs h =
-    regions-behind at k (suc i) vs (set xs i v) (omega arith) ∙ region-behind at k i v xs h
 
 pub regions-push :
     (at k i : ℕ) (vs xs : List ℕ) → at + k ≡ i → i + length vs ≤ length xs

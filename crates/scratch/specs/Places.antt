@@ -4,14 +4,10 @@ use Prim.Native.Nat.{ℕ, _+_, _*_, _/_, _%_, _≤_, min}
 use mathlib.Core.List.{List}
 use lib.ListN.{take, drop}
 use Rattle.sheet.specs.Limits.{maxNodes}
-use Rattle.lowering.specs.Limits.{maxEmitted}
+use Rattle.lowering.specs.Limits.{maxEmitted, opWidth, codeWidth}
 use Rattle.scratch.specs.declared.Layout.{Layout}
 use Rattle.scratch.specs.declared.Index.{Index}
 use Rattle.scratch.specs.Clear.{cleared}
-
--- words of an instruction
-abbrev pub opSize : ℕ
-opSize = 4
 
 -- words for each instruction: its four words, its position, a residual
 abbrev pub perEmitted : ℕ
@@ -21,27 +17,35 @@ perEmitted = 6
 abbrev pub perNode : ℕ
 perNode = 6
 
--- names for each node: one for each field a, b, c
-abbrev pub namesPerNode : ℕ
-namesPerNode = 3
+-- pairs of the memos for names
+abbrev pub memoPairs : ℕ
+memoPairs = 512
+
+-- and their words
+abbrev pub memoWords : ℕ
+memoWords = 1024
+
+-- words of the memos and of the kept folds behind them
+abbrev pub besideWords : ℕ
+besideWords = 2048
 
 abbrev pub positionsAt : Layout → ℕ
-positionsAt l = 4 * l .most
+positionsAt l = opWidth * l .most
 
 abbrev pub residualsAt : Layout → ℕ
-residualsAt l = 5 * l .most
+residualsAt l = codeWidth * l .most
 
 abbrev pub constsAt : Layout → ℕ
-constsAt l = 6 * l .most
+constsAt l = perEmitted * l .most
 
 abbrev pub tokensAt : Layout → ℕ
-tokensAt l = 6 * l .most + l .nodes
+tokensAt l = perEmitted * l .most + l .nodes
 
 abbrev pub chainsAt : Layout → ℕ
-chainsAt l = 6 * l .most + 2 * l .nodes
+chainsAt l = perEmitted * l .most + 2 * l .nodes
 
 abbrev pub namesAt : Layout → ℕ
-namesAt l = 6 * l .most + 3 * l .nodes
+namesAt l = perEmitted * l .most + 3 * l .nodes
 
 -- words of all lists
 abbrev pub wordsOf : Layout → ℕ
@@ -53,15 +57,15 @@ linksAt l = wordsOf l
 
 -- the memos: 512 pairs for names
 abbrev pub memosAt : Layout → ℕ
-memosAt l = 6 * l .most + 8 * l .nodes
+memosAt l = perEmitted * l .most + 8 * l .nodes
 
 -- the folds that are kept for long texts: a word for each block of text bytes
 abbrev pub sumsAt : Layout → ℕ
-sumsAt l = memosAt l + 1024
+sumsAt l = memosAt l + memoWords
 
 -- the heads of the indexes: a table for each pool, those of the names first
 abbrev pub headsAt : Layout → ℕ
-headsAt l = 6 * l .most + 8 * l .nodes + 2048
+headsAt l = perEmitted * l .most + 8 * l .nodes + besideWords
 
 -- how many heads: few for a small sheet, since they are cleared before each lowering
 unfoldable pub nameHeads : Layout → ℕ
@@ -119,7 +123,7 @@ sumsFrom l = sumsAt l % 4294967296
 -- no entry in any index, and nothing told by the memos of names
 unfoldable pub clearedIndex : Layout → List ℕ → List ℕ
 clearedIndex l xs =
-    cleared (headsAt l % 4294967296) ((nameHeads l + constHeads l + 2 * tokenHeads l) % 4294967296) (cleared (memosFrom l) 1024 xs)
+    cleared (headsAt l % 4294967296) ((nameHeads l + constHeads l + 2 * tokenHeads l) % 4294967296) (cleared (memosFrom l) memoWords xs)
 
 -- the format's limits
 pub record Small (l : Layout) : Type 0 where

@@ -5,6 +5,8 @@ ghost use Prim.Native.Nat.{_+_, _<_, _%_, min};
 ghost use lib.ListN.{set, getD};
 ghost use Rattle.scratch.specs.Clear.{cleared};
 ghost use Rattle.scratch.specs.Places as places;
+use lowering::CODE_WIDTH;
+use lowering::OP_WIDTH;
 
 // How many instructions may be emitted, and how many nodes the sheet has.
 pub struct Layout {
@@ -20,34 +22,36 @@ pub struct Index {
     pub links: u32,
 }
 
-// Words of an instruction.
-pub const OP: usize = 4;
-
 // Words for each instruction: its four words, its position, a residual.
 const PER_EMITTED: usize = 6;
 
 // Words for each node: the keys of a constant, a token, a chain and three names.
 const PER_NODE: usize = 6;
 
-// Words of the memos, 512 pairs for names, and of the folds that are kept for long texts, which stand behind them.
-const MEMOS: usize = 2048;
+// The memos for names: so many pairs, and their words.
+pub const MEMO_PAIRS: u32 = 512;
+
+const MEMO_WORDS: u32 = 1024;
+
+// Words of the memos, and of the folds that are kept for long texts, which stand behind them.
+const BESIDE_WORDS: usize = 2048;
 
 // A word, 0 past the end.
-pub fn get(x: &[u32], i: usize) -> u32
-    ensures { λ r. ⌜ r ≡ getD (now (x .entry)) i 0 ⌝ }
+pub fn get(scratch: &[u32], i: usize) -> u32
+    ensures { λ r. ⌜ r ≡ getD (now (scratch .entry)) i 0 ⌝ }
 {
-    if i < x.len() {
-        return x[i];
+    if i < scratch.len() {
+        return scratch[i];
     }
     0
 }
 
 // A word, where there is room.
-pub fn put(x: &mut [u32], i: usize, v: u32)
-    ensures { λ r. ⌜ now (x .exit) ≡ set (now (x .entry)) i v ⌝ }
+pub fn put(scratch: &mut [u32], i: usize, v: u32)
+    ensures { λ r. ⌜ now (scratch .exit) ≡ set (now (scratch .entry)) i v ⌝ }
 {
-    if i < x.len() {
-        x[i] = v;
+    if i < scratch.len() {
+        scratch[i] = v;
     }
 }
 
@@ -62,64 +66,64 @@ fn less(a: usize, b: usize) -> usize
 }
 
 // The words from `at` on, `n` of them, are 0.
-fn clear(x: &mut [u32], at: u32, n: u32)
-    ensures { λ r. ⌜ now (x .exit) ≡ cleared at n (now (x .entry)) ⌝ }
+fn clear(scratch: &mut [u32], at: u32, n: u32)
+    ensures { λ r. ⌜ now (scratch .exit) ≡ cleared at n (now (scratch .entry)) ⌝ }
 {
     let mut i = at as usize;
-    let stop = less(i + (n as usize), x.len());
+    let stop = less(i + (n as usize), scratch.len());
     while i < stop {
-        x[i] = 0;
+        scratch[i] = 0;
         i += 1;
     }
 }
 
 // Where the positions start, behind the code.
-pub fn positions_at(l: Layout) -> usize
-    ensures { λ r. ⌜ r ≡ places.positionsAt l ⌝ }
+pub fn positions_at(layout: Layout) -> usize
+    ensures { λ r. ⌜ r ≡ places.positionsAt layout ⌝ }
 {
-    OP * (l.most as usize)
+    OP_WIDTH * (layout.most as usize)
 }
 
 // The residuals.
-pub fn residuals_at(l: Layout) -> usize
-    ensures { λ r. ⌜ r ≡ places.residualsAt l ⌝ }
+pub fn residuals_at(layout: Layout) -> usize
+    ensures { λ r. ⌜ r ≡ places.residualsAt layout ⌝ }
 {
-    (OP + 1) * (l.most as usize)
+    CODE_WIDTH * (layout.most as usize)
 }
 
 // The keys of the constants.
-pub fn consts_at(l: Layout) -> usize
-    ensures { λ r. ⌜ r ≡ places.constsAt l ⌝ }
+pub fn consts_at(layout: Layout) -> usize
+    ensures { λ r. ⌜ r ≡ places.constsAt layout ⌝ }
 {
-    PER_EMITTED * (l.most as usize)
+    PER_EMITTED * (layout.most as usize)
 }
 
 // The keys of the tokens.
-pub fn tokens_at(l: Layout) -> usize
-    ensures { λ r. ⌜ r ≡ places.tokensAt l ⌝ }
+pub fn tokens_at(layout: Layout) -> usize
+    ensures { λ r. ⌜ r ≡ places.tokensAt layout ⌝ }
 {
-    PER_EMITTED * (l.most as usize) + (l.nodes as usize)
+    PER_EMITTED * (layout.most as usize) + (layout.nodes as usize)
 }
 
 // The keys of the chains.
-pub fn chains_at(l: Layout) -> usize
-    ensures { λ r. ⌜ r ≡ places.chainsAt l ⌝ }
+pub fn chains_at(layout: Layout) -> usize
+    ensures { λ r. ⌜ r ≡ places.chainsAt layout ⌝ }
 {
-    PER_EMITTED * (l.most as usize) + 2 * (l.nodes as usize)
+    PER_EMITTED * (layout.most as usize) + 2 * (layout.nodes as usize)
 }
 
 // The keys of the names.
-pub fn names_at(l: Layout) -> usize
-    ensures { λ r. ⌜ r ≡ places.namesAt l ⌝ }
+pub fn names_at(layout: Layout) -> usize
+    ensures { λ r. ⌜ r ≡ places.namesAt layout ⌝ }
 {
-    PER_EMITTED * (l.most as usize) + 3 * (l.nodes as usize)
+    PER_EMITTED * (layout.most as usize) + 3 * (layout.nodes as usize)
 }
 
 // The words of all lists; the links of the indexes lie behind them.
-pub fn words_of(l: Layout) -> usize
-    ensures { λ r. ⌜ r ≡ places.wordsOf l ⌝ }
+pub fn words_of(layout: Layout) -> usize
+    ensures { λ r. ⌜ r ≡ places.wordsOf layout ⌝ }
 {
-    PER_EMITTED * (l.most as usize) + PER_NODE * (l.nodes as usize)
+    PER_EMITTED * (layout.most as usize) + PER_NODE * (layout.nodes as usize)
 }
 
 // A number as a word.
@@ -130,55 +134,68 @@ fn word(n: usize) -> u32
 }
 
 // The memos.
-pub fn memos_at(l: Layout) -> u32
-    ensures { λ r. ⌜ r ≡ places.memosFrom l ⌝ }
+pub fn memos_at(layout: Layout) -> u32
+    ensures { λ r. ⌜ r ≡ places.memosFrom layout ⌝ }
 {
-    word(PER_EMITTED * (l.most as usize) + (PER_NODE + 2) * (l.nodes as usize))
+    word(PER_EMITTED * (layout.most as usize) + (PER_NODE + 2) * (layout.nodes as usize))
 }
 
 // The folds that are kept for long texts.
-pub fn sums_at(l: Layout) -> u32
-    ensures { λ r. ⌜ r ≡ places.sumsFrom l ⌝ }
+pub fn sums_at(layout: Layout) -> u32
+    ensures { λ r. ⌜ r ≡ places.sumsFrom layout ⌝ }
 {
-    word(PER_EMITTED * (l.most as usize) + (PER_NODE + 2) * (l.nodes as usize) + 1024)
+    word(
+        PER_EMITTED * (layout.most as usize)
+            + (PER_NODE + 2) * (layout.nodes as usize)
+            + (MEMO_WORDS as usize),
+    )
 }
 
 // The heads of all indexes.
-fn heads_at(l: Layout) -> usize
-    ensures { λ r. ⌜ r ≡ places.headsAt l ⌝ }
+fn heads_at(layout: Layout) -> usize
+    ensures { λ r. ⌜ r ≡ places.headsAt layout ⌝ }
 {
-    PER_EMITTED * (l.most as usize) + (PER_NODE + 2) * (l.nodes as usize) + MEMOS
+    PER_EMITTED * (layout.most as usize) + (PER_NODE + 2) * (layout.nodes as usize) + BESIDE_WORDS
 }
 
 // How many heads the names have.
-fn name_heads(l: Layout) -> usize
-    ensures { λ r. ⌜ (r ≡ places.nameHeads l) × (r < 10000000000) ⌝ }
+fn name_heads(layout: Layout) -> usize
+    ensures { λ r. ⌜ (r ≡ places.nameHeads layout) × (r < 10000000000) ⌝ }
 {
-    less((l.most as usize) + 1024, 2 * (l.nodes as usize) + 64)
+    less(
+        (layout.most as usize) + 1024,
+        2 * (layout.nodes as usize) + 64,
+    )
 }
 
 // How many the constants have.
-fn const_heads(l: Layout) -> usize
-    ensures { λ r. ⌜ (r ≡ places.constHeads l) × (r < 10000000000) ⌝ }
+fn const_heads(layout: Layout) -> usize
+    ensures { λ r. ⌜ (r ≡ places.constHeads layout) × (r < 10000000000) ⌝ }
 {
-    less((l.most as usize) / 2 + 256, (l.nodes as usize) + 64)
+    less(
+        (layout.most as usize) / 2 + 256,
+        (layout.nodes as usize) + 64,
+    )
 }
 
 // How many the tokens have, and the chains as many.
-fn token_heads(l: Layout) -> usize
-    ensures { λ r. ⌜ (r ≡ places.tokenHeads l) × (r < 10000000000) ⌝ }
+fn token_heads(layout: Layout) -> usize
+    ensures { λ r. ⌜ (r ≡ places.tokenHeads layout) × (r < 10000000000) ⌝ }
 {
-    less((l.most as usize) / 4 + 256, (l.nodes as usize) + 64)
+    less(
+        (layout.most as usize) / 4 + 256,
+        (layout.nodes as usize) + 64,
+    )
 }
 
 // The index of the names.
-pub fn name_index(l: Layout) -> Index
-    ensures { λ r. ⌜ r ≡ places.nameIndex l ⌝ }
+pub fn name_index(layout: Layout) -> Index
+    ensures { λ r. ⌜ r ≡ places.nameIndex layout ⌝ }
 {
-    let heads = word(heads_at(l));
-    let count = word(name_heads(l));
-    let at = word(names_at(l));
-    let links = word(words_of(l));
+    let heads = word(heads_at(layout));
+    let count = word(name_heads(layout));
+    let at = word(names_at(layout));
+    let links = word(words_of(layout));
     Index {
         heads,
         count,
@@ -188,13 +205,13 @@ pub fn name_index(l: Layout) -> Index
 }
 
 // The index of the constants.
-pub fn const_index(l: Layout) -> Index
-    ensures { λ r. ⌜ r ≡ places.constIndex l ⌝ }
+pub fn const_index(layout: Layout) -> Index
+    ensures { λ r. ⌜ r ≡ places.constIndex layout ⌝ }
 {
-    let heads = word(heads_at(l) + name_heads(l));
-    let count = word(const_heads(l));
-    let at = word(consts_at(l));
-    let links = word(words_of(l));
+    let heads = word(heads_at(layout) + name_heads(layout));
+    let count = word(const_heads(layout));
+    let at = word(consts_at(layout));
+    let links = word(words_of(layout));
     Index {
         heads,
         count,
@@ -204,13 +221,13 @@ pub fn const_index(l: Layout) -> Index
 }
 
 // The index of the tokens.
-pub fn token_index(l: Layout) -> Index
-    ensures { λ r. ⌜ r ≡ places.tokenIndex l ⌝ }
+pub fn token_index(layout: Layout) -> Index
+    ensures { λ r. ⌜ r ≡ places.tokenIndex layout ⌝ }
 {
-    let heads = word(heads_at(l) + name_heads(l) + const_heads(l));
-    let count = word(token_heads(l));
-    let at = word(tokens_at(l));
-    let links = word(words_of(l));
+    let heads = word(heads_at(layout) + name_heads(layout) + const_heads(layout));
+    let count = word(token_heads(layout));
+    let at = word(tokens_at(layout));
+    let links = word(words_of(layout));
     Index {
         heads,
         count,
@@ -220,14 +237,14 @@ pub fn token_index(l: Layout) -> Index
 }
 
 // The index of the chains.
-pub fn chain_index(l: Layout) -> Index
-    ensures { λ r. ⌜ r ≡ places.chainIndex l ⌝ }
+pub fn chain_index(layout: Layout) -> Index
+    ensures { λ r. ⌜ r ≡ places.chainIndex layout ⌝ }
 {
-    let n = token_heads(l);
-    let heads = word(heads_at(l) + name_heads(l) + const_heads(l) + n);
+    let n = token_heads(layout);
+    let heads = word(heads_at(layout) + name_heads(layout) + const_heads(layout) + n);
     let count = word(n);
-    let at = word(chains_at(l));
-    let links = word(words_of(l));
+    let at = word(chains_at(layout));
+    let links = word(words_of(layout));
     Index {
         heads,
         count,
@@ -237,53 +254,53 @@ pub fn chain_index(l: Layout) -> Index
 }
 
 // No entry stands in any index, and nothing is told by the memos of names.
-pub fn clear_index(x: &mut [u32], l: Layout)
-    ensures { λ r. ⌜ now (x .exit) ≡ places.clearedIndex l (now (x .entry)) ⌝ }
+pub fn clear_index(scratch: &mut [u32], layout: Layout)
+    ensures { λ r. ⌜ now (scratch .exit) ≡ places.clearedIndex layout (now (scratch .entry)) ⌝ }
 {
-    let heads = heads_at(l);
-    let count = name_heads(l) + const_heads(l) + 2 * token_heads(l);
-    clear(x, memos_at(l), 1024);
-    clear(x, word(heads), word(count));
+    let heads = heads_at(layout);
+    let count = name_heads(layout) + const_heads(layout) + 2 * token_heads(layout);
+    clear(scratch, memos_at(layout), MEMO_WORDS);
+    clear(scratch, word(heads), word(count));
 }
 
 // Where position `n` stands.
-pub fn position_place(l: Layout, n: u32) -> usize
-    ensures { λ r. ⌜ r ≡ places.positionsAt l + n ⌝ }
+pub fn position_place(layout: Layout, n: u32) -> usize
+    ensures { λ r. ⌜ r ≡ places.positionsAt layout + n ⌝ }
 {
-    positions_at(l) + (n as usize)
+    positions_at(layout) + (n as usize)
 }
 
 // Where residual `n` stands.
-pub fn residual_place(l: Layout, n: u32) -> usize
-    ensures { λ r. ⌜ r ≡ places.residualsAt l + n ⌝ }
+pub fn residual_place(layout: Layout, n: u32) -> usize
+    ensures { λ r. ⌜ r ≡ places.residualsAt layout + n ⌝ }
 {
-    residuals_at(l) + (n as usize)
+    residuals_at(layout) + (n as usize)
 }
 
 // Where the key of constant `n` stands.
-pub fn const_place(l: Layout, n: u32) -> usize
-    ensures { λ r. ⌜ r ≡ places.constsAt l + n ⌝ }
+pub fn const_place(layout: Layout, n: u32) -> usize
+    ensures { λ r. ⌜ r ≡ places.constsAt layout + n ⌝ }
 {
-    consts_at(l) + (n as usize)
+    consts_at(layout) + (n as usize)
 }
 
 // Where the key of token `n` stands.
-pub fn token_place(l: Layout, n: u32) -> usize
-    ensures { λ r. ⌜ r ≡ places.tokensAt l + n ⌝ }
+pub fn token_place(layout: Layout, n: u32) -> usize
+    ensures { λ r. ⌜ r ≡ places.tokensAt layout + n ⌝ }
 {
-    tokens_at(l) + (n as usize)
+    tokens_at(layout) + (n as usize)
 }
 
 // Where the key of chain `n` stands.
-pub fn chain_place(l: Layout, n: u32) -> usize
-    ensures { λ r. ⌜ r ≡ places.chainsAt l + n ⌝ }
+pub fn chain_place(layout: Layout, n: u32) -> usize
+    ensures { λ r. ⌜ r ≡ places.chainsAt layout + n ⌝ }
 {
-    chains_at(l) + (n as usize)
+    chains_at(layout) + (n as usize)
 }
 
 // Where the key of name `n` stands.
-pub fn name_place(l: Layout, n: u32) -> usize
-    ensures { λ r. ⌜ r ≡ places.namesAt l + n ⌝ }
+pub fn name_place(layout: Layout, n: u32) -> usize
+    ensures { λ r. ⌜ r ≡ places.namesAt layout + n ⌝ }
 {
-    names_at(l) + (n as usize)
+    names_at(layout) + (n as usize)
 }

@@ -1,8 +1,7 @@
 pub mod Limits
-pub mod Layout
+pub mod Kinds
+pub mod Sections
 pub mod Node
 pub mod Text
 pub mod Start
-pub mod StartLaws
 pub mod Walk
-pub mod WalkLaws

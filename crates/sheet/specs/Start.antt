@@ -4,12 +4,13 @@ use mathlib.Core.Bool.{Bool, true, false}
 use mathlib.Core.List.{List}
 use lib.Dec.{leb}
 use mathlib.Core.Bool.{_&&_}
-use Rattle.sheet.specs.Layout.{nodeCount}
+use Rattle.sheet.specs.Kinds.{dotKind, coalesceKind}
+use Rattle.sheet.specs.Sections.{nodeCount}
 use Rattle.sheet.specs.Node.{kind, position, child}
 
--- kinds 14 to 18 start where their first child does
+-- kinds Dot to Coalesce start where their first child does
 abbrev pub startsInside : ℕ → Bool
-startsInside k = leb 14 k && leb k 18
+startsInside k = leb dotKind k && leb k coalesceKind
 
 -- the start position of n, going down through at most `left` first children
 unfoldable pub startWithin : ℕ → List ℕ → ℕ → ℕ

@@ -1,10 +1,10 @@
 // The numbers of the sheet's format, for the code. specs/Limits.antt has the same for the definitions.
 
 // words of the header: the four sizes
-pub(crate) const HEADER_WORDS: usize = 4;
+pub const HEADER_WORDS: usize = 4;
 
 // words of a node: kind, span, count, a, b, c
-pub(crate) const NODE_WORDS: usize = 6;
+pub const NODE_WORDS: usize = 6;
 
 // greatest sizes
 pub const MAX_NODES: u32 = 131072;

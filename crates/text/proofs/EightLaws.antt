@@ -12,7 +12,7 @@ use lib.Dec.{eqb}
 use lib.ListN.{length, getD}
 use borrow.Author.Tests.{eqb-true, eq-eqb, ne-eqb}
 use Rattle.text.specs.Same.{same}
-use Rattle.text.specs.SameLaws.{same-false, same-each}
+use Rattle.text.proofs.SameLaws.{same-false, same-each}
 use Rattle.text.specs.Eight.{fromFour, fourAt, eightAt, blockSame, Agree}
 
 -- all bytes of a string are bytes
@@ -89,7 +89,7 @@ module _ (s t : List ℕ) (b : Bytes s) (c : Bytes t) where
       by (suc (suc (suc (suc m)))) h = absurd (omega arith)
 
   -- four bytes more, of which some may have been compared before
-  pub agree-four : (i j : ℕ) → j ≤ i → Agree s t i → fourAt s j ≡ fourAt t j → Agree s t (j + 4)
+  agree-four : (i j : ℕ) → j ≤ i → Agree s t i → fourAt s j ≡ fourAt t j → Agree s t (j + 4)
   agree-four i j l g e = record { below = λ k h. by k h (decLt k i) }
     where
       by : (k : ℕ) → k < j + 4 → Dec (k < i) → getD s k 0 ≡ getD t k 0
@@ -138,7 +138,7 @@ eight-not s t i ne = same-false s t (λ e. ne (ap (λ l. eightAt l i) e))
 
 module _ (s t : List ℕ) (b : Bytes s) (c : Bytes t) (l : length s ≡ length t) where
   -- strings that agree up to their end are the same
-  pub agree-all : (i : ℕ) → length s ≤ i → Agree s t i → same s t ≡ true
+  agree-all : (i : ℕ) → length s ≤ i → Agree s t i → same s t ≡ true
   agree-all i h g = same-each s t l (λ k z. g .below k (omega arith))
 
   -- the last eight bytes decide, where the strings agree so far

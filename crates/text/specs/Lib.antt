@@ -1,15 +1,7 @@
-pub mod Lazy
 pub mod Same
-pub mod SameLaws
 pub mod Eight
 pub mod Keyword
 pub mod Utf8
-pub mod RowLaws
 pub mod Char
-pub mod Utf8Laws
-pub mod CharLaws
-pub mod ReadLaws
 pub mod Rfc3629
-pub mod Rfc3629Laws
-pub mod Utf8Examples
-pub mod RunLaws
+pub mod Leads

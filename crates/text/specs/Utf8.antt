@@ -1,5 +1,5 @@
 -- Well-formed UTF-8 by RFC 3629, as a computed test: no overlong form, no surrogate, nothing above U+10FFFF.
--- specs/Rfc3629.antt has the grammar of the RFC, and proves that the test is that grammar.
+-- Rfc3629 has the grammar of the RFC; proofs/Rfc3629Laws shows that the test is that grammar.
 use Prim.Native.Nat.{ℕ, zero, suc}
 use mathlib.Core.Bool.{Bool, true, false, _&&_}
 use mathlib.Core.List.{List, [], _∷_}

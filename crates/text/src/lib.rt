@@ -6,7 +6,7 @@ ghost use Rattle.text.specs.Same.{same};
 ghost use Rattle.text.specs.Eight.{fromFour, fourAt, eightAt, blockSame, Agree};
 ghost use Rattle.text.specs.Keyword.{isEval, isFn, isCall, isCurry};
 ghost use Rattle.text.specs.Char.{charLength};
-ghost use Rattle.text.specs.RowLaws.{Leads};
+ghost use Rattle.text.specs.Leads.{Leads};
 
 // The number that four bytes stand for, the lowest first.
 fn from_four(a: u8, b: u8, c: u8, d: u8) -> u64

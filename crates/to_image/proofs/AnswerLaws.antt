@@ -7,7 +7,7 @@ use native.Mathlib.Omega.{arith}
 use lib.Dec.{ltb}
 use lib.ListN.{length}
 use borrow.Author.Tests.{lt-ltb, le-ltb, ltb-true, ltb-false}
-use Rattle.sheet.specs.Layout.{nodeCount}
+use Rattle.sheet.specs.Sections.{nodeCount}
 use Rattle.checks.specs.Checked as Checked
 use Rattle.checks.specs.declared.Verdict.{Verdict}
 use Rattle.checks.specs.declared.Verdict.the-variants as Verdicts
@@ -16,12 +16,12 @@ use Rattle.refusals.specs.declared.Refusal.{Refusal}
 use Rattle.refusals.specs.declared.Refusal.the-variants.{ImageLong}
 use Rattle.refusals.specs.Refusal.{Left, kept, leaves, scratchLeft}
 use Rattle.refusals.proofs.RefusalLaws.{number-some, own-keeps}
-use Rattle.counting.specs.declared.tallies.Tally.{Tally}
+use Rattle.expr_count.specs.declared.tallies.Tally.{Tally}
 use Rattle.lowering.specs.Limits.{maxEmitted}
 use Rattle.lowering.specs.Image.{words}
 use Rattle.lowering.specs.Outcome.{Outcome, refused, image, lower, outcome}
-use Rattle.totals.specs.Total.{total}
-use Rattle.totals.specs.OutcomeLaws.{scratchTotal, outcome-9, outcome-10, outcome-11, outcome-12, outcome-image}
+use Rattle.switch_count.specs.Total.{total}
+use Rattle.switch_count.proofs.OutcomeLaws.{scratchTotal, outcome-9, outcome-10, outcome-11, outcome-12, outcome-image}
 use Rattle.needs.specs.Counts.{early, Decides}
 use Rattle.needs.proofs.CountLaws.{Early, eval, many, short, none, early-told}
 use Rattle.needs.proofs.NeedLaws.{refused-is}
@@ -43,7 +43,8 @@ module _ (s xs ys : List ℕ) where
 
 -- ---- 1 to 8
 
-pub check-stays : (s xs ys : List ℕ) (r : Refusal) {v : Verdict} → v ≡ Checked.checked s → v ≡ Verdicts.Refused r → Answers s xs ys (Refused r) xs ys
+pub check-stays : (s xs ys : List ℕ) (r : Refusal) {v : Verdict} → v ≡ Checked.checked s → v ≡ Verdicts.Refused r
+    → Answers s xs ys (Refused r) xs ys
 check-stays s xs ys r v-is q =
     let e = sym v-is ∙ q in
     stays s xs ys r (own-keeps r (refused-own s r e)) (refused-is s r e (length xs) (length ys))
@@ -59,19 +60,19 @@ abbrev outcomeBy : Verdict → Outcome
 outcomeBy Verdicts.Accepted = refused ImageLong
 outcomeBy (Verdicts.Refused r) = refused r
 
-module _ (s : List ℕ) (i m : ℕ) (ok : Checked.numberOf (Checked.checked s) ≡ 0) where
+module _ (s : List ℕ) (i m : ℕ) (ok : Checked.verdictNumber (Checked.checked s) ≡ 0) where
   early-refuses : {k : Verdict} {r : Refusal} → Early (total s .defeated) (total s .emitted) m (nodeCount s) k → k ≡ Verdicts.Refused r
       → (scratchLeft r ≡ kept) × (outcome s i m ≡ refused r)
   unfolding scratchTotal
   early-refuses (eval d) q = (ap leftBy (sym q), outcome-9 s i m ok d ∙ ap outcomeBy q)
   early-refuses (many d g) q = (ap leftBy (sym q), outcome-10 s i m ok d g ∙ ap outcomeBy q)
   early-refuses (short d g l) q = (ap leftBy (sym q), outcome-11 s i m ok d g l ∙ ap outcomeBy q)
-  early-refuses {r = r} (none d g l) q = let n = ap Checked.numberOf q in absurd (omega (arith, number-some r))
+  early-refuses {r = r} (none d g l) q = let n = ap Checked.verdictNumber q in absurd (omega (arith, number-some r))
 
 -- ---- in the shapes of the code
 
 -- the counts as the code has them
-module _ (s xs ys : List ℕ) (k : Verdict) (nodes : ℕ) (t : Tally) (ok : Checked.numberOf (Checked.checked s) ≡ 0)
+module _ (s xs ys : List ℕ) (k : Verdict) (nodes : ℕ) (t : Tally) (ok : Checked.verdictNumber (Checked.checked s) ≡ 0)
     (D : Decides s (length ys) t) (nodes-is : nodes ≡ nodeCount s) (k-is : k ≡ early (t .defeated) (t .emitted) (length ys) nodes) where
   counted : k ≡ early (t .defeated) (t .emitted) (length ys) (nodeCount s)
   counted = k-is ∙ ap (early (t .defeated) (t .emitted) (length ys)) nodes-is
@@ -80,7 +81,8 @@ module _ (s xs ys : List ℕ) (k : Verdict) (nodes : ℕ) (t : Tally) (ok : Chec
   way = early-told (total s .defeated) (total s .emitted) (length ys) (nodeCount s) k (counted ∙ D .refusal-is)
 
   early-ready : {a : Verdict} → Early (total s .defeated) (total s .emitted) (length ys) (nodeCount s) a
-      → {b : Verdict} → Early (t .defeated) (t .emitted) (length ys) (nodeCount s) b → Checked.numberOf a ≡ 0 → Checked.numberOf b ≡ 0
+      → {b : Verdict} → Early (t .defeated) (t .emitted) (length ys) (nodeCount s) b → Checked.verdictNumber a ≡ 0
+      → Checked.verdictNumber b ≡ 0
       → Ready s (t .emitted) (length ys)
   early-ready (eval d) q z y = absurd (omega arith)
   early-ready (many d g) q z y = absurd (omega arith)
@@ -95,13 +97,14 @@ module _ (s xs ys : List ℕ) (k : Verdict) (nodes : ℕ) (t : Tally) (ok : Chec
   refused-early r q = let o = early-refuses s (length xs) (length ys) ok way q in stays s xs ys r (o .0) (o .1)
 
   -- the end: y is the scratch before it is zeroed
-  pub answered : k ≡ Verdicts.Accepted → (xs′ y ys′ : List ℕ) (n : ℕ) (r : Answer) → (Ready s (t .emitted) (length ys) → Built s xs n xs′) → Zeroed y ys′
+  pub answered : k ≡ Verdicts.Accepted → (xs′ y ys′ : List ℕ) (n : ℕ) (r : Answer) → (Ready s (t .emitted) (length ys) → Built s xs n xs′)
+      → Zeroed y ys′
       → length y ≡ length ys → length xs′ ≡ length xs → r ≡ ended (length xs′) n → Answers s xs ys r xs′ ys′
   unfolding ended answer imageAfter scratchAfter leaves scratchTotal
   answered q xs′ y ys′ n r built zeroed y-length x-length r-is = by (ltb (length xs′) n) refl
     where
-      z : Checked.numberOf k ≡ 0
-      z = ap Checked.numberOf q
+      z : Checked.verdictNumber k ≡ 0
+      z = ap Checked.verdictNumber q
 
       R : Ready s (t .emitted) (length ys)
       R = early-ready way (early-told (t .defeated) (t .emitted) (length ys) (nodeCount s) k counted) z z

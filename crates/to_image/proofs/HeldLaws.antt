@@ -7,25 +7,25 @@ use lib.ListN.{length}
 use Rattle.sheet.specs.Limits.{maxDepth}
 use Rattle.lowering.specs.SwitchSheet.{defaultBlock, casesOf}
 use Rattle.lowering.specs.Outcome.{lower}
-use Rattle.totals.specs.Total.{total}
-use Rattle.totals.specs.TotalLaws.{total-emitted}
-use Rattle.emission.specs.Made.{Made, made, nothing, lowered}
+use Rattle.switch_count.specs.Total.{total}
+use Rattle.switch_count.proofs.TotalLaws.{total-emitted}
+use Rattle.expr_model.specs.Made.{Made, made, nothing, lowered}
 use Rattle.scratch.specs.declared.Layout.{Layout}
-use Rattle.local_slots.specs.Pass.{Begins}
-use Rattle.store.specs.declared.State.{State}
-use Rattle.store.specs.States as states
-use Rattle.store.specs.States.{stateOf}
-use Rattle.store.specs.Holds.{Holds}
-use Rattle.store.specs.Does.{Does}
-use Rattle.switching.specs.Change.{switchTo, casesTo}
-use Rattle.switching.specs.GrowLaws.{cases-rise}
-use Rattle.tables.specs.Columns.{size, caseConstAt, Within}
-use Rattle.tables.specs.Planned.{Tables, Placed, entries, wantIn}
-use Rattle.dispatch.specs.Ready.{Ready}
-use Rattle.dispatch.proofs.ReadyLaws.{ready}
-use Rattle.dispatch.specs.Parts.{targetsIn}
-use Rattle.dispatch.specs.Consts.{ConstsAt}
-use Rattle.plan.proofs.KeptLaws.{tables-kept, placed-kept}
+use Rattle.scratch_locals.specs.Pass.{Begins}
+use Rattle.scratch_store.specs.declared.State.{State}
+use Rattle.scratch_store.specs.States as states
+use Rattle.scratch_store.specs.States.{stateOf}
+use Rattle.scratch_store.specs.Holds.{Holds}
+use Rattle.scratch_store.specs.Does.{Does}
+use Rattle.switch_model.specs.Change.{switchTo, casesTo}
+use Rattle.switch_model.proofs.GrowLaws.{cases-rise}
+use Rattle.switch_tables.specs.Columns.{size, caseConstAt, Within}
+use Rattle.switch_tables.specs.Planned.{Tables, Placed, entries, wantIn}
+use Rattle.switch_emit.specs.Ready.{Ready}
+use Rattle.switch_emit.proofs.ReadyLaws.{ready}
+use Rattle.switch_emit.specs.Parts.{targetsIn}
+use Rattle.switch_emit.specs.Consts.{ConstsAt}
+use Rattle.switch_places.proofs.KeptLaws.{tables-kept, placed-kept}
 use Rattle.to_image.specs.Switched.{Planned, Settled}
 use Rattle.to_image.proofs.PlainLaws.{first-holds}
 use Rattle.to_image.proofs.SwitchLaws.{switched, switch-made, cases-made}
@@ -67,7 +67,7 @@ module _ (s : List ℕ) (l : Layout) (xs us ys zs c w v : List ℕ) (r q p : Sta
   settled = record {
     holds = rw p-is held;
     few-cases = T .few-cases;
-    few-runs = T .few-runs;
+    few-bands = T .few-bands;
     switches = switches-are D T places;
     cases = case-section D T places (switched s w .pools) (told (switched s w) D (P .sized) first .each) (cases-made D (P .placed));
     ranges = range-section D T places;

@@ -5,8 +5,9 @@ use mathlib.Core.List.{List, _++_}
 use native.Mathlib.Omega.{arith}
 use lib.ListN.{length, drop}
 use borrow.Author.Tests.{ne-eqb}
+use Rattle.lowering.proofs.LowerFits.{lower-plain}
 use Rattle.sheet.specs.Limits.{maxDepth}
-use Rattle.sheet.specs.Layout.{nodeCount}
+use Rattle.sheet.specs.Sections.{nodeCount}
 use Rattle.sheet.specs.Node.{kind}
 use Rattle.lowering.specs.Kinds.{switchKind}
 use Rattle.lowering.specs.Pools.{noPools}
@@ -14,19 +15,21 @@ use Rattle.lowering.specs.Expression.{expression}
 use Rattle.lowering.specs.Program.{plain}
 use Rattle.lowering.specs.Image.{words}
 use Rattle.lowering.specs.Outcome.{lower}
-use Rattle.lowering.specs.Nodes.{Right, Valid, right, root-valid, accepted-sizes, accepted-shape}
-use Rattle.totals.specs.TotalLaws.{total-emitted}
-use Rattle.emission.specs.Made.{Made, nothing, lowered}
+use Rattle.lowering.specs.Nodes.{Right, Valid}
+use Rattle.lowering.proofs.NodesLaws.{right, root-valid, accepted-sizes, accepted-shape}
+use Rattle.switch_count.proofs.TotalLaws.{total-emitted}
+use Rattle.expr_model.specs.Made.{Made, nothing, lowered}
 use Rattle.scratch.specs.declared.Layout.{Layout}
 use Rattle.scratch.proofs.PlaceLaws.{index-fits}
-use Rattle.local_slots.specs.Pass.{Begins}
-use Rattle.store.specs.declared.State.{State}
-use Rattle.store.specs.States as states
-use Rattle.store.specs.States.{stateOf}
-use Rattle.store.specs.Holds.{Fit, Holds}
-use Rattle.store.specs.Does.{Does}
-use Rattle.store.specs.StartLaws.{fresh-holds}
-use Rattle.image.specs.Front.{front, plain-front}
+use Rattle.scratch_locals.specs.Pass.{Begins}
+use Rattle.scratch_store.specs.declared.State.{State}
+use Rattle.scratch_store.specs.States as states
+use Rattle.scratch_store.specs.States.{stateOf}
+use Rattle.scratch_store.specs.Holds.{Fit, Holds}
+use Rattle.scratch_store.specs.Does.{Does}
+use Rattle.scratch_store.proofs.StartLaws.{fresh-holds}
+use Rattle.write_front.specs.Front.{front}
+use Rattle.write_front.proofs.FrontFacts.{plain-front}
 use Rattle.to_image.specs.Making.{Ready, Built}
 
 checked-right : {s : List ℕ} {e m : ℕ} → Ready s e m → Right s
@@ -43,10 +46,6 @@ first-holds {s} {l} xs zs c R nodes c-is begins =
     let fit : Fit s l xs = record { space = omega arith; few = omega arith; nodes = nodes; small = omega arith } in
     fresh-holds s l xs zs c fit (omega arith) begins c-is
 
-lower-plain : (s : List ℕ) → (kind s 0 ≡ switchKind → ⊥) → lower s ≡ plain (expression maxDepth s 0 0 0 noPools)
-unfolding lower
-lower-plain s h = rw (ne-eqb (kind s 0) switchKind h, lower)
-
 -- the image of an expression
 module _ {s : List ℕ} (h : kind s 0 ≡ switchKind → ⊥) (l : Layout) (xs zs ys img : List ℕ) (q r : State) (len : ℕ)
     (R : Ready s (l .most) (length xs)) (nodes : l .nodes ≡ nodeCount s)
@@ -55,14 +54,14 @@ module _ {s : List ℕ} (h : kind s 0 ≡ switchKind → ⊥) (l : Layout) (xs z
     (counted : (a : Made) → Holds s l ys r a → (sw ca ra : ℕ) → len ≡ length (front a sw ca ra) + 0) where
   plain-words : words (lower s) ≡ front (lowered maxDepth s 0 nothing) 0 0 0
   unfolding lowered nothing
-  plain-words = ap words (lower-plain s h) ∙ plain-front (expression maxDepth s 0 0 0 noPools) 1
+  plain-words = ap words (lower-plain s (ne-eqb (kind s 0) switchKind h)) ∙ plain-front (expression maxDepth s 0 0 0 noPools) 1
 
   plain-holds : Holds s l ys r (lowered maxDepth s 0 nothing)
   unfolding lowered nothing plain
   plain-holds =
       let C = checked-right R in
       let e-is = R .emitted in
-      let all = sym (ap (λ p. p .pools .emitted) (lower-plain s h)) ∙ total-emitted s in
+      let all = sym (ap (λ p. p .pools .emitted) (lower-plain s (ne-eqb (kind s 0) switchKind h))) ∙ total-emitted s in
       rw r-is (done C (root-valid s C) .holds nothing (first-holds xs zs c R nodes c-is begins) (omega arith))
 
   len-is : len ≡ length (words (lower s))

@@ -5,6 +5,7 @@ use mathlib.Core.Bool.{_||_, or-assoc}
 use mathlib.Core.List.{List, [], _∷_, _++_}
 use lib.Dec.{eqb}
 use borrow.Author.Tests.{eq-eqb}
+use Rattle.lowering.proofs.LowerFits.{lower-switch}
 use Rattle.sheet.specs.Limits.{maxDepth}
 use Rattle.sheet.specs.Node.{kind}
 use Rattle.lowering.specs.Kinds.{switchKind}
@@ -14,27 +15,22 @@ use Rattle.lowering.specs.Arms.{Guard, never, always, tried, guardKind}
 use Rattle.lowering.specs.Bodies as bodies
 use Rattle.lowering.specs.SwitchCode as code
 use Rattle.lowering.specs.SwitchTables.{caseRows}
-use Rattle.lowering.specs.Switch.{switch}
 use Rattle.lowering.specs.Outcome.{lower}
-use Rattle.counting.specs.Count.{tally}
-use Rattle.counting.specs.CountLaws.{tally-counts}
-use Rattle.totals.specs.Arms.{wants, anyWants}
-use Rattle.totals.specs.Total.{caseLists, splitLists}
-use Rattle.totals.specs.PlaceLaws.{layout-body, layout-default, layout-end, layout-fallback}
-use Rattle.emission.specs.Made.{Made, made, nothing, lowered}
-use Rattle.switching.specs.Change.{rangeLists, switchTo, casesTo}
-use Rattle.switching.specs.Change as Change
-use Rattle.switching.specs.SwitchLaws.{wantedOf, laidOut}
-use Rattle.switching.specs.WholeLaws.{splits-are, switchBy, whole-by, rows-by}
-use Rattle.switching.specs.WantLaws.{listWants, listsWant, want-is}
-use Rattle.tables.specs.Columns.{bodyAt, defaultAt, endAt, fallbackAt, cell}
-use Rattle.tables.specs.Planned.{Placed, entries, wantIn}
-use Rattle.dispatch.specs.Ready.{Ready}
-use Rattle.dispatch.specs.Parts.{placeIn, targetsIn}
-
-pub lower-switch : (s : List ℕ) → kind s 0 ≡ switchKind → lower s ≡ switch s (expression maxDepth s)
-unfolding lower
-lower-switch s h = rw (eq-eqb (kind s 0) switchKind h, lower)
+use Rattle.expr_count.specs.Count.{tally}
+use Rattle.expr_count.proofs.CountLaws.{tally-counts}
+use Rattle.switch_count.specs.Arms.{wants, anyWants}
+use Rattle.switch_count.specs.Total.{caseLists, splitLists}
+use Rattle.switch_count.proofs.PlaceLaws.{layout-body, layout-default, layout-end, layout-fallback}
+use Rattle.expr_model.specs.Made.{Made, made, nothing, lowered}
+use Rattle.switch_model.specs.Change.{rangeLists, switchTo, casesTo}
+use Rattle.switch_model.specs.Change as Change
+use Rattle.switch_model.proofs.SwitchLaws.{wantedOf, laidOut}
+use Rattle.switch_model.proofs.WholeLaws.{splits-are, switchBy, whole-by, rows-by}
+use Rattle.switch_model.proofs.WantLaws.{listWants, listsWant, want-is}
+use Rattle.switch_tables.specs.Columns.{bodyAt, defaultAt, endAt, fallbackAt, cell}
+use Rattle.switch_tables.specs.Planned.{Placed, entries, wantIn}
+use Rattle.switch_emit.specs.Ready.{Ready}
+use Rattle.switch_emit.specs.Parts.{placeIn, targetsIn}
 
 -- ---- the blocks that are wanted
 
@@ -98,13 +94,13 @@ module _ {s w : List ℕ} (D : Ready s) (P : Placed s w) where
   switch-made =
       ap (casesTo s (casesOf s)) switched-by
       ∙ whole-by s (D .right) (D .numbers) (D .switch) (placeIn w) (wantIn w) (bodies-at P) (wanted-at P)
-      ∙ ap (λ r. made (r .code) (r .pools) 1) (sym (lower-switch s (D .switch)))
+      ∙ ap (λ r. made (r .code) (r .pools) 1) (sym (lower-switch s (eq-eqb (kind s 0) switchKind (D .switch))))
 
   -- the rows of the cases, with the pools before the constants of the Cases
   pub cases-made : lower s .cases
       ≡ caseRows s (laidOut s) (code.fallbackAt (defaultBlock s) (laidOut s .splits) (laidOut s)) (casesOf s) (switched s w .pools)
   cases-made =
-      ap (λ r. r .cases) (lower-switch s (D .switch))
+      ap (λ r. r .cases) (lower-switch s (eq-eqb (kind s 0) switchKind (D .switch)))
       ∙ rows-by s (D .right) (D .numbers) (D .switch) (placeIn w) (wantIn w) (bodies-at P) (wanted-at P)
       ∙ ap (λ (a : Made). caseRows s (laidOut s) (code.fallbackAt (defaultBlock s) (laidOut s .splits) (laidOut s)) (casesOf s) (a .pools))
       (sym switched-by)

@@ -9,16 +9,16 @@ use Rattle.sheet.specs.Limits.{maxDepth}
 use Rattle.lowering.specs.All.{All}
 use Rattle.lowering.specs.SwitchSheet.{blockCount, guardOf}
 use Rattle.lowering.specs.Arms.{End, taken, declined, idle, Guard, never, always, tried, guardKind}
-use Rattle.counting.specs.Count.{tally}
-use Rattle.totals.specs.Arms.{endOf, hasTry}
-use Rattle.totals.specs.Place.{bodyPlace, endTarget, listTarget}
-use Rattle.switching.specs.SameLaws.{AllIn}
-use Rattle.switching.specs.NodeLaws.{lists-place}
-use Rattle.tables.specs.Columns.{bodyAt, cell}
-use Rattle.tables.specs.Numbers.{numberIn}
-use Rattle.tables.specs.Planned.{Placed, Chained, entries, exitBy, exitOf, chainPlace}
-use Rattle.rows.specs.Rows.{targetIn, targetAt}
-use Rattle.rows.proofs.RowLaws.{target-chain, target-none, target-body, target-is}
+use Rattle.expr_count.specs.Count.{tally}
+use Rattle.switch_count.specs.Arms.{endOf, hasTry}
+use Rattle.switch_count.specs.Place.{bodyPlace, endTarget, listTarget}
+use Rattle.switch_model.proofs.SameLaws.{AllIn}
+use Rattle.switch_model.proofs.NodeLaws.{lists-place}
+use Rattle.switch_tables.specs.Columns.{bodyAt, cell}
+use Rattle.switch_tables.specs.Numbers.{numberIn}
+use Rattle.switch_tables.specs.Planned.{Placed, Chained, entries, exitBy, exitOf, chainPlace}
+use Rattle.write_rows.specs.TableRows.{targetIn, targetAt}
+use Rattle.write_rows.proofs.RowLaws.{target-chain, target-none, target-body, target-is}
 
 -- a list that ends with a block names it
 named-end : (s : List ℕ) (P : ℕ → Type 0) (k : ℕ) (m : List ℕ) → All P m → endOf s m ≡ taken k → P k

@@ -11,10 +11,10 @@ use Rattle.lowering.specs.Demand3.{Demand3}
 use Rattle.lowering.proofs.Demand3Holds as Holds
 use Rattle.to_image.specs.declared.Answer.{Answer}
 use Rattle.to_image.specs.declared.Answer.the-variants.{Lowered, Refused}
-use Rattle.to_image.specs.Answer.{numberOf, wordsOf, answer, imageAfter, Answers}
+use Rattle.to_image.specs.Answer.{answerNumber, wordsOf, answer, imageAfter, Answers}
 use Rattle.to_image.specs.Told.{outcomeNumber, outcomeWords, Told, Statement}
 
-number-of : (o : Outcome) → numberOf (answer o) ≡ outcomeNumber o
+number-of : (o : Outcome) → answerNumber (answer o) ≡ outcomeNumber o
 unfolding answer
 number-of (refused r) = refl
 number-of (image w) = refl
@@ -38,20 +38,20 @@ module _ (s xs ys : List ℕ) (r : Answer) (xs′ ys′ : List ℕ) (a : Answers
       let o = outcome s (length xs) (length ys) in
       front o n xs (sym e ∙ a .answers) ∙ ap (λ (zs : List ℕ). image (take n zs)) (sym (a .image-is))
 
-  runs : (n : ℕ) → r ≡ Lowered n → Demand3 s (take n xs′)
-  runs n e = Holds.demand3 s (length xs) (length ys) (take n xs′) (there n e)
+  bands : (n : ℕ) → r ≡ Lowered n → Demand3 s (take n xs′)
+  bands n e = Holds.demand3 s (length xs) (length ys) (take n xs′) (there n e)
 
-  by-number : (q : Answer) → r ≡ q → numberOf q ≡ 0 → Demand3 s (take (wordsOf q) xs′)
-  by-number (Lowered n) e z = runs n e
+  by-number : (q : Answer) → r ≡ q → answerNumber q ≡ 0 → Demand3 s (take (wordsOf q) xs′)
+  by-number (Lowered n) e z = bands n e
   by-number (Refused by) e z = absurd (omega (arith, number-some by))
 
 pub told : Statement
 told s xs ys r xs′ ys′ a =
     let o = outcome s (length xs) (length ys) in
     record {
-      number-is = ap numberOf (a .answers) ∙ number-of o;
+      number-is = ap answerNumber (a .answers) ∙ number-of o;
       words-is = ap wordsOf (a .answers) ∙ words-of o;
       image-there = there s xs ys r xs′ ys′ a;
-      demand3 = runs s xs ys r xs′ ys′ a;
+      demand3 = bands s xs ys r xs′ ys′ a;
       success = by-number s xs ys r xs′ ys′ a r refl;
     }

@@ -9,9 +9,9 @@ use Rattle.to_image.specs.declared.Answer.{Answer}
 use Rattle.to_image.specs.declared.Answer.the-variants.{Lowered, Refused}
 
 -- 01's number of an answer: 0 is success
-abbrev pub numberOf : Answer → ℕ
-numberOf (Lowered words) = 0
-numberOf (Refused by) = refusalNumber by
+abbrev pub answerNumber : Answer → ℕ
+answerNumber (Lowered words) = 0
+answerNumber (Refused by) = refusalNumber by
 
 -- the image's word count, 0 under a refusal
 abbrev pub wordsOf : Answer → ℕ

@@ -6,12 +6,12 @@ use mathlib.Core.List.{List, _++_}
 use lib.Dec.{ltb}
 use lib.ListN.{length, drop}
 use Rattle.refusals.specs.declared.Refusal.the-variants.{ImageLong}
-use Rattle.sheet.specs.Layout.{nodeCount}
+use Rattle.sheet.specs.Sections.{nodeCount}
 use Rattle.checks.specs.Checked as Checked
 use Rattle.lowering.specs.Limits.{maxEmitted, scratchPerEmitted, scratchPerNode, scratchBesides}
 use Rattle.lowering.specs.Image.{words}
 use Rattle.lowering.specs.Outcome.{lower}
-use Rattle.totals.specs.Total.{total}
+use Rattle.switch_count.specs.Total.{total}
 use Rattle.to_image.specs.declared.Answer.{Answer}
 use Rattle.to_image.specs.declared.Answer.the-variants.{Lowered, Refused}
 
@@ -21,7 +21,7 @@ ended room n = elim (ltb room n) [ true ↦ Refused ImageLong | false ↦ Lowere
 
 -- what the making of an image may take for granted: nothing refuses before the image is made
 pub record Ready (s : List ℕ) (e m : ℕ) : Type 0 where
-  pub accepted : Checked.numberOf (Checked.checked s) ≡ 0
+  pub accepted : Checked.verdictNumber (Checked.checked s) ≡ 0
   pub reached : total s .defeated ≡ false
   pub emitted : total s .emitted ≤ e
   pub few : e ≤ maxEmitted

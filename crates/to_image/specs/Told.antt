@@ -8,7 +8,7 @@ use Rattle.lowering.specs.Outcome.{Outcome, refused, image, outcome}
 use Rattle.lowering.specs.Demand3.{Demand3}
 use Rattle.to_image.specs.declared.Answer.{Answer}
 use Rattle.to_image.specs.declared.Answer.the-variants.{Lowered}
-use Rattle.to_image.specs.Answer.{numberOf, wordsOf, Answers}
+use Rattle.to_image.specs.Answer.{answerNumber, wordsOf, Answers}
 
 -- 01's number and word count of an outcome: 0 is success, and a refusal has no words
 abbrev pub outcomeNumber : Outcome → ℕ
@@ -21,13 +21,13 @@ outcomeWords (image w) = length w
 
 -- r is answered for sheet s with image xs and scratch ys, and the image is left as xs′
 pub record Told (s xs ys : List ℕ) (r : Answer) (xs′ : List ℕ) : Type 0 where
-  pub number-is : numberOf r ≡ outcomeNumber (outcome s (length xs) (length ys))
+  pub number-is : answerNumber r ≡ outcomeNumber (outcome s (length xs) (length ys))
   pub words-is : wordsOf r ≡ outcomeWords (outcome s (length xs) (length ys))
   -- after success the first words are the outcome's image, and demand 3 holds of them
   pub image-there : (n : ℕ) → r ≡ Lowered n → outcome s (length xs) (length ys) ≡ image (take n xs′)
   pub demand3 : (n : ℕ) → r ≡ Lowered n → Demand3 s (take n xs′)
   -- the same by 01's number and word count
-  pub success : numberOf r ≡ 0 → Demand3 s (take (wordsOf r) xs′)
+  pub success : answerNumber r ≡ 0 → Demand3 s (take (wordsOf r) xs′)
 
 -- what is to be proved: it follows from the contract of `lower`
 abbrev pub Statement : Type 0

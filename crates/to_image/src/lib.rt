@@ -16,11 +16,7 @@ use crate::switched::build_switch;
 use bytecode::effects;
 use checks::Verdict;
 use checks::check;
-use compile::expression;
-use image::image_len;
-use image::write_front;
-use local_slots::begin;
-use needs::SWITCH;
+use expr_emit::expression;
 use needs::plain_counts;
 use needs::refusal;
 use needs::settle;
@@ -28,12 +24,16 @@ use needs::switch_counts;
 use refusals::Refusal;
 use refusals::refusal_number;
 use scratch::Layout;
+use scratch_locals::begin;
+use scratch_store::states::start;
+use scratch_store::states::state_of;
 use sheet::kind;
+use sheet::kinds::SWITCH;
 use sheet::limits::MAX_DEPTH;
 use sheet::node_count;
-use store::states::start;
-use store::states::state_of;
-use tables::SIZE;
+use switch_tables::SIZE;
+use write_front::image_len;
+use write_front::write_front;
 use zeros::zero;
 
 // What a lowering answers: the image's word count, or why it is refused.
@@ -43,24 +43,25 @@ pub enum Answer {
 }
 
 // The image of an expression: its word count; its words are written where they fit.
-fn build_plain(s: &[u8], image: &mut [u32], x: &mut [u32], most: u32) -> usize
-    ensures { λ r. let sheet = now (s .entry) in ⌜ (Ready sheet most (length (now (x .entry))) → (nodes.kind sheet 0 ≡ switchKind → ⊥)
+fn build_plain(sheet: &[u8], image: &mut [u32], scratch: &mut [u32], most: u32) -> usize
+    ensures { λ r. let sheet = now (sheet .entry) in
+        ⌜ (Ready sheet most (length (now (scratch .entry))) → (nodes.kind sheet 0 ≡ switchKind → ⊥)
         → Built sheet (now (image .entry)) r (now (image .exit))) ⌝ }
 {
     let l = Layout {
         most,
-        nodes: node_count(s),
+        nodes: node_count(sheet),
     };
     let t = effects();
     let mut c = start(l);
-    begin(s, x, l);
-    expression(MAX_DEPTH, s, &t, &mut c, x, 0);
+    begin(sheet, scratch, l);
+    expression(MAX_DEPTH, sheet, &t, &mut c, scratch, 0);
     let st = state_of(&c);
     let n = image_len(st, 0);
     if image.len() < n {
         return n;
     }
-    write_front(s, &x[..], st, image, 0, 0, 0);
+    write_front(sheet, &scratch[..], st, image, 0, 0, 0);
     n
 }
 
@@ -80,7 +81,7 @@ fn ended(scratch: &mut [u32], room: usize, words: usize) -> Answer
 
 // An accepted expression: count, refuse, emit, write.
 fn lower_plain(sheet: &[u8], image: &mut [u32], scratch: &mut [u32]) -> Answer
-    ensures { λ r. let s = now (sheet .entry) in ⌜ (Checked.numberOf (Checked.checked s) ≡ 0 → (nodes.kind s 0 ≡ switchKind → ⊥)
+    ensures { λ r. let s = now (sheet .entry) in ⌜ (Checked.verdictNumber (Checked.checked s) ≡ 0 → (nodes.kind s 0 ≡ switchKind → ⊥)
         → Answers s (now (image .entry)) (now (scratch .entry)) r (now (image .exit)) (now (scratch .exit))) ⌝ }
 {
     let t = plain_counts(sheet, scratch.len());
@@ -96,7 +97,7 @@ fn lower_plain(sheet: &[u8], image: &mut [u32], scratch: &mut [u32]) -> Answer
 
 // An accepted Switch: read it into the flat table, count, refuse, emit, write.
 fn lower_switch(sheet: &[u8], image: &mut [u32], scratch: &mut [u32]) -> Answer
-    ensures { λ r. let s = now (sheet .entry) in ⌜ (Checked.numberOf (Checked.checked s) ≡ 0 → nodes.kind s 0 ≡ switchKind
+    ensures { λ r. let s = now (sheet .entry) in ⌜ (Checked.verdictNumber (Checked.checked s) ≡ 0 → nodes.kind s 0 ≡ switchKind
         → Answers s (now (image .entry)) (now (scratch .entry)) r (now (image .exit)) (now (scratch .exit))) ⌝ }
 {
     let mut w = [0u32; SIZE];
@@ -114,7 +115,7 @@ fn lower_switch(sheet: &[u8], image: &mut [u32], scratch: &mut [u32]) -> Answer
 
 // An accepted sheet, by the kind of node 0.
 fn lower_accepted(sheet: &[u8], image: &mut [u32], scratch: &mut [u32]) -> Answer
-    ensures { λ r. let s = now (sheet .entry) in ⌜ (Checked.numberOf (Checked.checked s) ≡ 0
+    ensures { λ r. let s = now (sheet .entry) in ⌜ (Checked.verdictNumber (Checked.checked s) ≡ 0
         → Answers s (now (image .entry)) (now (scratch .entry)) r (now (image .exit)) (now (scratch .exit))) ⌝ }
 {
     if kind(sheet, 0) == SWITCH {
@@ -137,7 +138,7 @@ pub fn lower(sheet: &[u8], image: &mut [u32], scratch: &mut [u32]) -> Answer
 
 // 01's number of an answer: 0 is success.
 pub fn number(a: Answer) -> u32
-    ensures { λ r. ⌜ r ≡ answers.numberOf a ⌝ }
+    ensures { λ r. ⌜ r ≡ answers.answerNumber a ⌝ }
 {
     match a {
         Answer::Lowered { words: _ } => 0,

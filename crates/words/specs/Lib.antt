@@ -1,5 +1,2 @@
 pub mod Word
-pub mod WordLaws
 pub mod Count
-pub mod CountLaws
-pub mod PartLaws

@@ -1,5 +1,5 @@
 -- `api::sheet_check` meets its contract: the number of the answer.
-use Rattle.checks.specs.Checked.{numberOf}
+use Rattle.checks.specs.Checked.{verdictNumber}
 use mathlib.Core.Path.{ap, _∙_}
 use borrow.Author.Needs.{needs}
 use Rattle.api.proofs.sheet_check.Statement.{statement}
@@ -16,7 +16,7 @@ number-requires : tie.Need-number-requires
 number-requires c κs = search needs
 
 returns : tie.Need-returns
-returns c = c .number .ensures ∙ ap numberOf (c .before .check .ensures)
+returns c = c .number .ensures ∙ ap verdictNumber (c .before .check .ensures)
 
 pub sheet-check-spec : {M : Type 1} → statement M
 sheet-check-spec = tie.close (tie.spec check-requires number-requires returns)

@@ -1,6 +1,6 @@
 -- `api::sheet_needs` meets its contract: the number and the words of the need.
 use mathlib.Core.Path.{sym, ap, _∙_}
-use Rattle.needs.specs.Needed.{numberOf, wordsOf}
+use Rattle.needs.specs.Needed.{needNumber, wordsOf}
 use Rattle.api.proofs.Foretold.{asked}
 use borrow.Author.Needs.{needs}
 use Rattle.api.proofs.sheet_needs.Statement.{statement}
@@ -22,13 +22,13 @@ returns : tie.Need-returns
 returns c =
     let match = c .before in
     let need = match .count .given .1 in
-    asked _ _ _ _ (match .before .before .needs .ensures) (sym (ap numberOf need)) (sym (ap wordsOf need))
+    asked _ _ _ _ (match .before .before .needs .ensures) (sym (ap needNumber need)) (sym (ap wordsOf need))
 
 returns-2 : tie.Need-returns-2
 returns-2 c =
     let match = c .before .before in
     let need = match .by .given .1 in
-    asked _ _ _ _ (match .before .before .needs .ensures) (c .refusal-number .ensures ∙ sym (ap numberOf need)) (sym (ap wordsOf need))
+    asked _ _ _ _ (match .before .before .needs .ensures) (c .refusal-number .ensures ∙ sym (ap needNumber need)) (sym (ap wordsOf need))
 
 pub sheet-needs-spec : {M : Type 1} → statement M
 sheet-needs-spec =

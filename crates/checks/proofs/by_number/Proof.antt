@@ -1,5 +1,5 @@
 -- `checks::by_number` meets its contract: a law for each answer.
-use Rattle.checks.specs.CheckedLaws.{says-1, says-2, says-3, says-4, goes-on}
+use Rattle.checks.proofs.CheckedLaws.{says-1, says-2, says-3, says-4, goes-on}
 use mathlib.Core.Path.{sym, _∙_}
 use borrow.Author.Needs.{needs}
 use Rattle.checks.proofs.by_number.Statement.{statement}
@@ -24,7 +24,7 @@ tree-requires c κs = search needs
 returns-4 : tie.Need-returns-4
 returns-4 c =
     let b = c .before .before .before in
-    sym (says-2 (b .before .before .args .s .now) (cc) (cc))
+    sym (says-2 (b .before .before .args .sheet .now) (cc) (cc))
 
 returns : tie.Need-returns
 returns c =

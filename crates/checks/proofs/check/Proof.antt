@@ -1,6 +1,6 @@
 -- `checks::check` meets its contract: where the pass says yes, what is left is the answer.
 use mathlib.Core.Path.{sym, _∙_}
-use Rattle.checks.specs.CheckedLaws.{says-1}
+use Rattle.checks.proofs.CheckedLaws.{says-1}
 use Rattle.checks.proofs.RestLaws.{rest-is}
 use borrow.Author.Needs.{needs}
 use Rattle.checks.proofs.check.Statement.{statement}
@@ -9,8 +9,8 @@ use Rattle.checks.proofs.check.Reads as reads
 use Rattle.checks.proofs.check.Lts as lts
 use Rattle.checks.proofs.by_number.Reads as by-number-reads
 use Rattle.checks.proofs.rest.Reads as rest-reads
-use Rattle.one_pass.proofs.passes.Reads as passes-reads
-use Rattle.sizes.proofs.sizes_ok.Reads as sizes-ok-reads
+use Rattle.check_pass.proofs.passes.Reads as passes-reads
+use Rattle.check_sizes.proofs.sizes_ok.Reads as sizes-ok-reads
 
 sizes-ok-requires : tie.Need-sizes-ok-requires
 sizes-ok-requires c κs = search needs

@@ -6,10 +6,10 @@ use Rattle.checks.proofs.rest.Statement.{statement}
 use Rattle.checks.proofs.rest.Tie as tie
 use Rattle.checks.proofs.rest.Reads as reads
 use Rattle.checks.proofs.rest.Lts as lts
-use Rattle.numbers.proofs.locals_ok.Reads as locals-ok-reads
-use Rattle.switches.proofs.cases_ok.Reads as cases-ok-reads
-use Rattle.switches.proofs.entries_ok.Reads as entries-ok-reads
-use Rattle.texts.proofs.texts_ok.Reads as texts-ok-reads
+use Rattle.check_numbers.proofs.locals_ok.Reads as locals-ok-reads
+use Rattle.check_switches.proofs.cases_ok.Reads as cases-ok-reads
+use Rattle.check_switches.proofs.entries_ok.Reads as entries-ok-reads
+use Rattle.check_texts.proofs.texts_ok.Reads as texts-ok-reads
 
 texts-ok-requires : tie.Need-texts-ok-requires
 texts-ok-requires c κs = search needs

@@ -1,5 +1,5 @@
 -- `checks::tree` meets its contract: a law for each answer.
-use Rattle.checks.specs.CheckedLaws.{says-0, says-5, says-6, says-7, says-8}
+use Rattle.checks.proofs.CheckedLaws.{says-0, says-5, says-6, says-7, says-8}
 use mathlib.Core.Path.{sym, _∙_}
 use borrow.Author.Needs.{needs}
 use Rattle.checks.proofs.tree.Statement.{statement}

@@ -5,7 +5,7 @@ use lib.ListN.{length, drop}
 use native.Mathlib.Omega.{arith}
 use borrow.Author.Needs.{needs}
 use Rattle.edges.specs.Sums.{mixedAll}
-use Rattle.edges.specs.SumLaws.{sum-start, sum-next, sum-end}
+use Rattle.edges.proofs.SumLaws.{sum-start, sum-next, sum-end}
 use Rattle.edges.proofs.checksum.Statement.{statement}
 use Rattle.edges.proofs.checksum.Tie as tie
 
@@ -34,10 +34,22 @@ loop-less : tie.Need-loop-less Inv-loop μ-loop
 loop-less c = search needs
 
 loop-again : tie.Need-loop-again Inv-loop μ-loop
-loop-again c = (omega arith, ap (λ z. mixedAll z (drop (c .before .before .before .loop .i + 1) (c .before .before .before .before .before .args .words .now))) (c .mixed .ensures) ∙ sum-next (c .before .before .before .before .before .args .words .now) (c .before .before .before .loop .i) (c .before .before .before .loop .sum) (mixedAll 0 (c .before .before .before .before .before .args .words .now)) (c .before .before .loop-test .taken) (c .before .before .before .loop .inv .1))
+loop-again c =
+    let at-loop-test = c .before .before in
+    let at-loop = at-loop-test .before in
+    let at-start = at-loop .before .before in (
+      omega arith,
+      ap (λ z. mixedAll z (drop (at-loop .loop .i + 1) (at-start .args .words .now))) (c .mixed .ensures)
+          ∙ sum-next (at-start .args .words .now) (at-loop .loop .i) (at-loop .loop .sum) (mixedAll 0 (at-start .args .words .now))
+          (at-loop-test .loop-test .taken) (at-loop .loop .inv .1),
+    )
 
 returns : tie.Need-returns Inv-loop μ-loop
-returns c = sum-end (c .before .before .before .args .words .now) (c .before .loop .i) (c .before .loop .sum) (mixedAll 0 (c .before .before .before .args .words .now)) (omega arith) (c .before .loop .inv .1)
+returns c =
+    let at-start = c .before .before .before in
+    sum-end (at-start .args .words .now) (c .before .loop .i) (c .before .loop .sum) (mixedAll 0 (at-start .args .words .now)) (omega arith)
+    (c .before .loop .inv .1)
 
 pub checksum-spec : {M : Type 1} → statement M
-checksum-spec = tie.close (tie.spec Inv-loop μ-loop loop-holds mul-mixed shared-slice-read-mixed mixed-requires add-i loop-less loop-again returns)
+checksum-spec =
+    tie.close (tie.spec Inv-loop μ-loop loop-holds mul-mixed shared-slice-read-mixed mixed-requires add-i loop-less loop-again returns)

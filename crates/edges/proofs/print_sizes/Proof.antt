@@ -1,14 +1,15 @@
 -- `edges::print_sizes` is safe and ends.
 use Prim.Native.Nat.{_+_, _-_, _≤_}
 use borrow.Author.Needs.{needs}
+use Rattle.lowering.specs.Limits.{sizesWords}
 use Rattle.edges.proofs.print_sizes.Statement.{statement}
 use Rattle.edges.proofs.print_sizes.Tie as tie
 
 abbrev Inv-loop : tie.InvT-loop
-Inv-loop image i₀ t4 i = i ≤ 12
+Inv-loop image i₀ t4 i = i ≤ sizesWords
 
 abbrev μ-loop : tie.MeasureT-loop
-μ-loop image i₀ t4 i = 12 - i
+μ-loop image i₀ t4 i = sizesWords - i
 
 slice-aggregate-write-all : tie.Need-slice-aggregate-write-all Inv-loop μ-loop
 slice-aggregate-write-all c = search needs

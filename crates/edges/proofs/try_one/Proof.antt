@@ -6,7 +6,10 @@ use Rattle.edges.proofs.try_one.Statement.{statement}
 use Rattle.edges.proofs.try_one.Tie as tie
 
 slice-aggregate-edge : tie.Need-slice-aggregate-edge
-slice-aggregate-edge c = sym (length-take-le (c .before .before .before .before .before .before .args .n) (c .before .before .before .before .before .before .args .s .now) (c .before .if1 .taken))
+slice-aggregate-edge c =
+    let p4 = c .before .before .before .before in
+    let at-start = p4 .before .before in
+    sym (length-take-le (at-start .args .n) (at-start .args .sheet .now) (c .before .if1 .taken))
 
 edge-requires : tie.Need-edge-requires
 edge-requires c κs = search needs

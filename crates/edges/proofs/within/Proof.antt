@@ -9,13 +9,21 @@ slice-relend-prefix-try-one : tie.Need-slice-relend-prefix-try-one
 slice-relend-prefix-try-one c = search needs
 
 slice-aggregate-try-one : tie.Need-slice-aggregate-try-one
-slice-aggregate-try-one c = sym (length-take-le (c .before .before .before .before .before .before .before .args .x) (c .before .before .before .before .before .before .before .args .image .now) (c .before .before .if1 .taken))
+slice-aggregate-try-one c =
+    let at-if1 = c .before .before in
+    let p6 = at-if1 .before .before .before .before in
+    let at-start = p6 .before in
+    sym (length-take-le (at-start .args .x) (at-start .args .image .now) (at-if1 .if1 .taken))
 
 slice-relend-prefix-try-one-2 : tie.Need-slice-relend-prefix-try-one-2
 slice-relend-prefix-try-one-2 c = search needs
 
 slice-aggregate-try-one-2 : tie.Need-slice-aggregate-try-one-2
-slice-aggregate-try-one-2 c = sym (length-take-le (c .before .before .before .before .before .before .before .before .args .y) (c .before .before .before .before .before .before .before .before .args .scratch .now) (c .before .before .if2 .taken))
+slice-aggregate-try-one-2 c =
+    let at-if2 = c .before .before in
+    let p6 = at-if2 .before .before .before .before in
+    let at-start = p6 .before .before in
+    sym (length-take-le (at-start .args .y) (at-start .args .scratch .now) (at-if2 .if2 .taken))
 
 try-one-requires : tie.Need-try-one-requires
 try-one-requires c κs = search needs

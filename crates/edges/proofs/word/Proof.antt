@@ -1,5 +1,5 @@
 -- `edges::word` meets its contract: past the end the answer is 0.
-use Rattle.words.specs.WordLaws.{byte-past}
+use Rattle.words.proofs.WordLaws.{byte-past}
 use mathlib.Core.Path.{sym}
 use borrow.Author.Needs.{needs}
 use Rattle.edges.proofs.word.Statement.{statement}

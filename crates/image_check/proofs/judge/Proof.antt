@@ -14,8 +14,9 @@ slice-relend-prefix-well-made c = search needs
 
 slice-aggregate-well-made : tie.Need-slice-aggregate-well-made
 slice-aggregate-well-made c =
-    let a = c .before .before .before .before .before .args in
-    sym (length-take-le _ (a .x .now) (c .before .if1 .left))
+    let p4 = c .before .before .before .before in
+    let a = p4 .before .args in
+    sym (length-take-le _ (a .scratch .now) (c .before .if1 .left))
 
 well-made-requires : tie.Need-well-made-requires
 well-made-requires c κs = search needs
@@ -32,7 +33,8 @@ returns-2 c =
     let made = zeroed .before .before .before .before in
     let test = made .before .before in
     let lent = length-take-le _ _ (test .if1 .left) in
-    λ ok. ends-made _ _ _ _ _ ok (test .if1 .left) (zeroed .zero .ensures) (same-length c) (sym (made .well-made .ensures lent) ∙ c .if2 .taken)
+    λ ok. ends-made _ _ _ _ _ ok (test .if1 .left) (zeroed .zero .ensures) (same-length c)
+    (sym (made .well-made .ensures lent) ∙ c .if2 .taken)
 
 same-length-2 : tie.Need-same-length-2
 same-length-2 c = search needs
@@ -43,7 +45,8 @@ returns-3 c =
     let made = zeroed .before .before .before .before in
     let test = made .before .before in
     let lent = length-take-le _ _ (test .if1 .left) in
-    λ ok. ends-unmade _ _ _ _ _ ok (test .if1 .left) (zeroed .zero .ensures) (same-length-2 c) (sym (made .well-made .ensures lent) ∙ c .if2 .left)
+    λ ok. ends-unmade _ _ _ _ _ ok (test .if1 .left) (zeroed .zero .ensures) (same-length-2 c)
+    (sym (made .well-made .ensures lent) ∙ c .if2 .left)
 
 pub judge-spec : {M : Type 1} → statement M
 judge-spec =

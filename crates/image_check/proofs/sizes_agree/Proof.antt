@@ -16,7 +16,7 @@ end-at-requires c κs = search needs
 returns : tie.Need-returns
 unfolding sizesAgree
 returns c =
-    let w = c .before .before .args .w .now in
+    let w = c .before .before .args .image .now in
     ap (λ (n : ℕ). leb sizesWords (length w) && eqb (length w) n) (c .end-at .ensures .0)
 
 pub sizes-agree-spec : {M : Type 1} → statement M

@@ -2,7 +2,7 @@
 use mathlib.Core.Path.{_≡_, sym, _∙_}
 use mathlib.Core.Bool.{true}
 use lib.ListN.{length}
-use Rattle.wellmade.specs.Test.{operandsRight, targetsRight}
+use Rattle.image_rule.specs.Test.{operandsRight, targetsRight}
 use Rattle.image_fields.specs.Fields.{fieldsRight}
 use Rattle.image_check.specs.Sizes.{sizesAgree}
 use Rattle.image_check.proofs.MadeLaws.{sized, chains, rows, tested}
@@ -28,35 +28,44 @@ depths-right-requires c κs = search needs
 
 -- the way back from each test to the one before it, and to the start
 abbrev start : tie.Then1 → tie.Start
-start one = let asked = one .before .before in asked .before .before .before
+start one =
+    let asked = one .before .before in
+    let p5 = asked .before .before .before in
+    p5
 
 abbrev one-of : tie.Then2 → tie.Then1
 one-of two = two .before .before
 
 abbrev two-of : tie.Then3 → tie.Then2
-two-of three = let asked = three .before .before .before in asked .before .before
+two-of three =
+    let asked = three .before .before .before in
+    let p5 = asked .before .before in
+    p5
 
 abbrev three-of : tie.Then4 → tie.Then3
-three-of four = let asked = four .before .before .before in asked .before .before
+three-of four =
+    let asked = four .before .before .before in
+    let p5 = asked .before .before in
+    p5
 
 -- what holds behind each test
-agree : (one : tie.Then1) → sizesAgree (start one .args .w .now) ≡ true
+agree : (one : tie.Then1) → sizesAgree (start one .args .image .now) ≡ true
 agree one = sym (one .before .sizes-agree .ensures) ∙ one .if1 .taken
 
-fields : (two : tie.Then2) → let a = start (one-of two) .args in fieldsRight (a .s .now) (a .w .now) ≡ true
+fields : (two : tie.Then2) → let a = start (one-of two) .args in fieldsRight (a .sheet .now) (a .image .now) ≡ true
 fields two = sym (two .before .fields-right .ensures) ∙ two .if2 .taken
 
 -- the scratch has as many words as the image
 abbrev Lent : tie.Then2 → Type 0
-Lent two = let a = start (one-of two) .args in length (a .l .now) ≡ length (a .w .now)
+Lent two = let a = start (one-of two) .args in length (a .scratch .now) ≡ length (a .image .now)
 
-operands : (three : tie.Then3) → let two = two-of three in Lent two → operandsRight (start (one-of two) .args .w .now) ≡ true
+operands : (three : tie.Then3) → let two = two-of three in Lent two → operandsRight (start (one-of two) .args .image .now) ≡ true
 operands three e =
     let two = two-of three in
     let a = agree (one-of two) in
     sym (three .before .before .before .operands-right .ensures (sized _ _ a e) (chains _ _ a (fields two))) ∙ three .if3 .taken
 
-targets : (four : tie.Then4) → let two = two-of (three-of four) in Lent two → targetsRight (start (one-of two) .args .w .now) ≡ true
+targets : (four : tie.Then4) → let two = two-of (three-of four) in Lent two → targetsRight (start (one-of two) .args .image .now) ≡ true
 targets four e =
     let three = three-of four in
     let two = two-of three in

@@ -33,7 +33,7 @@ returns : tie.Need-returns
 returns c =
     let read = c .before .before in
     let a = read .before .before .args in (
-      takes-more (a .w .now) (a .o) (a .i) _ _ (read .word-from .ensures) (c .before .word-from2 .ensures) (c .if1 .taken),
+      takes-more (a .image .now) (a .o) (a .i) _ _ (read .word-from .ensures) (c .before .word-from2 .ensures) (c .if1 .taken),
       omega (arith, read .word-from .ok),
     )
 
@@ -41,7 +41,7 @@ returns-2 : tie.Need-returns-2
 returns-2 c =
     let read = c .before .before in
     let a = read .before .before .args in (
-      takes-same (a .w .now) (a .o) (a .i) _ _ (read .word-from .ensures) (c .before .word-from2 .ensures) (c .if1 .left),
+      takes-same (a .image .now) (a .o) (a .i) _ _ (read .word-from .ensures) (c .before .word-from2 .ensures) (c .if1 .left),
       omega (arith, read .word-from .ok),
     )
 

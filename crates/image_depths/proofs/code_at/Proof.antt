@@ -77,7 +77,7 @@ returns c =
     let column = counts .before .before in
     let kind = column .before .before in
     let a = kind .before .before .args in
-    code-read (a .w .now) (a .o) (a .t .now) (a .p) _ _ _ _ _ _ _ _ _ _
+    code-read (a .image .now) (a .o) (a .t .now) (a .p) _ _ _ _ _ _ _ _ _ _
     (kind .word-of .ensures) (column .before .word-of2 .ensures) (counts .before .word-of3 .ensures)
     (column .entry .ensures) (counts .on-top .ensures .0)
     (keeps .before .before .entry2 .ensures) (keeps .before .entry3 .ensures) (keeps .kept .ensures)

@@ -42,11 +42,11 @@ returns c =
     λ K e.
     let P = placed .starts-of .ensures in
     let T = table .effects .ensures in
-    let fits = room (a .w .now) K in
+    let fits = room (a .image .now) K in
     let M = marked .mark-all .ensures P T (K .named) (K .pooled) (omega (arith, fits, e)) in
     let C = counted .count-runs .ensures P in
     let R = C .runs (omega (arith, fits, e, marked .mark-all .kept .1 .1 .1 .0)) in
-    marked-right (a .w .now) _ _ _ _ M (test .if1 .taken) C (c .marks-right .ensures P T (K .pooled) R)
+    marked-right (a .image .now) _ _ _ _ M (test .if1 .taken) C (c .marks-right .ensures P T (K .pooled) R)
 
 same-length-2 : tie.Need-same-length-2
 same-length-2 c = search needs
@@ -59,9 +59,9 @@ returns-2 c =
     let a = placed .before .before .before .args in
     λ K e.
     let P = placed .starts-of .ensures in
-    let fits = room (a .w .now) K in
+    let fits = room (a .image .now) K in
     let M = marked .mark-all .ensures P (table .effects .ensures) (K .named) (K .pooled) (omega (arith, fits, e)) in
-    marked-wrong (a .w .now) _ _ K (omega (arith, P .places, placed .starts-of .ok)) M (c .if1 .left)
+    marked-wrong (a .image .now) _ _ K (omega (arith, P .places, placed .starts-of .ok)) M (c .if1 .left)
 
 pub depths-right-spec : {M : Type 1} → statement M
 depths-right-spec =

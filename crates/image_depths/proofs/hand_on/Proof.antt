@@ -27,7 +27,7 @@ returns c =
     let test = opened .before .before in
     let sized = test .before .before in
     let a = sized .before .before .before .args in
-    hand-table (a .w .now) (a .o) (a .c) (a .p) (a .m) _ (a .l .now) (sized .marks-there .ensures .0) _ (test .if1 .taken)
+    hand-table (a .image .now) (a .o) (a .c) (a .p) (a .m) _ (a .scratch .now) (sized .marks-there .ensures .0) _ (test .if1 .taken)
     (opened .open-table .ensures)
 
 come-requires : tie.Need-come-requires
@@ -50,7 +50,7 @@ returns-2 c =
     let test = first .before .before in
     let sized = test .before .before .before .before in
     let a = sized .before .before .before .args in
-    hand-branch (a .w .now) (a .o) (a .c) (a .p) (a .m) _ (a .l .now) (sized .marks-there .ensures .0) _ _ (test .if2 .taken)
+    hand-branch (a .image .now) (a .o) (a .c) (a .p) (a .m) _ (a .scratch .now) (sized .marks-there .ensures .0) _ _ (test .if2 .taken)
     (first .come .ensures) (second .come2 .ensures)
 
 cast-come-2 : tie.Need-cast-come-2
@@ -70,7 +70,7 @@ returns-3 c =
     let switch = branch .before .before in
     let sized = switch .before .before in
     let a = sized .before .before .before .args in
-    hand-jump (a .w .now) (a .o) (a .c) (a .p) (a .m) _ (a .l .now) (sized .marks-there .ensures .0) _ (test .if3 .taken)
+    hand-jump (a .image .now) (a .o) (a .c) (a .p) (a .m) _ (a .scratch .now) (sized .marks-there .ensures .0) _ (test .if3 .taken)
     (came .come3 .ensures)
 
 come-requires-4 : tie.Need-come-requires-4
@@ -87,7 +87,7 @@ returns-4 c =
     let switch = branch .before .before in
     let sized = switch .before .before in
     let a = sized .before .before .before .args in
-    hand-on (a .w .now) (a .o) (a .c) (a .p) (a .m) _ (a .l .now) (sized .marks-there .ensures .0) _ (switch .if1 .left)
+    hand-on (a .image .now) (a .o) (a .c) (a .p) (a .m) _ (a .scratch .now) (sized .marks-there .ensures .0) _ (switch .if1 .left)
     (branch .if2 .left) (test .if3 .left) (came .come4 .ensures)
 
 pub hand-on-spec : {M : Type 1} → statement M

@@ -1,7 +1,7 @@
 -- `image_depths::leads` meets its contract.
 use borrow.Author.Needs.{needs}
 use mathlib.Core.Path.{refl, sym, _∙_}
-use Rattle.wellmade.specs.Marks.{flowAt}
+use Rattle.image_rule.specs.Marks.{flowAt}
 use Rattle.image_rows.specs.Scratch.{marksOf}
 use Rattle.image_depths.proofs.CheckLaws.{leads-table, leads-branch, leads-jump, leads-on}
 use Rattle.image_depths.proofs.MarkLaws.{node-mark, place-mark}
@@ -42,8 +42,8 @@ returns c =
     let sized = test .before .before in
     let a = sized .before .before .args in
     λ w P R.
-    leads-table (flowAt w (a .p)) w (marksOf w (a .l .now)) (a .p) (a .m) (a .c .a) _ _ (sym (R .flow) ∙ test .if1 .taken) (R .a) refl
-    (node-mark w (a .o) (a .c .a) _ _ (a .l .now) (sized .marks-there .ensures .0) (c .mark-of .ensures) P)
+    leads-table (flowAt w (a .p)) w (marksOf w (a .scratch .now)) (a .p) (a .m) (a .c .a) _ _ (sym (R .flow) ∙ test .if1 .taken) (R .a) refl
+    (node-mark w (a .o) (a .c .a) _ _ (a .scratch .now) (sized .marks-there .ensures .0) (c .mark-of .ensures) P)
 
 mark-of-requires-2 : tie.Need-mark-of-requires-2
 mark-of-requires-2 c κs = search needs
@@ -68,9 +68,9 @@ returns-2 c =
     let a = sized .before .before .args in
     let size = sized .marks-there .ensures .0 in
     λ w P R.
-    leads-branch (flowAt w (a .p)) w (marksOf w (a .l .now)) (a .p) (a .m) (a .c .a) _ _ (sym (R .flow) ∙ test .if2 .taken) (R .a)
-    (place-mark w (a .o) _ _ _ (a .l .now) size (next .mark-of2 .ensures) P)
-    (place-mark w (a .o) _ _ _ (a .l .now) size (c .mark-of3 .ensures) P)
+    leads-branch (flowAt w (a .p)) w (marksOf w (a .scratch .now)) (a .p) (a .m) (a .c .a) _ _ (sym (R .flow) ∙ test .if2 .taken) (R .a)
+    (place-mark w (a .o) _ _ _ (a .scratch .now) size (next .mark-of2 .ensures) P)
+    (place-mark w (a .o) _ _ _ (a .scratch .now) size (c .mark-of3 .ensures) P)
 
 cast-mark-of-4 : tie.Need-cast-mark-of-4
 cast-mark-of-4 c = search needs
@@ -89,8 +89,8 @@ returns-3 c =
     let sized = switch .before .before in
     let a = sized .before .before .args in
     λ w P R.
-    leads-jump (flowAt w (a .p)) w (marksOf w (a .l .now)) (a .p) (a .m) (a .c .a) _ (sym (R .flow) ∙ test .if3 .taken) (R .a)
-    (place-mark w (a .o) _ _ _ (a .l .now) (sized .marks-there .ensures .0) (c .mark-of4 .ensures) P)
+    leads-jump (flowAt w (a .p)) w (marksOf w (a .scratch .now)) (a .p) (a .m) (a .c .a) _ (sym (R .flow) ∙ test .if3 .taken) (R .a)
+    (place-mark w (a .o) _ _ _ (a .scratch .now) (sized .marks-there .ensures .0) (c .mark-of4 .ensures) P)
 
 mark-of-requires-5 : tie.Need-mark-of-requires-5
 mark-of-requires-5 c κs = search needs
@@ -106,9 +106,9 @@ returns-4 c =
     let sized = switch .before .before in
     let a = sized .before .before .args in
     λ w P R.
-    leads-on (flowAt w (a .p)) w (marksOf w (a .l .now)) (a .p) (a .m) _
+    leads-on (flowAt w (a .p)) w (marksOf w (a .scratch .now)) (a .p) (a .m) _
     (λ e. switch .if1 .left (R .flow ∙ e)) (λ e. branch .if2 .left (R .flow ∙ e)) (λ e. jump .if3 .left (R .flow ∙ e))
-    (place-mark w (a .o) _ _ _ (a .l .now) (sized .marks-there .ensures .0) (c .mark-of5 .ensures) P)
+    (place-mark w (a .o) _ _ _ (a .scratch .now) (sized .marks-there .ensures .0) (c .mark-of5 .ensures) P)
 
 pub leads-spec : {M : Type 1} → statement M
 leads-spec =

@@ -5,9 +5,9 @@ use native.Mathlib.Omega.{arith}
 use borrow.Author.Needs.{needs}
 use lib.ListN.{length}
 use Rattle.bytecode.specs.Table.{effectTable}
-use Rattle.wellmade.specs.Marks.{marksThere}
-use Rattle.wellmade.proofs.Right.{TablesNamed}
-use Rattle.image_rows.specs.Rows.{Placed}
+use Rattle.image_rule.specs.Marks.{marksThere}
+use Rattle.image_rule.proofs.Right.{TablesNamed}
+use Rattle.image_rows.specs.AllRows.{Placed}
 use Rattle.image_depths.specs.Checked.{RowsPooled}
 use Rattle.lowering.specs.Words.{instructions}
 use Rattle.image_depths.proofs.MarkLaws.{Held, held-start, held-on, held-deep, held-done, pooled-at}
@@ -48,7 +48,7 @@ loop-holds c =
       omega arith,
       refl,
       λ P T N R room.
-          held-start (a .w .now) (a .o) _ (length (a .l .now)) _ _ (sized .marks-there .ensures .0) (zeroed .zero .ensures .is)
+          held-start (a .image .now) (a .o) _ (length (a .scratch .now)) _ _ (sized .marks-there .ensures .0) (zeroed .zero .ensures .is)
           (came .come .ensures) P (omega (arith, room, same)),
     )
 
@@ -74,8 +74,8 @@ loop-again c =
       omega (arith, test .loop-test .taken),
       passed .pass .kept .1 .1 .1 .1 .0 ∙ v .1,
       λ P T N R room.
-          held-on (a .w .now) _ _ _ _ (v .2 P T N R room)
-          (passed .pass .ensures P T (pooled-at (a .w .now) _ N R (omega (arith, test .loop-test .taken, P .places)))) (c .if1 .taken),
+          held-on (a .image .now) _ _ _ _ (v .2 P T N R room)
+          (passed .pass .ensures P T (pooled-at (a .image .now) _ N R (omega (arith, test .loop-test .taken, P .places)))) (c .if1 .taken),
     )
 
 same-length : tie.Need-same-length Inv-loop μ-loop
@@ -98,9 +98,9 @@ returns c =
     let a = zeroed .before .before .before .before .args in
     let same = came .come .kept .1 .0 ∙ zeroed .zero .kept .0 in
     λ P T N R room.
-    let inside : loop .loop .p < instructions (a .w .now) = omega (arith, test .loop-test .taken, P .places) in
-    held-deep (a .w .now) _ _ _ _ _ inside (loop .loop .inv .2 P T N R (omega (arith, room, same)))
-    (passed .pass .ensures P T (pooled-at (a .w .now) _ N R inside)) (c .if1 .left)
+    let inside : loop .loop .p < instructions (a .image .now) = omega (arith, test .loop-test .taken, P .places) in
+    held-deep (a .image .now) _ _ _ _ _ inside (loop .loop .inv .2 P T N R (omega (arith, room, same)))
+    (passed .pass .ensures P T (pooled-at (a .image .now) _ N R inside)) (c .if1 .left)
 
 same-length-2 : tie.Need-same-length-2 Inv-loop μ-loop
 same-length-2 c =
@@ -120,7 +120,7 @@ returns-2 c =
     let same = came .come .kept .1 .0 ∙ zeroed .zero .kept .0 in
     let v = loop .loop .inv in
     λ P T N R room.
-    held-done (a .w .now) _ _ (omega (arith, v .0, c .loop-test .left, P .places)) (v .2 P T N R (omega (arith, room, same)))
+    held-done (a .image .now) _ _ (omega (arith, v .0, c .loop-test .left, P .places)) (v .2 P T N R (omega (arith, room, same)))
 
 pub mark-all-spec : {M : Type 1} → statement M
 mark-all-spec =

@@ -2,7 +2,7 @@
 use borrow.Author.Needs.{needs}
 use mathlib.Core.Path.{ap, _∙_}
 use lib.ListN.{take}
-use Rattle.wellmade.specs.Marks as marks
+use Rattle.image_rule.specs.Marks as marks
 use Rattle.image_rows.specs.Scratch.{marksOf}
 use Rattle.image_rows.proofs.ScratchLaws.{size-is}
 use Prim.Native.Nat.{ℕ}
@@ -57,10 +57,10 @@ returns c =
     let a = sized .before .before .before .args in
     let size = sized .marks-there .ensures .0 in
     λ P T Q R.
-    marks-by (a .w .now) (marksOf (a .w .now) (a .l .now)) _ _ _ _ _ _ (P .places) (read .word-of .ensures)
+    marks-by (a .image .now) (marksOf (a .image .now) (a .scratch .now)) _ _ _ _ _ _ (P .places) (read .word-of .ensures)
     (places .places-right .ensures P T) (c .before .before .tables-right .ensures P Q R)
-    (place-mark (a .w .now) (a .o) _ _ _ (a .l .now) size (c .before .mark-of .ensures) P)
-    (c .most .ensures ∙ ap (λ (n : ℕ). marks.most (take n (a .l .now)) (a .o .places)) (size-is (a .w .now) (a .o) _ size P))
+    (place-mark (a .image .now) (a .o) _ _ _ (a .scratch .now) size (c .before .mark-of .ensures) P)
+    (c .most .ensures ∙ ap (λ (n : ℕ). marks.most (take n (a .scratch .now)) (a .o .places)) (size-is (a .image .now) (a .o) _ size P))
 
 pub marks-right-spec : {M : Type 1} → statement M
 marks-right-spec =

@@ -4,7 +4,7 @@ use mathlib.Core.Path.{_≡_}
 use native.Mathlib.Omega.{arith}
 use borrow.Author.Needs.{needs}
 use lib.ListN.{take}
-use Rattle.wellmade.specs.Marks as marks
+use Rattle.image_rule.specs.Marks as marks
 use Rattle.image_depths.proofs.CheckLaws.{most-none, most-more, most-done}
 use Rattle.image_depths.proofs.most.Statement.{statement}
 use Rattle.image_depths.proofs.most.Tie as tie

@@ -18,7 +18,8 @@ chain-takes-requires c κs = search needs
 returns : tie.Need-returns
 returns c =
     let a = c .before .before .before .args in (
-      λ P. c .chain-takes .ensures .0 P ∙ counted-chain (a .which) (a .a) (a .b) (chainTakes (a .w .now) (a .a)) (c .before .if1 .taken),
+      λ P. c .chain-takes .ensures .0 P
+          ∙ counted-chain (a .which) (a .a) (a .b) (chainTakes (a .image .now) (a .a)) (c .before .if1 .taken),
       c .chain-takes .ensures .1,
     )
 
@@ -30,7 +31,7 @@ returns-2 c =
     let start = c .before .before .before in
     let a = start .args in
     let small = counted-small (a .which) (a .a) (a .b) 0 4294967296 (omega arith) (omega (arith, start .fits .a)) (omega arith) in (
-      λ P. c .counted .ensures ∙ counted-other (a .which) (a .a) (a .b) 0 (chainTakes (a .w .now) (a .a)) (c .before .if1 .left),
+      λ P. c .counted .ensures ∙ counted-other (a .which) (a .a) (a .b) 0 (chainTakes (a .image .now) (a .a)) (c .before .if1 .left),
       omega (arith, small, c .counted .ensures),
     )
 

@@ -33,7 +33,7 @@ returns : tie.Need-returns
 returns c =
     let sized = c .before .before .before .before in
     let a = sized .before .before .before .args in
-    λ P Q p. opened-old (a .w .now) (a .o) (a .m) (a .i) _ _ (a .l .now) (sized .marks-there .ensures .0)
+    λ P Q p. opened-old (a .image .now) (a .o) (a .m) (a .i) _ _ (a .scratch .now) (sized .marks-there .ensures .0)
     (c .before .mark-of .ensures) (c .if1 .taken) P
 
 come-rows-requires : tie.Need-come-rows-requires
@@ -63,7 +63,8 @@ returns-2 c =
     let test = rows .before .before in
     let sized = test .before .before .before .before in
     let a = sized .before .before .before .args in
-    opened-new (a .w .now) (a .o) (a .m) (a .i) _ _ (a .l .now) (sized .marks-there .ensures .0) (test .before .mark-of .ensures) _ _ _ _
+    opened-new (a .image .now) (a .o) (a .m) (a .i) _ _ (a .scratch .now) (sized .marks-there .ensures .0) (test .before .mark-of .ensures)
+    _ _ _ _
     (test .if1 .left) (rows .come-rows .ensures) (named .table-word .ensures) (default .come .ensures) (last .come2 .ensures)
 
 pub open-table-spec : {M : Type 1} → statement M

@@ -24,7 +24,7 @@ returns : tie.Need-returns
 returns c =
     let sized = c .before .before in
     let a = sized .before .before .before .before .args in
-    λ P T Q. passed-none (a .w .now) (a .o) (a .p) _ _ (a .l .now) (sized .marks-there .ensures .0) (c .before .mark-of .ensures)
+    λ P T Q. passed-none (a .image .now) (a .o) (a .p) _ _ (a .scratch .now) (sized .marks-there .ensures .0) (c .before .mark-of .ensures)
     (c .if1 .taken) P
 
 code-at-requires : tie.Need-code-at-requires
@@ -49,7 +49,7 @@ returns-2 c =
     let sized = test .before .before in
     let a = sized .before .before .before .before .args in
     λ P T Q.
-    passed-deep (a .w .now) (a .o) (a .p) _ _ (a .l .now) (sized .marks-there .ensures .0) (test .before .mark-of .ensures) _ _ _
+    passed-deep (a .image .now) (a .o) (a .p) _ _ (a .scratch .now) (sized .marks-there .ensures .0) (test .before .mark-of .ensures) _ _ _
     (test .if1 .left) (c .before .after .ensures .0) (c .if2 .taken) P (code .code-at .ensures P T)
 
 cast-hand-on : tie.Need-cast-hand-on
@@ -69,7 +69,7 @@ returns-3 c =
     let sized = test .before .before in
     let a = sized .before .before .before .before .args in
     λ P T Q.
-    passed-on (a .w .now) (a .o) (a .p) _ _ (a .l .now) (sized .marks-there .ensures .0) (test .before .mark-of .ensures) _ _ _
+    passed-on (a .image .now) (a .o) (a .p) _ _ (a .scratch .now) (sized .marks-there .ensures .0) (test .before .mark-of .ensures) _ _ _
     (test .if1 .left) (handed .before .before .before .after .ensures .0) (handed .hand-on .ensures) P (code .code-at .ensures P T) Q
 
 pub pass-spec : {M : Type 1} → statement M

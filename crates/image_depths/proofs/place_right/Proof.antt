@@ -24,8 +24,9 @@ returns c =
     let sized = c .before .before in
     let a = sized .before .before .before .args in
     λ P T.
-    place-none (a .w .now) (marksOf (a .w .now) (a .l .now)) (a .p) _
-    (place-mark (a .w .now) (a .o) (a .p) _ _ (a .l .now) (sized .marks-there .ensures .0) (c .before .mark-of .ensures) P) (c .if1 .taken)
+    place-none (a .image .now) (marksOf (a .image .now) (a .scratch .now)) (a .p) _
+    (place-mark (a .image .now) (a .o) (a .p) _ _ (a .scratch .now) (sized .marks-there .ensures .0) (c .before .mark-of .ensures) P)
+    (c .if1 .taken)
 
 code-at-requires : tie.Need-code-at-requires
 code-at-requires c κs = search needs
@@ -56,10 +57,10 @@ returns-2 c =
     let a = sized .before .before .before .args in
     λ P T.
     let R = code .code-at .ensures P T in
-    place-by (a .w .now) (marksOf (a .w .now) (a .l .now)) (a .p) _ _ _ _
-    (place-mark (a .w .now) (a .o) (a .p) _ _ (a .l .now) (sized .marks-there .ensures .0) (test .before .mark-of .ensures) P)
+    place-by (a .image .now) (marksOf (a .image .now) (a .scratch .now)) (a .p) _ _ _ _
+    (place-mark (a .image .now) (a .o) (a .p) _ _ (a .scratch .now) (sized .marks-there .ensures .0) (test .before .mark-of .ensures) P)
     (test .if1 .left)
-    (after-read (a .w .now) (a .p) _ _ _ (c .before .before .after .ensures .0) R) (R .needs) (c .leads .ensures (a .w .now) P R)
+    (after-read (a .image .now) (a .p) _ _ _ (c .before .before .after .ensures .0) R) (R .needs) (c .leads .ensures (a .image .now) P R)
 
 pub place-right-spec : {M : Type 1} → statement M
 place-right-spec =

@@ -5,10 +5,10 @@ use mathlib.Core.Bool.{true}
 use native.Mathlib.Omega.{arith}
 use borrow.Author.Needs.{needs}
 use Rattle.words.specs.Count.{allBelow}
-use Rattle.words.specs.CountLaws.{all-none, all-more}
+use Rattle.words.proofs.CountLaws.{all-none, all-more}
 use Rattle.bytecode.specs.Table.{effectTable}
-use Rattle.wellmade.specs.Marks.{mark, placeBy}
-use Rattle.image_rows.specs.Rows.{Placed}
+use Rattle.image_rule.specs.Marks.{mark, placeBy}
+use Rattle.image_rows.specs.AllRows.{Placed}
 use Rattle.image_rows.specs.Scratch.{marksOf}
 use Rattle.image_depths.proofs.CheckLaws.{places-fail, places-done}
 use Rattle.image_depths.proofs.places_right.Statement.{statement}
@@ -48,7 +48,7 @@ returns c =
     let loop = c .before .before .before in
     let a = loop .before .before .before .args in
     λ P T.
-    places-fail (a .w .now) (marksOf (a .w .now) (a .l .now)) _ _ _ (P .places) (c .before .before .loop-test .taken)
+    places-fail (a .image .now) (marksOf (a .image .now) (a .scratch .now)) _ _ _ (P .places) (c .before .before .loop-test .taken)
     (c .before .place-right .ensures P T) (c .if1 .left)
 
 returns-2 : tie.Need-returns-2 Inv-loop μ-loop
@@ -56,7 +56,7 @@ returns-2 c =
     let loop = c .before in
     let a = loop .before .before .before .args in
     let v = loop .loop .inv in
-    λ P T. places-done (a .w .now) (marksOf (a .w .now) (a .l .now)) _ _ (P .places) (v .0) (c .loop-test .left) (v .1 P T)
+    λ P T. places-done (a .image .now) (marksOf (a .image .now) (a .scratch .now)) _ _ (P .places) (v .0) (c .loop-test .left) (v .1 P T)
 
 pub places-right-spec : {M : Type 1} → statement M
 places-right-spec =

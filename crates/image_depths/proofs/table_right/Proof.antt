@@ -32,8 +32,9 @@ returns c =
     let sized = c .before .before .before in
     let a = sized .before .before .before .args in
     λ P Q R.
-    table-none (a .w .now) (marksOf (a .w .now) (a .l .now)) (a .i) _
-    (node-mark (a .w .now) (a .o) (a .i) _ _ (a .l .now) (sized .marks-there .ensures .0) (c .before .mark-of .ensures) P) (c .if1 .taken)
+    table-none (a .image .now) (marksOf (a .image .now) (a .scratch .now)) (a .i) _
+    (node-mark (a .image .now) (a .o) (a .i) _ _ (a .scratch .now) (sized .marks-there .ensures .0) (c .before .mark-of .ensures) P)
+    (c .if1 .taken)
 
 rows-right-requires : tie.Need-rows-right-requires
 rows-right-requires c κs = search needs
@@ -55,10 +56,10 @@ returns-2 c =
     let a = sized .before .before .before .args in
     let size = sized .marks-there .ensures .0 in
     λ P Q R.
-    table-by (a .w .now) (marksOf (a .w .now) (a .l .now)) (a .i) _ _ _ _
-    (node-mark (a .w .now) (a .o) (a .i) _ _ (a .l .now) size (test .before .mark-of .ensures) P) (test .if1 .left)
+    table-by (a .image .now) (marksOf (a .image .now) (a .scratch .now)) (a .i) _ _ _ _
+    (node-mark (a .image .now) (a .o) (a .i) _ _ (a .scratch .now) size (test .before .mark-of .ensures) P) (test .if1 .left)
     (rows .rows-right .ensures P Q R) (c .before .table-word .ensures P)
-    (place-mark (a .w .now) (a .o) _ _ _ (a .l .now) size (c .mark-of2 .ensures) P)
+    (place-mark (a .image .now) (a .o) _ _ _ (a .scratch .now) size (c .mark-of2 .ensures) P)
 
 pub table-right-spec : {M : Type 1} → statement M
 table-right-spec =

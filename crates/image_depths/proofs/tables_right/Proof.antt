@@ -5,9 +5,9 @@ use mathlib.Core.Bool.{true}
 use native.Mathlib.Omega.{arith}
 use borrow.Author.Needs.{needs}
 use Rattle.words.specs.Count.{allBelow}
-use Rattle.words.specs.CountLaws.{all-none, all-more}
-use Rattle.wellmade.specs.Marks.{mark, tableNode, tableBy}
-use Rattle.image_rows.specs.Rows.{Placed}
+use Rattle.words.proofs.CountLaws.{all-none, all-more}
+use Rattle.image_rule.specs.Marks.{mark, tableNode, tableBy}
+use Rattle.image_rows.specs.AllRows.{Placed}
 use Rattle.image_rows.specs.Scratch.{marksOf, Runs}
 use Rattle.image_depths.specs.Checked.{RowsPooled}
 use Rattle.image_depths.proofs.CheckLaws.{tables-fail, tables-done}
@@ -52,7 +52,7 @@ returns c =
     let a = loop .before .before .before .args in
     let test = c .before .before .loop-test .taken in
     λ P Q R.
-    tables-fail (a .w .now) (marksOf (a .w .now) (a .l .now)) _ _ _ (P .tables) test
+    tables-fail (a .image .now) (marksOf (a .image .now) (a .scratch .now)) _ _ _ (P .tables) test
     (c .before .table-right .ensures P (Q _ (omega (arith, test, P .tables))) R) (c .if1 .left)
 
 returns-2 : tie.Need-returns-2 Inv-loop μ-loop
@@ -60,7 +60,8 @@ returns-2 c =
     let loop = c .before in
     let a = loop .before .before .before .args in
     let v = loop .loop .inv in
-    λ P Q R. tables-done (a .w .now) (marksOf (a .w .now) (a .l .now)) _ _ (P .tables) (v .0) (c .loop-test .left) (v .1 P Q R)
+    λ P Q R. tables-done (a .image .now) (marksOf (a .image .now) (a .scratch .now)) _ _ (P .tables) (v .0) (c .loop-test .left)
+    (v .1 P Q R)
 
 pub tables-right-spec : {M : Type 1} → statement M
 tables-right-spec =

@@ -58,7 +58,7 @@ unfolding boundsBy
 returns c =
     let named = c .before .before .before .before in
     let a = named .before .before .before .before .args in
-    bounds-read (a .s .now) (a .w .now)
+    bounds-read (a .sheet .now) (a .image .now)
     (named .word-of2 .ensures) (c .before .before .before .local-count .ensures) (named .before .word-of .ensures)
     (c .before .before .word-of3 .ensures) (c .before .word-of4 .ensures) (c .word-of5 .ensures)
 

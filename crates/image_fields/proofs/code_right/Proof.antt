@@ -3,9 +3,10 @@ use Prim.Native.Nat.{_-_, _≤_}
 use mathlib.Core.Path.{_≡_, sym, _∙_}
 use mathlib.Core.Bool.{true}
 use native.Mathlib.Omega.{arith}
+use Rattle.laws.proofs.Numbers.{one-more, left-less}
 use Rattle.words.specs.Count.{allBelow}
-use Rattle.words.specs.CountLaws.{all-none, all-more}
-use Rattle.numbers.specs.ReadLaws.{one-more, left-less, below-fails, below-all}
+use Rattle.words.proofs.CountLaws.{all-none, all-more}
+use Rattle.check_numbers.proofs.ReadLaws.{below-fails, below-all}
 use Rattle.image_fields.proofs.CodeLaws.{instructionRight, code-right}
 use borrow.Author.Needs.{needs}
 use Rattle.image_fields.proofs.code_right.Statement.{statement}
@@ -76,7 +77,7 @@ tested :
     let sized = test .before .before in
     let entry = sized .before .before .before in
     let a = entry .before .before .args in
-    c .code-fits .result ≡ instructionRight (a .s .now) (a .w .now) (test .before .loop .p)
+    c .code-fits .result ≡ instructionRight (a .sheet .now) (a .image .now) (test .before .loop .p)
 tested c =
     let mid = c .before .before in
     let test = mid .before .before .before .before in

@@ -5,9 +5,10 @@ use mathlib.Core.Bool.{true}
 use native.Mathlib.Omega.{arith}
 use lib.Dec.{ltb}
 use borrow.Author.Tests.{lt-ltb, le-ltb}
+use Rattle.laws.proofs.Numbers.{one-more, left-less}
 use Rattle.words.specs.Count.{allBelow}
-use Rattle.words.specs.CountLaws.{all-none, all-more}
-use Rattle.numbers.specs.ReadLaws.{one-more, left-less, below-fails, below-all}
+use Rattle.words.proofs.CountLaws.{all-none, all-more}
+use Rattle.check_numbers.proofs.ReadLaws.{below-fails, below-all}
 use Rattle.image_fields.proofs.RecordLaws.{residualRight, residual-right}
 use borrow.Author.Needs.{needs}
 use Rattle.image_fields.proofs.residuals_right.Statement.{statement}
@@ -53,7 +54,7 @@ tested :
     let entry = sized .before .before .before in
     let a = entry .before .before .args in
     (ltb (c .word-of .result) (sized .before .before .node-count .result))
-    ≡ residualRight (a .s .now) (a .w .now) (test .before .loop .i)
+    ≡ residualRight (a .sheet .now) (a .image .now) (test .before .loop .i)
 tested c =
     let test = c .before in
     let sized = test .before .before in

@@ -4,9 +4,10 @@ use mathlib.Core.Path.{_≡_, sym, _∙_}
 use mathlib.Core.Bool.{true, _&&_}
 use native.Mathlib.Omega.{arith}
 use lib.Dec.{leb}
+use Rattle.laws.proofs.Numbers.{one-more, left-less}
 use Rattle.words.specs.Count.{allBelow}
-use Rattle.words.specs.CountLaws.{all-none, all-more}
-use Rattle.numbers.specs.ReadLaws.{one-more, left-less, below-fails, below-all}
+use Rattle.words.proofs.CountLaws.{all-none, all-more}
+use Rattle.check_numbers.proofs.ReadLaws.{below-fails, below-all}
 use Rattle.image_fields.proofs.RecordLaws.{tokenRight, token-right}
 use borrow.Author.Needs.{needs}
 use Rattle.image_fields.proofs.tokens_right.Statement.{statement}
@@ -47,7 +48,7 @@ tested :
     let test = c .before in
     let sized = test .before .before in
     let a = sized .before .before .before .args in
-    (leb 1 (c .word-of .result) && leb (c .word-of .result) 65535) ≡ tokenRight (a .w .now) (test .before .loop .i)
+    (leb 1 (c .word-of .result) && leb (c .word-of .result) 65535) ≡ tokenRight (a .image .now) (test .before .loop .i)
 tested c =
     let test = c .before in
     let sized = test .before .before in

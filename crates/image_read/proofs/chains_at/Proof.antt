@@ -1,7 +1,7 @@
 -- `image_read::chains_at` meets its contract.
 use native.Mathlib.Omega.{arith}
 use Rattle.lowering.specs.Words.{chainsAt}
-use Rattle.wellmade.specs.Rules.{namesAt, tokensAt, residualsAt}
+use Rattle.image_rule.specs.Rules.{namesAt, tokensAt, residualsAt}
 use borrow.Author.Needs.{needs}
 use Rattle.image_read.proofs.chains_at.Statement.{statement}
 use Rattle.image_read.proofs.chains_at.Tie as tie

@@ -1,6 +1,6 @@
 -- `image_read::end_at` meets its contract.
 use native.Mathlib.Omega.{arith}
-use Rattle.wellmade.specs.Rules.{endAt}
+use Rattle.image_rule.specs.Rules.{endAt}
 use borrow.Author.Needs.{needs}
 use Rattle.image_read.proofs.end_at.Statement.{statement}
 use Rattle.image_read.proofs.end_at.Tie as tie

@@ -1,6 +1,6 @@
 -- `image_read::names_at` meets its contract.
 use native.Mathlib.Omega.{arith}
-use Rattle.wellmade.specs.Rules.{namesAt}
+use Rattle.image_rule.specs.Rules.{namesAt}
 use borrow.Author.Needs.{needs}
 use Rattle.image_read.proofs.names_at.Statement.{statement}
 use Rattle.image_read.proofs.names_at.Tie as tie

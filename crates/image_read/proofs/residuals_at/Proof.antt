@@ -1,6 +1,6 @@
 -- `image_read::residuals_at` meets its contract.
 use native.Mathlib.Omega.{arith}
-use Rattle.wellmade.specs.Rules.{residualsAt}
+use Rattle.image_rule.specs.Rules.{residualsAt}
 use borrow.Author.Needs.{needs}
 use Rattle.image_read.proofs.residuals_at.Statement.{statement}
 use Rattle.image_read.proofs.residuals_at.Tie as tie

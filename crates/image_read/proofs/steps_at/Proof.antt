@@ -1,6 +1,6 @@
 -- `image_read::steps_at` meets its contract.
 use native.Mathlib.Omega.{arith}
-use Rattle.wellmade.specs.Rules.{stepsAt}
+use Rattle.image_rule.specs.Rules.{stepsAt}
 use borrow.Author.Needs.{needs}
 use Rattle.image_read.proofs.steps_at.Statement.{statement}
 use Rattle.image_read.proofs.steps_at.Tie as tie

@@ -1,7 +1,7 @@
 -- `image_read::switches_at` meets its contract.
 use native.Mathlib.Omega.{arith}
 use Rattle.lowering.specs.Words.{switchesAt}
-use Rattle.wellmade.specs.Rules.{stepsAt}
+use Rattle.image_rule.specs.Rules.{stepsAt}
 use borrow.Author.Needs.{needs}
 use Rattle.image_read.proofs.switches_at.Statement.{statement}
 use Rattle.image_read.proofs.switches_at.Tie as tie

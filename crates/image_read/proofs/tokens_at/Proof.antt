@@ -1,6 +1,6 @@
 -- `image_read::tokens_at` meets its contract.
 use native.Mathlib.Omega.{arith}
-use Rattle.wellmade.specs.Rules.{tokensAt}
+use Rattle.image_rule.specs.Rules.{tokensAt}
 use borrow.Author.Needs.{needs}
 use Rattle.image_read.proofs.tokens_at.Statement.{statement}
 use Rattle.image_read.proofs.tokens_at.Tie as tie

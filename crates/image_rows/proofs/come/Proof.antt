@@ -7,10 +7,10 @@ use Rattle.image_rows.proofs.come.Reads as reads
 use Rattle.image_rows.proofs.come.Lts as lts
 
 returns : tie.Need-returns
-returns c = let a = c .before .args in left-past (a .size) (a .m) (a .t) (a .l .now) (c .if1 .taken)
+returns c = let a = c .before .args in left-past (a .size) (a .m) (a .t) (a .scratch .now) (c .if1 .taken)
 
 returns-2 : tie.Need-returns-2
-returns-2 c = let a = c .before .before .args in left-out (a .size) (a .m) (a .t) (a .l .now) (c .if2 .taken)
+returns-2 c = let a = c .before .before .args in left-out (a .size) (a .m) (a .t) (a .scratch .now) (c .if2 .taken)
 
 mul-if3 : tie.Need-mul-if3
 mul-if3 c = search needs
@@ -22,13 +22,13 @@ returns-3 : tie.Need-returns-3
 returns-3 c =
     let inside = c .before .before .before in
     let a = inside .before .args in
-    left-old (a .size) (a .m) (a .t) (a .l .now) (inside .if1 .left) (c .if3 .taken)
+    left-old (a .size) (a .m) (a .t) (a .scratch .now) (inside .if1 .left) (c .if3 .taken)
 
-mul-l : tie.Need-mul-l
-mul-l c = search needs
+mul-scratch : tie.Need-mul-scratch
+mul-scratch c = search needs
 
-slice-write-l : tie.Need-slice-write-l
-slice-write-l c = search needs
+slice-write-scratch : tie.Need-slice-write-scratch
+slice-write-scratch c = search needs
 
 same-length : tie.Need-same-length
 same-length c = search needs
@@ -37,7 +37,7 @@ returns-4 : tie.Need-returns-4
 returns-4 c =
     let inside = c .before .before .before in
     let a = inside .before .args in
-    left-new (a .size) (a .m) (a .t) (a .l .now) (inside .if1 .left) (c .if3 .left)
+    left-new (a .size) (a .m) (a .t) (a .scratch .now) (inside .if1 .left) (c .if3 .left)
 
 pub come-spec : {M : Type 1} → statement M
 come-spec =
@@ -48,7 +48,7 @@ come-spec =
     mul-if3
     slice-read-if3
     returns-3
-    mul-l
-    slice-write-l
+    mul-scratch
+    slice-write-scratch
     same-length
     returns-4)

@@ -37,7 +37,7 @@ returns c =
     let sized = noting .before .before in
     let a = sized .before .before .before .args in (
       λ h. (omega arith, omega arith),
-      stepped-fresh (a .w .now) (a .o) (a .m) (a .k) (a .left) _ _ (a .l .now) _ _ _ (sized .marks-there .ensures .0)
+      stepped-fresh (a .image .now) (a .o) (a .m) (a .k) (a .left) _ _ (a .scratch .now) _ _ _ (sized .marks-there .ensures .0)
           (noting .note .ensures) (target .before .if1 .taken) (target .row-target .ensures) (came .come .ensures),
     )
 
@@ -52,7 +52,7 @@ returns-2 c =
     let some = c .before .if1 .left in
     let less = c .if2 .taken in (
       λ h. (omega (arith, some), omega (arith, less)),
-      stepped-again (a .w .now) (a .o) (a .m) (a .k) (a .left) _ _ (a .l .now) _ _ (sized .marks-there .ensures .0)
+      stepped-again (a .image .now) (a .o) (a .m) (a .k) (a .left) _ _ (a .scratch .now) _ _ (sized .marks-there .ensures .0)
           (noting .note .ensures) some (omega (arith, less)),
     )
 
@@ -66,7 +66,7 @@ returns-3 c =
     let a = sized .before .before .before .args in
     let more = c .if2 .left in (
       λ h. (h, omega arith),
-      stepped-again (a .w .now) (a .o) (a .m) (a .k) (a .left) _ _ (a .l .now) _ _ (sized .marks-there .ensures .0)
+      stepped-again (a .image .now) (a .o) (a .m) (a .k) (a .left) _ _ (a .scratch .now) _ _ (sized .marks-there .ensures .0)
           (noting .note .ensures) (c .before .if1 .left) (omega (arith, more)),
     )
 

@@ -4,7 +4,7 @@ use mathlib.Core.Path.{_≡_, refl, _∙_}
 use native.Mathlib.Omega.{arith}
 use borrow.Author.Needs.{needs}
 use lib.ListN.{length}
-use Rattle.image_rows.specs.Rows.{Placed}
+use Rattle.image_rows.specs.AllRows.{Placed}
 use Rattle.image_rows.specs.Scratch.{Seen}
 use Rattle.image_rows.proofs.SeenLaws.{Going, going-start, going-on, going-done}
 use Rattle.image_rows.proofs.come_rows.Statement.{statement}
@@ -31,7 +31,7 @@ table-word-requires c κs = search needs
 loop-holds : tie.Need-loop-holds Inv-loop μ-loop
 loop-holds c =
     let a = c .before .before .before .before .args in
-    (omega arith, refl, λ P p S. going-start (a .w .now) (a .m) _ _ (a .l .now) S)
+    (omega arith, refl, λ P p S. going-start (a .image .now) (a .m) _ _ (a .scratch .now) S)
 
 cast-come-row : tie.Need-cast-come-row Inv-loop μ-loop
 cast-come-row c = search needs
@@ -62,7 +62,7 @@ loop-again c =
     let forth = row .ensures .0 (omega arith) in (
       omega (arith, forth),
       row .kept .1 .1 .1 .0 ∙ v .1,
-      λ P p S. going-on (a .w .now) (a .m) _ _ (a .l .now) _ _ _ _ p S (test .loop-test .taken) (v .2 P p S) (row .ensures .1 P),
+      λ P p S. going-on (a .image .now) (a .m) _ _ (a .scratch .now) _ _ _ _ p S (test .loop-test .taken) (v .2 P p S) (row .ensures .1 P),
     )
 
 same-length : tie.Need-same-length Inv-loop μ-loop
@@ -75,7 +75,7 @@ returns c =
     let a = first .before .before .before .args in
     let v = loop .loop .inv in
     λ P Q p S.
-    going-done (a .w .now) (a .m) _ _ (a .l .now) (a .i) _ _ (omega (arith, v .0, c .loop-test .left))
+    going-done (a .image .now) (a .m) _ _ (a .scratch .now) (a .i) _ _ (omega (arith, v .0, c .loop-test .left))
     (first .first-row .ensures .0 P) (loop .before .table-word .ensures P) Q (v .2 P p S)
 
 pub come-rows-spec : {M : Type 1} → statement M

@@ -4,7 +4,7 @@ use mathlib.Core.Path.{_≡_, refl, _∙_}
 use native.Mathlib.Omega.{arith}
 use borrow.Author.Needs.{needs}
 use lib.ListN.{length}
-use Rattle.image_rows.specs.Rows.{Placed}
+use Rattle.image_rows.specs.AllRows.{Placed}
 use Rattle.image_rows.proofs.RunLaws.{Counting, counting-start, counting-on, counting-done}
 use Rattle.image_rows.proofs.ScratchLaws.{size-is}
 use Rattle.image_rows.proofs.count_runs.Statement.{statement}
@@ -40,7 +40,7 @@ loop-holds : tie.Need-loop-holds Inv-loop μ-loop
 loop-holds c =
     let sized = c .before .before in
     let a = sized .before .before .before .args in
-    (omega arith, refl, λ P. counting-start (a .w .now) (a .l .now))
+    (omega arith, refl, λ P. counting-start (a .image .now) (a .scratch .now))
 
 row-target-requires : tie.Need-row-target-requires Inv-loop μ-loop
 row-target-requires c κs = search needs
@@ -79,8 +79,8 @@ loop-again c =
       omega (arith, test),
       putting .put .kept .0 ∙ v .1,
       λ P.
-          counting-on (a .w .now) (a .l .now) _ _ _ _ _ _ _ _ _ (v .2 P) (omega (arith, test, P .cases, P .ranges)) (v .1)
-          (size-is (a .w .now) (a .o) _ (sized .marks-there .ensures .0) P) (target .row-target .ensures P)
+          counting-on (a .image .now) (a .scratch .now) _ _ _ _ _ _ _ _ _ (v .2 P) (omega (arith, test, P .cases, P .ranges)) (v .1)
+          (size-is (a .image .now) (a .o) _ (sized .marks-there .ensures .0) P) (target .row-target .ensures P)
           (runs .before .mark-of .ensures) (runs .run-on .ensures .0) (runs .run-on .ensures .1) (putting .put .ensures),
     )
 
@@ -93,7 +93,7 @@ returns c =
     let sized = loop .before .before .before in
     let a = sized .before .before .before .args in
     let v = loop .loop .inv in
-    λ P. counting-done (a .w .now) (a .o) (a .l .now) _ _ _ _ _ P refl (omega (arith, v .0, c .loop-test .left)) (v .2 P)
+    λ P. counting-done (a .image .now) (a .o) (a .scratch .now) _ _ _ _ _ P refl (omega (arith, v .0, c .loop-test .left)) (v .2 P)
 
 pub count-runs-spec : {M : Type 1} → statement M
 count-runs-spec =

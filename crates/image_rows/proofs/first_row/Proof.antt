@@ -21,7 +21,7 @@ returns : tie.Need-returns
 returns c =
     let a = c .before .before .before .before .args in
     let first = c .before .before .table-word in (
-      first-of-cases (a .w .now) (a .o) (a .i) _ _ (c .before .table-word2 .ensures) (c .if1 .taken) (first .ensures),
+      first-of-cases (a .image .now) (a .o) (a .i) _ _ (c .before .table-word2 .ensures) (c .if1 .taken) (first .ensures),
       omega (arith, first .ok),
     )
 
@@ -36,7 +36,7 @@ returns-2 c =
     let kind = c .before .before in
     let a = kind .before .before .before .args in
     let first = kind .before .table-word in (
-      first-of-ranges (a .w .now) (a .o) (a .i) _ _ (kind .table-word2 .ensures) (c .before .if1 .left) (first .ensures),
+      first-of-ranges (a .image .now) (a .o) (a .i) _ _ (kind .table-word2 .ensures) (c .before .if1 .left) (first .ensures),
       omega (arith, first .ok),
     )
 

@@ -19,7 +19,7 @@ word-from-requires c κs = search needs
 returns : tie.Need-returns
 returns c =
     let a = c .before .before .before .before .args in
-    row-case (a .w .now) (a .o) (a .q) _ (c .before .if1 .taken) (c .word-from .ensures)
+    row-case (a .image .now) (a .o) (a .q) _ (c .before .if1 .taken) (c .word-from .ensures)
 
 cast-if2 : tie.Need-cast-if2
 cast-if2 c = search needs
@@ -37,13 +37,13 @@ returns-2 : tie.Need-returns-2
 returns-2 c =
     let range = c .before .before .before in
     let a = range .before .before .before .args in
-    row-range (a .w .now) (a .o) (a .q) _ (range .if1 .left) (c .before .if2 .taken) (c .word-from2 .ensures)
+    row-range (a .image .now) (a .o) (a .q) _ (range .if1 .left) (c .before .if2 .taken) (c .word-from2 .ensures)
 
 returns-3 : tie.Need-returns-3
 returns-3 c =
     let range = c .before .before in
     let a = range .before .before .before .args in
-    row-none (a .w .now) (a .o) (a .q) (range .if1 .left) (c .if2 .left)
+    row-none (a .image .now) (a .o) (a .q) (range .if1 .left) (c .if2 .left)
 
 pub row-target-spec : {M : Type 1} → statement M
 row-target-spec =

@@ -20,7 +20,7 @@ table-word-requires c κs = search needs
 returns : tie.Need-returns
 returns c =
     let a = c .before .before .before .before .args in
-    λ P Q R. rows-none (a .w .now) (a .l .now) (a .i) (a .m) _ (c .before .table-word .ensures P) (c .if1 .taken)
+    λ P Q R. rows-none (a .image .now) (a .scratch .now) (a .i) (a .m) _ (c .before .table-word .ensures P) (c .if1 .taken)
 
 marks-there-requires : tie.Need-marks-there-requires
 marks-there-requires c κs = search needs
@@ -56,7 +56,7 @@ returns-2 c =
     let some = first .before .before in
     let rows = some .before in
     let a = rows .before .before .before .args in
-    rows-some (a .w .now) (a .o) (a .l .now) (a .i) (a .m) _ _ _ _ _ _ _ (rows .table-word .ensures) (some .if1 .left)
+    rows-some (a .image .now) (a .o) (a .scratch .now) (a .i) (a .m) _ _ _ _ _ _ _ (rows .table-word .ensures) (some .if1 .left)
     (omega (arith, rows .table-word .ok)) (first .before .marks-there .ensures .0) (first .first-row .ensures .0) refl
     (target .row-target .ensures) (c .before .mark-of .ensures) (c .word-from .ensures)
 

@@ -17,7 +17,7 @@ word-from-requires : tie.Need-word-from-requires
 word-from-requires c κs = search needs
 
 returns : tie.Need-returns
-returns c = let a = c .before .before .args in switch-at (a .w .now) (a .o) (a .i) (a .f) _ (c .word-from .ensures)
+returns c = let a = c .before .before .args in switch-at (a .image .now) (a .o) (a .i) (a .f) _ (c .word-from .ensures)
 
 pub table-word-spec : {M : Type 1} → statement M
 table-word-spec = tie.close (tie.spec mul-word-from add-word-from word-from-requires returns)

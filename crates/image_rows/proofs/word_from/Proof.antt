@@ -9,13 +9,14 @@ use Rattle.image_rows.proofs.word_from.Reads as reads
 use Rattle.image_rows.proofs.word_from.Lts as lts
 
 returns : tie.Need-returns
-returns c = let a = c .before .args in word-past (a .w .now) (a .at + a .i) (omega (arith, c .if1 .taken))
+returns c = let a = c .before .args in word-past (a .image .now) (a .at + a .i) (omega (arith, c .if1 .taken))
 
 sub-if2 : tie.Need-sub-if2
 sub-if2 c = search needs
 
 returns-2 : tie.Need-returns-2
-returns-2 c = let a = c .before .before .args in word-past (a .w .now) (a .at + a .i) (omega (arith, c .if2 .taken, c .before .if1 .left))
+returns-2 c =
+    let a = c .before .before .args in word-past (a .image .now) (a .at + a .i) (omega (arith, c .if2 .taken, c .before .if1 .left))
 
 add-result : tie.Need-add-result
 add-result c = search needs

@@ -2,7 +2,7 @@
 use Prim.Native.Nat.{ℕ}
 use mathlib.Core.Path.{_≡_, ap, _∙_}
 use native.Mathlib.Omega.{arith}
-use Rattle.wellmade.specs.Marks.{flowAt}
+use Rattle.image_rule.specs.Marks.{flowAt}
 use Rattle.bytecode.specs.Table.{flowNumber, effectTable, entry}
 use Rattle.bytecode.proofs.TableLaws.{entry-flow}
 use Rattle.image_spans.proofs.FlowLaws.{aims-on, aims-at, aims-by}
@@ -32,7 +32,7 @@ word-of-requires-2 c κs = search needs
 number :
     (c : tie.After-word-of2) → let known = c .before .before .before .before in
     let a = known .before .args in
-    a .e .now ≡ effectTable → c .before .entry .result ≡ flowNumber (flowAt (a .w .now) (a .p))
+    a .e .now ≡ effectTable → c .before .entry .result ≡ flowNumber (flowAt (a .image .now) (a .p))
 number c q =
     c .before .entry .ensures q (omega arith)
     ∙ ap (λ (kind : ℕ). entry kind 4) (c .before .before .word-of .ensures)
@@ -43,7 +43,7 @@ returns c =
     let read = c .before in
     let known = read .before .before .before .before in
     let a = known .before .args in
-    λ q T h. aims-on (a .w .now) (a .p) _ (number read q) (c .if1 .taken)
+    λ q T h. aims-on (a .image .now) (a .p) _ (number read q) (c .if1 .taken)
 
 table-aims-requires : tie.Need-table-aims-requires
 table-aims-requires c κs = search needs
@@ -53,7 +53,7 @@ returns-2 c =
     let read = c .before .before .before in
     let known = read .before .before .before .before in
     let a = known .before .args in
-    λ q T h. aims-by (a .w .now) (a .p) _ (number read q) _ _ (c .before .if2 .taken) (read .word-of2 .ensures)
+    λ q T h. aims-by (a .image .now) (a .p) _ (number read q) _ _ (c .before .if2 .taken) (read .word-of2 .ensures)
     (omega (arith, h, known .shared-slice-known .given 0)) h (c .table-aims .ensures) T
 
 word-of-requires-3 : tie.Need-word-of-requires-3
@@ -64,7 +64,7 @@ returns-3 c =
     let read = c .before .before .before in
     let known = read .before .before .before .before in
     let a = known .before .args in
-    λ q T h. aims-at (a .w .now) (a .p) _ (number read q) _ _ (c .before .before .if1 .left) (c .before .if2 .left)
+    λ q T h. aims-at (a .image .now) (a .p) _ (number read q) _ _ (c .before .before .if1 .left) (c .before .if2 .left)
     (read .word-of2 .ensures) (c .word-of3 .ensures)
 
 pub aims-spec : {M : Type 1} → statement M

@@ -4,13 +4,14 @@ use mathlib.Core.Path.{_≡_, sym, ap, _∙_}
 use mathlib.Core.Bool.{true}
 use native.Mathlib.Omega.{arith}
 use Rattle.words.specs.Count.{allBelow}
-use Rattle.words.specs.CountLaws.{all-none, all-more, all-fails}
-use Rattle.wellmade.specs.Rules.{chains}
-use Rattle.wellmade.specs.Test.{operandsBy}
+use Rattle.words.proofs.CountLaws.{all-none, all-more, all-fails}
+use Rattle.image_rule.specs.Rules.{chains}
+use Rattle.image_rule.specs.Test.{operandsBy}
 use Rattle.image_spans.specs.Needs.{NeedTree}
 use Rattle.image_spans.proofs.AllLaws.{all-done}
 use Rattle.image_spans.proofs.ChainLaws.{chain-fits}
 use borrow.Author.Needs.{needs}
+use Rattle.lowering.specs.Limits.{chainWidth}
 use Rattle.image_spans.proofs.chains_fit.Statement.{statement}
 use Rattle.image_spans.proofs.chains_fit.Tie as tie
 
@@ -63,19 +64,19 @@ run-fits-requires c κs = search needs
 inside :
     (c : tie.In-loop Inv-loop μ-loop) → let started = c .before .before .before in
     let known = started .before .before in
-    c .before .loop .i < chains (known .before .before .args .w .now)
+    c .before .loop .i < chains (known .before .before .args .image .now)
 inside c = omega (arith, c .loop-test .taken, c .before .before .size-of2 .ensures .0)
 
 answer :
     (c : tie.After-run-fits Inv-loop μ-loop) → let turn = c .before .before .before .before in
     let started = turn .before .before .before in
     let a = started .before .before .before .before .args in
-    NeedTree (a .w .now) (a .t .now) → c .run-fits .result ≡ operandsBy (a .w .now) (turn .before .loop .i)
+    NeedTree (a .image .now) (a .t .now) → c .run-fits .result ≡ operandsBy (a .image .now) (turn .before .loop .i)
 answer c =
     let turn = c .before .before .before .before in
     let started = turn .before .before .before in
     chain-fits _ (turn .before .loop .i) _ _ _ _ _ (started .before .size-of .ensures .0)
-    (ap (λ (n : ℕ). n + 6 * turn .before .loop .i) (started .chains-at .ensures .0))
+    (ap (λ (n : ℕ). n + chainWidth * turn .before .loop .i) (started .chains-at .ensures .0))
     (c .before .before .before .word-of .ensures)
     (c .before .before .word-of2 .ensures)
     (c .before .word-of3 .ensures)

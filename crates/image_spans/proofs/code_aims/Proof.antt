@@ -4,12 +4,12 @@ use mathlib.Core.Path.{_≡_, sym, _∙_}
 use mathlib.Core.Bool.{true}
 use native.Mathlib.Omega.{arith}
 use Rattle.words.specs.Count.{allBelow}
-use Rattle.words.specs.CountLaws.{all-none, all-more, all-fails}
+use Rattle.words.proofs.CountLaws.{all-none, all-more, all-fails}
 use Rattle.bytecode.specs.Table.{effectTable}
 use Rattle.lowering.specs.Words.{instructions}
-use Rattle.wellmade.specs.Marks.{flowAt}
-use Rattle.wellmade.specs.Test as test
-use Rattle.image_spans.specs.Rows.{TargetTree}
+use Rattle.image_rule.specs.Marks.{flowAt}
+use Rattle.image_rule.specs.Test as test
+use Rattle.image_spans.specs.Leaves.{TargetTree}
 use Rattle.image_spans.proofs.AllLaws.{all-done}
 use borrow.Author.Needs.{needs}
 use Rattle.image_spans.proofs.code_aims.Statement.{statement}
@@ -33,7 +33,7 @@ aims-requires c κs = search needs
 -- the instruction is one of the image's
 inside :
     (c : tie.In-loop Inv-loop μ-loop) → let read = c .before .before in
-    c .before .loop .p < instructions (read .before .before .before .args .w .now)
+    c .before .loop .p < instructions (read .before .before .before .args .image .now)
 inside c = omega (arith, c .loop-test .taken, c .before .before .word-of .ensures)
 
 add-p : tie.Need-add-p Inv-loop μ-loop

@@ -6,6 +6,7 @@ use lib.ListN.{length, length-set}
 use Rattle.image_spans.specs.Needs.{NeedsIn}
 use Rattle.image_spans.proofs.NeedLaws.{step-need, needs-none, needs-more}
 use borrow.Author.Needs.{needs}
+use Rattle.lowering.specs.Limits.{stepWidth}
 use Rattle.image_spans.proofs.put_needs.Statement.{statement}
 use Rattle.image_spans.proofs.put_needs.Tie as tie
 
@@ -57,14 +58,14 @@ word-of-requires-4 c κs = search needs
 need-requires : tie.Need-need-requires Inv-loop μ-loop
 need-requires c κs = search needs
 
-add-l : tie.Need-add-l Inv-loop μ-loop
-add-l c = search needs
+add-scratch : tie.Need-add-scratch Inv-loop μ-loop
+add-scratch c = search needs
 
-mul-l : tie.Need-mul-l Inv-loop μ-loop
-mul-l c = search needs
+mul-scratch : tie.Need-mul-scratch Inv-loop μ-loop
+mul-scratch c = search needs
 
-slice-write-l : tie.Need-slice-write-l Inv-loop μ-loop
-slice-write-l c = search needs
+slice-write-scratch : tie.Need-slice-write-scratch Inv-loop μ-loop
+slice-write-scratch c = search needs
 
 add-j : tie.Need-add-j Inv-loop μ-loop
 add-j c = search needs
@@ -80,7 +81,7 @@ loop-again c =
     let sized = turn .before .before .before in
     let started = sized .before in
     let need =
-    step-need _ (loop .j) _ _ _ _ _ _ (ap (λ (n : ℕ). n + 6 * loop .j) (started .steps-at .ensures .0)) (c .need .ensures)
+    step-need _ (loop .j) _ _ _ _ _ _ (ap (λ (n : ℕ). n + stepWidth * loop .j) (started .steps-at .ensures .0)) (c .need .ensures)
     (read .word-of .ensures)
     (c .before .before .before .word-of2 .ensures)
     (c .before .before .word-of3 .ensures)
@@ -119,9 +120,9 @@ put-needs-spec =
     add-word-of-3
     word-of-requires-4
     need-requires
-    add-l
-    mul-l
-    slice-write-l
+    add-scratch
+    mul-scratch
+    slice-write-scratch
     add-j
     loop-less
     loop-again

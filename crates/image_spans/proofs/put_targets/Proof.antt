@@ -3,7 +3,7 @@ use Prim.Native.Nat.{_-_, _≤_}
 use mathlib.Core.Path.{_≡_, refl}
 use native.Mathlib.Omega.{arith}
 use lib.ListN.{length, length-set}
-use Rattle.image_spans.specs.Rows.{Put}
+use Rattle.image_spans.specs.Leaves.{Put}
 use Rattle.image_spans.proofs.PutLaws.{At, at-first, at-next, put-none, put-more, put-done}
 use borrow.Author.Needs.{needs}
 use Rattle.image_spans.proofs.put_targets.Statement.{statement}
@@ -36,17 +36,17 @@ loop-holds c = (omega arith, refl, at-first _ _ _ (c .targets-at .ensures .0) (c
 word-of-requires : tie.Need-word-of-requires Inv-loop μ-loop
 word-of-requires c κs = search needs
 
-sub-l : tie.Need-sub-l Inv-loop μ-loop
-sub-l c = search needs
+sub-scratch : tie.Need-sub-scratch Inv-loop μ-loop
+sub-scratch c = search needs
 
-add-l : tie.Need-add-l Inv-loop μ-loop
-add-l c = search needs
+add-scratch : tie.Need-add-scratch Inv-loop μ-loop
+add-scratch c = search needs
 
-mul-l : tie.Need-mul-l Inv-loop μ-loop
-mul-l c = search needs
+mul-scratch : tie.Need-mul-scratch Inv-loop μ-loop
+mul-scratch c = search needs
 
-slice-write-l : tie.Need-slice-write-l Inv-loop μ-loop
-slice-write-l c = search needs
+slice-write-scratch : tie.Need-slice-write-scratch Inv-loop μ-loop
+slice-write-scratch c = search needs
 
 add-from : tie.Need-add-from Inv-loop μ-loop
 add-from c = search needs
@@ -89,10 +89,10 @@ put-targets-spec =
     targets-at-requires
     loop-holds
     word-of-requires
-    sub-l
-    add-l
-    mul-l
-    slice-write-l
+    sub-scratch
+    add-scratch
+    mul-scratch
+    slice-write-scratch
     add-from
     add-j
     loop-less

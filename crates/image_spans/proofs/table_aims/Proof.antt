@@ -4,6 +4,7 @@ use mathlib.Core.Path.{ap}
 use native.Mathlib.Omega.{arith}
 use Rattle.image_spans.proofs.TableLaws.{table-aims}
 use borrow.Author.Needs.{needs}
+use Rattle.lowering.specs.Limits.{switchWidth}
 use Rattle.image_spans.proofs.table_aims.Statement.{statement}
 use Rattle.image_spans.proofs.table_aims.Tie as tie
 
@@ -78,7 +79,7 @@ returns-2 c =
     let started = sized .before in
     let i = started .before .before .before .before .args .i in
     table-aims _ i _ _ _ _ _ _ _ _ _
-    (ap (λ (n : ℕ). n + 4 * i) (started .switches-at .ensures .0))
+    (ap (λ (n : ℕ). n + switchWidth * i) (started .switches-at .ensures .0))
     (sized .size-of .ensures .0)
     (read .before .size-of2 .ensures .0)
     (read .word-of .ensures)

@@ -19,8 +19,9 @@ slice-reshare-prefix-print-words c =
 
 slice-aggregate-print-words : tie.Need-slice-aggregate-print-words
 slice-aggregate-print-words c =
-    let p4 = c .before .before .before .before in
-    sym (length-take-le _ _ (lowered-fits _ (p4 .before .before .before .before .lower .ensures) (c .before .before .words .given .1)))
+    let at-words = c .before .before in
+    let p4 = at-words .before .before in
+    sym (length-take-le _ _ (lowered-fits _ (p4 .before .before .before .before .lower .ensures) (at-words .words .given .1)))
 
 print-words-requires : tie.Need-print-words-requires
 print-words-requires c κs = search needs

@@ -1,7 +1,7 @@
 -- `needs::alike` meets its contract: the numbers of both.
 use mathlib.Core.Path.{ap, ap₂, _∙_}
 use lib.Dec.{eqb}
-use Rattle.checks.specs.Checked.{numberOf}
+use Rattle.checks.specs.Checked.{verdictNumber}
 use borrow.Author.Needs.{needs}
 use Rattle.needs.proofs.alike.Statement.{statement}
 use Rattle.needs.proofs.alike.Tie as tie
@@ -22,8 +22,8 @@ returns : tie.Need-returns
 returns c =
     let second = c .before in
     let first = second .before in
-    ap₂ eqb (first .number .ensures ∙ ap numberOf (first .before .refusal .ensures))
-    (c .number2 .ensures ∙ ap numberOf (second .refusal2 .ensures))
+    ap₂ eqb (first .number .ensures ∙ ap verdictNumber (first .before .refusal .ensures))
+    (c .number2 .ensures ∙ ap verdictNumber (second .refusal2 .ensures))
 
 pub alike-spec : {M : Type 1} → statement M
 alike-spec =

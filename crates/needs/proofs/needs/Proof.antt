@@ -1,6 +1,6 @@
 -- `needs::needs` meets its contract: refused by the check, or what an accepted sheet needs.
 use mathlib.Core.Path.{sym, ap, _∙_}
-use Rattle.checks.specs.Checked.{numberOf}
+use Rattle.checks.specs.Checked.{verdictNumber}
 use Rattle.needs.proofs.NeedLaws.{refused-need}
 use borrow.Author.Needs.{needs}
 use Rattle.needs.proofs.needs.Statement.{statement}
@@ -26,7 +26,7 @@ returns c =
 returns-2 : tie.Need-returns-2
 returns-2 c =
     let told = c .before in
-    c .need-of .ensures (ap numberOf (sym (told .before .before .check .ensures) ∙ told .enum-told .given .1))
+    c .need-of .ensures (ap verdictNumber (sym (told .before .before .check .ensures) ∙ told .enum-told .given .1))
 
 pub needs-spec : {M : Type 1} → statement M
 needs-spec =

@@ -13,19 +13,31 @@ room-requires-2 : tie.Need-room-requires-2
 room-requires-2 c κs = search needs
 
 slice-aggregate-lowers : tie.Need-slice-aggregate-lowers
-slice-aggregate-lowers c = sym (length-take-le (c .before .before .before .before .before .before .before .before .args .n) (c .before .before .before .before .before .before .before .before .args .sheet .now) (c .before .before .before .if1 .taken))
+slice-aggregate-lowers c =
+    let at-if1 = c .before .before .before in
+    let p7 = at-if1 .before .before .before .before in
+    let at-start = p7 .before in
+    sym (length-take-le (at-start .args .n) (at-start .args .sheet .now) (at-if1 .if1 .taken))
 
 array-borrow-prefix-image : tie.Need-array-borrow-prefix-image
 array-borrow-prefix-image c = search needs
 
 slice-aggregate-lowers-2 : tie.Need-slice-aggregate-lowers-2
-slice-aggregate-lowers-2 c = sym (length-take-le (c .before .before .before .before .before .before .before .before .before .args .x) (c .before .before .before .before .before .before .room .result) (omega arith))
+slice-aggregate-lowers-2 c =
+    let p4 = c .before .before .before .before in
+    let at-room = p4 .before .before in
+    let at-start = at-room .before .before .before in
+    sym (length-take-le (at-start .args .x) (at-room .room .result) (omega arith))
 
 array-borrow-prefix-scratch : tie.Need-array-borrow-prefix-scratch
 array-borrow-prefix-scratch c = search needs
 
 slice-aggregate-lowers-3 : tie.Need-slice-aggregate-lowers-3
-slice-aggregate-lowers-3 c = sym (length-take-le (c .before .before .before .before .before .before .before .before .before .before .args .y) (c .before .before .before .before .before .before .room2 .result) (omega arith))
+slice-aggregate-lowers-3 c =
+    let p4 = c .before .before .before .before in
+    let at-room2 = p4 .before .before in
+    let at-start = at-room2 .before .before .before .before in
+    sym (length-take-le (at-start .args .y) (at-room2 .room2 .result) (omega arith))
 
 lowers-requires : tie.Need-lowers-requires
 lowers-requires c κs = search needs

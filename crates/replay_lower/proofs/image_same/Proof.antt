@@ -6,10 +6,10 @@ use lib.Dec.{eqb}
 use lib.ListN.{length, getD}
 use native.Mathlib.Omega.{arith}
 use Rattle.words.specs.Count.{allBelow}
-use Rattle.words.specs.CountLaws.{all-none}
+use Rattle.words.proofs.CountLaws.{all-none}
 use borrow.Author.Needs.{needs}
 use Rattle.replay_lower.specs.Left.{imageWord}
-use Rattle.records.proofs.LeftLaws.{same-more, same-fails, same-done}
+use Rattle.replay_records.proofs.LeftLaws.{same-more, same-fails, same-done}
 use Rattle.replay_lower.proofs.image_same.Statement.{statement}
 use Rattle.replay_lower.proofs.image_same.Tie as tie
 
@@ -20,7 +20,11 @@ abbrev μ-loop : tie.MeasureT-loop
 μ-loop image wanted count i₀ i = length image - i
 
 loop-holds : tie.Need-loop-holds Inv-loop μ-loop
-loop-holds c = (omega arith, all-none (λ i. eqb (getD (c .before .before .args .image .now) i 0) (imageWord (c .before .before .args .wanted .now) (c .before .before .args .count) i)))
+loop-holds c =
+    let at-start = c .before .before in (
+      omega arith,
+      all-none (λ i. eqb (getD (at-start .args .image .now) i 0) (imageWord (at-start .args .wanted .now) (at-start .args .count) i)),
+    )
 
 mul-if1 : tie.Need-mul-if1 Inv-loop μ-loop
 mul-if1 c = search needs
@@ -38,13 +42,28 @@ loop-less : tie.Need-loop-less Inv-loop μ-loop
 loop-less c = search needs
 
 loop-again : tie.Need-loop-again Inv-loop μ-loop
-loop-again c = (omega arith, same-more (λ i. getD (c .before .before .before .before .before .before .before .args .image .now) i 0) (imageWord (c .before .before .before .before .before .before .before .args .wanted .now) (c .before .before .before .before .before .before .before .args .count)) (c .before .before .before .before .loop .i) (c .before .before .before .before .loop .inv .1) (c .if1 .taken ∙ c .before .image-word .ensures))
+loop-again c =
+    let at-loop = c .before .before .before .before in
+    let at-start = at-loop .before .before .before in (
+      omega arith,
+      same-more (λ i. getD (at-start .args .image .now) i 0) (imageWord (at-start .args .wanted .now) (at-start .args .count))
+          (at-loop .loop .i) (at-loop .loop .inv .1) (c .if1 .taken ∙ c .before .image-word .ensures),
+    )
 
 returns : tie.Need-returns Inv-loop μ-loop
-returns c = sym (same-fails (λ i. getD (c .before .before .before .before .before .before .before .args .image .now) i 0) (imageWord (c .before .before .before .before .before .before .before .args .wanted .now) (c .before .before .before .before .before .before .before .args .count)) (length (c .before .before .before .before .before .before .before .args .image .now)) (c .before .before .before .before .loop .i) (c .before .before .before .loop-test .taken) (λ e. c .if1 .left (e ∙ sym (c .before .image-word .ensures))))
+returns c =
+    let at-loop-test = c .before .before .before in
+    let at-loop = at-loop-test .before in
+    let at-start = at-loop .before .before .before in
+    sym (same-fails (λ i. getD (at-start .args .image .now) i 0) (imageWord (at-start .args .wanted .now) (at-start .args .count))
+    (length (at-start .args .image .now)) (at-loop .loop .i) (at-loop-test .loop-test .taken)
+    (λ e. c .if1 .left (e ∙ sym (c .before .image-word .ensures))))
 
 returns-2 : tie.Need-returns-2 Inv-loop μ-loop
-returns-2 c = same-done (λ i. eqb (getD (c .before .before .before .before .args .image .now) i 0) (imageWord (c .before .before .before .before .args .wanted .now) (c .before .before .before .before .args .count) i)) (c .before .loop .i) (length (c .before .before .before .before .args .image .now)) (omega arith) (c .before .loop .inv .1)
+returns-2 c =
+    let at-start = c .before .before .before .before in
+    same-done (λ i. eqb (getD (at-start .args .image .now) i 0) (imageWord (at-start .args .wanted .now) (at-start .args .count) i))
+    (c .before .loop .i) (length (at-start .args .image .now)) (omega arith) (c .before .loop .inv .1)
 
 pub image-same-spec : {M : Type 1} → statement M
 image-same-spec =

@@ -1,5 +1,5 @@
 -- `replay_lower::image_word` meets its contract: one law for each way.
-use Rattle.replay_lower.specs.LeftLaws.{image-wanted, image-kept}
+use Rattle.replay_lower.proofs.LeftLaws.{image-wanted, image-kept}
 use mathlib.Core.Path.{sym, _∙_}
 use native.Mathlib.Omega.{arith}
 use borrow.Author.Needs.{needs}
@@ -10,13 +10,19 @@ word-at-requires : tie.Need-word-at-requires
 word-at-requires c κs = search needs
 
 returns : tie.Need-returns
-returns c = c .word-at .ensures ∙ sym (image-wanted (c .before .before .before .args .wanted .now) (c .before .before .before .args .count) (c .before .before .before .args .i) (c .before .if1 .taken))
+returns c =
+    let at-start = c .before .before .before in
+    c .word-at .ensures
+    ∙ sym (image-wanted (at-start .args .wanted .now) (at-start .args .count) (at-start .args .i) (c .before .if1 .taken))
 
 noise-requires : tie.Need-noise-requires
 noise-requires c κs = search needs
 
 returns-2 : tie.Need-returns-2
-returns-2 c = c .noise .ensures ∙ sym (image-kept (c .before .before .before .args .wanted .now) (c .before .before .before .args .count) (c .before .before .before .args .i) (omega (arith, c .before .if1 .left)))
+returns-2 c =
+    let at-start = c .before .before .before in
+    c .noise .ensures
+    ∙ sym (image-kept (at-start .args .wanted .now) (at-start .args .count) (at-start .args .i) (omega (arith, c .before .if1 .left)))
 
 pub image-word-spec : {M : Type 1} → statement M
 image-word-spec = tie.close (tie.spec word-at-requires returns noise-requires returns-2)

@@ -22,16 +22,16 @@ less-requires c κs = search needs
 loop-holds : tie.Need-loop-holds Inv-loop μ-loop
 loop-holds c =
     let a = c .before .before .args in
-    clearing-starts (a .at) (a .n) (a .x .now)
+    clearing-starts (a .at) (a .n) (a .scratch .now)
 
-mul-x : tie.Need-mul-x Inv-loop μ-loop
-mul-x c = omega arith
+mul-scratch : tie.Need-mul-scratch Inv-loop μ-loop
+mul-scratch c = omega arith
 
-slice-write-x : tie.Need-slice-write-x Inv-loop μ-loop
-slice-write-x c =
+slice-write-scratch : tie.Need-slice-write-scratch Inv-loop μ-loop
+slice-write-scratch c =
     let a = c .before .before .before .before .args in
     let w = c .before .loop in
-    let l = clearing-length (a .at) (a .n) (w .i) (a .x .now) (w .x) (w .inv) in
+    let l = clearing-length (a .at) (a .n) (w .i) (a .scratch .now) (w .scratch) (w .inv) in
     omega arith
 
 add-i : tie.Need-add-i Inv-loop μ-loop
@@ -44,19 +44,19 @@ loop-again : tie.Need-loop-again Inv-loop μ-loop
 loop-again c =
     let a = c .before .before .before .before .args in
     let w = c .before .loop in
-    clearing-goes (a .at) (a .n) (w .i) (a .x .now) (w .x) _ (w .inv) (omega arith) refl
+    clearing-goes (a .at) (a .n) (w .i) (a .scratch .now) (w .scratch) _ (w .inv) (omega arith) refl
 
 same-length : tie.Need-same-length Inv-loop μ-loop
 same-length c =
     let a = c .before .before .before .before .args in
     let w = c .before .loop in
-    clearing-length (a .at) (a .n) (w .i) (a .x .now) (w .x) (w .inv)
+    clearing-length (a .at) (a .n) (w .i) (a .scratch .now) (w .scratch) (w .inv)
 
 returns : tie.Need-returns Inv-loop μ-loop
 returns c =
     let a = c .before .before .before .before .args in
     let w = c .before .loop in
-    clearing-ends (a .at) (a .n) (w .i) _ (a .x .now) (w .x) (w .inv) (c .before .before .less .ensures) (c .loop-test .left)
+    clearing-ends (a .at) (a .n) (w .i) _ (a .scratch .now) (w .scratch) (w .inv) (c .before .before .less .ensures) (c .loop-test .left)
 
 pub clear-spec : {M : Type 1} → statement M
 clear-spec =
@@ -67,8 +67,8 @@ clear-spec =
     add-less
     less-requires
     loop-holds
-    mul-x
-    slice-write-x
+    mul-scratch
+    slice-write-scratch
     add-i
     loop-less
     loop-again

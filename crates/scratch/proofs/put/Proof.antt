@@ -5,11 +5,11 @@ use borrow.Author.Needs.{needs}
 use Rattle.scratch.proofs.put.Statement.{statement}
 use Rattle.scratch.proofs.put.Tie as tie
 
-mul-x : tie.Need-mul-x
-mul-x c = search needs
+mul-scratch : tie.Need-mul-scratch
+mul-scratch c = search needs
 
-slice-write-x : tie.Need-slice-write-x
-slice-write-x c = search needs
+slice-write-scratch : tie.Need-slice-write-scratch
+slice-write-scratch c = search needs
 
 same-length : tie.Need-same-length
 same-length c = search needs
@@ -21,4 +21,4 @@ returns-2 : tie.Need-returns-2
 returns-2 c = sym (set-out _ _ _ (c .if1 .left))
 
 pub put-spec : {M : Type 1} → statement M
-put-spec = tie.close (tie.spec mul-x slice-write-x same-length returns returns-2)
+put-spec = tie.close (tie.spec mul-scratch slice-write-scratch same-length returns returns-2)

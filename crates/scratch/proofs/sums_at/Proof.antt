@@ -23,6 +23,9 @@ mul-word-2 c = search needs
 add-word-2 : tie.Need-add-word-2
 add-word-2 c = search needs
 
+cast-word-3 : tie.Need-cast-word-3
+cast-word-3 c = search needs
+
 add-word-3 : tie.Need-add-word-3
 add-word-3 c = search needs
 
@@ -36,4 +39,4 @@ returns c = omega arith
 pub sums-at-spec : {M : Type 1} → statement M
 sums-at-spec =
     tie.close
-    (tie.spec cast-word mul-word add-word cast-word-2 mul-word-2 add-word-2 add-word-3 word-requires returns)
+    (tie.spec cast-word mul-word add-word cast-word-2 mul-word-2 add-word-2 cast-word-3 add-word-3 word-requires returns)

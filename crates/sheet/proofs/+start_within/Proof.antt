@@ -2,7 +2,7 @@
 use Prim.Native.Nat.{ℕ, _<_}
 use borrow.Author.Needs.{needs}
 use native.Mathlib.Omega.{arith}
-use Rattle.sheet.specs.StartLaws.{start-spent, start-inside, start-own}
+use Rattle.sheet.proofs.StartLaws.{start-spent, start-inside, start-own}
 use mathlib.Core.Path.{ap, sym, _∙_}
 use Rattle.sheet.specs.Start.{startsInside}
 use borrow.Fn.Kinds.{In}
@@ -32,42 +32,61 @@ start-within-below t =
     start-within.Pre
 
 abbrev start-within-claims : ℕ → start-within-lts.Claims
-start-within-claims t = (kind-reads.Asked, kind-reads.Learnt, position-reads.Asked, position-reads.Learnt, child-reads.Asked, child-reads.Learnt, start-within-below t, start-within.Post)
+start-within-claims t = (
+  kind-reads.Asked,
+  kind-reads.Learnt,
+  position-reads.Asked,
+  position-reads.Learnt,
+  child-reads.Asked,
+  child-reads.Learnt,
+  start-within-below t,
+  start-within.Post,
+)
 
 start-within-kind-requires : (t : ℕ) → start-within-lts.Need-kind-requires (start-within-claims t) (start-within-at t) start-within.Post
 start-within-kind-requires t c κs = search needs
 
-start-within-position-requires : (t : ℕ) → start-within-lts.Need-position-requires (start-within-claims t) (start-within-at t) start-within.Post
+start-within-position-requires : (t : ℕ)
+    → start-within-lts.Need-position-requires (start-within-claims t) (start-within-at t) start-within.Post
 start-within-position-requires t c κs = search needs
 
 start-within-returns : (t : ℕ) → start-within-lts.Need-returns (start-within-claims t) (start-within-at t) start-within.Post
-start-within-returns t c = cc (start-spent (c .before .before .before .before .args .left) (c .before .before .before .before .args .s .now) (c .before .before .before .before .args .n) (c .before .if1 .taken))
+start-within-returns t c =
+    let at-start = c .before .before .before .before in
+    cc (start-spent (at-start .args .left) (at-start .args .sheet .now) (at-start .args .n) (c .before .if1 .taken))
 
-start-within-sub-start-within : (t : ℕ) → start-within-lts.Need-sub-start-within (start-within-claims t) (start-within-at t) start-within.Post
+start-within-sub-start-within : (t : ℕ)
+    → start-within-lts.Need-sub-start-within (start-within-claims t) (start-within-at t) start-within.Post
 start-within-sub-start-within t c = omega arith
 
 start-within-child-requires : (t : ℕ) → start-within-lts.Need-child-requires (start-within-claims t) (start-within-at t) start-within.Post
 start-within-child-requires t c κs = search needs
 
-start-within-start-within-requires : (t : ℕ) → start-within-lts.Need-start-within-requires (start-within-claims t) (start-within-at t) start-within.Post
+start-within-start-within-requires : (t : ℕ)
+    → start-within-lts.Need-start-within-requires (start-within-claims t) (start-within-at t) start-within.Post
 start-within-start-within-requires t c κs = omega arith
 
 start-within-returns-2 : (t : ℕ) → start-within-lts.Need-returns-2 (start-within-claims t) (start-within-at t) start-within.Post
 start-within-returns-2 t c =
-    let a = c .before .before .before .before .before .before .args in
+    let at-if2 = c .before .before in
+    let at-if1 = at-if2 .before in
+    let at-kind = at-if1 .before in
+    let a = at-kind .before .before .args in
     cc
-    (start-inside (a .left) (a .s .now) (a .n) (c .before .before .before .if1 .left)
-    (ap startsInside (sym (c .before .before .before .before .kind .ensures)) ∙ c .before .before .if2 .taken))
+    (start-inside (a .left) (a .sheet .now) (a .n) (at-if1 .if1 .left)
+    (ap startsInside (sym (at-kind .kind .ensures)) ∙ at-if2 .if2 .taken))
 
-start-within-position-requires-2 : (t : ℕ) → start-within-lts.Need-position-requires-2 (start-within-claims t) (start-within-at t) start-within.Post
+start-within-position-requires-2 : (t : ℕ)
+    → start-within-lts.Need-position-requires-2 (start-within-claims t) (start-within-at t) start-within.Post
 start-within-position-requires-2 t c κs = search needs
 
 start-within-returns-3 : (t : ℕ) → start-within-lts.Need-returns-3 (start-within-claims t) (start-within-at t) start-within.Post
 start-within-returns-3 t c =
-    let a = c .before .before .before .before .before .args in
+    let at-kind = c .before .before .before in
+    let a = at-kind .before .before .args in
     cc
-    (start-own (a .left) (a .s .now) (a .n)
-    (ap startsInside (sym (c .before .before .before .kind .ensures)) ∙ c .before .if2 .left))
+    (start-own (a .left) (a .sheet .now) (a .n)
+    (ap startsInside (sym (at-kind .kind .ensures)) ∙ c .before .if2 .left))
 
 pub +start-within-spec : {M : Type 1} → statement M
 +start-within-spec = close μ-start-within λ t. start-within-lts.spec (start-within-claims t)

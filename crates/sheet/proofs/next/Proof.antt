@@ -1,5 +1,5 @@
 -- `sheet::next` meets its contract: the sum modulo 2 ^ 32 is the definition.
-use Rattle.sheet.specs.Node.{next}
+use Rattle.sheet.specs.Node.{nextBy}
 use borrow.Author.Needs.{needs}
 use Rattle.sheet.proofs.next.Statement.{statement}
 use Rattle.sheet.proofs.next.Tie as tie
@@ -15,7 +15,7 @@ wrapping-add-u32-requires : tie.Need-wrapping-add-u32-requires
 wrapping-add-u32-requires c κs = search needs
 
 returns : tie.Need-returns
-unfolding next
+unfolding nextBy
 returns c = search needs
 
 pub next-spec : {M : Type 1} → statement M

@@ -1,5 +1,5 @@
 -- `sheet::skip` meets its contract. Invariant: what is left to pass from node at on leads where the whole does.
-use Rattle.sheet.specs.WalkLaws.{skip-more, skip-done}
+use Rattle.sheet.proofs.WalkLaws.{skip-more, skip-done}
 use Rattle.sheet.specs.Walk as walks
 use mathlib.Core.Path.{_≡_}
 use Prim.Native.Nat.{_-_, _≤_}
@@ -31,10 +31,17 @@ loop-less : tie.Need-loop-less Inv-loop μ-loop
 loop-less c = search needs
 
 loop-again : tie.Need-loop-again Inv-loop μ-loop
-loop-again c = (omega arith, cc (skip-more (c .before .before .before .before .args .s .now) (c .before .before .before .before .args .m) (c .before .before .loop .i) (c .before .before .loop .at) (c .before .loop-test .taken)))
+loop-again c =
+    let at-loop = c .before .before in
+    let at-start = at-loop .before .before in (
+      omega arith,
+      cc (skip-more (at-start .args .sheet .now) (at-start .args .m) (at-loop .loop .i) (at-loop .loop .at) (c .before .loop-test .taken)),
+    )
 
 returns : tie.Need-returns Inv-loop μ-loop
-returns c = cc (skip-done (c .before .before .before .args .s .now) (c .before .before .before .args .m) (c .before .loop .i) (c .before .loop .at) (c .loop-test .left))
+returns c =
+    let at-start = c .before .before .before in
+    cc (skip-done (at-start .args .sheet .now) (at-start .args .m) (c .before .loop .i) (c .before .loop .at) (c .loop-test .left))
 
 pub skip-spec : {M : Type 1} → statement M
 skip-spec =

@@ -1,5 +1,5 @@
 -- `sheet::text_length` meets its contract: the word read is the one that the definition names.
-use Rattle.sheet.specs.Text.{textLength}
+use Rattle.sheet.specs.Text.{textLengthBy}
 use borrow.Author.Needs.{needs}
 use Rattle.sheet.proofs.text_length.Statement.{statement}
 use Rattle.sheet.proofs.text_length.Tie as tie
@@ -18,7 +18,7 @@ word-at-requires : tie.Need-word-at-requires
 word-at-requires c κs = search needs
 
 returns : tie.Need-returns
-unfolding textLength
+unfolding textLengthBy
 returns c = cc
 
 pub text-length-spec : {M : Type 1} → statement M

@@ -1,5 +1,5 @@
 -- `sheet::text_start` meets its contract: the word read is the one that the definition names.
-use Rattle.sheet.specs.Text.{textStart}
+use Rattle.sheet.specs.Text.{textStartBy}
 use borrow.Author.Needs.{needs}
 use Rattle.sheet.proofs.text_start.Statement.{statement}
 use Rattle.sheet.proofs.text_start.Tie as tie
@@ -18,7 +18,7 @@ word-at-requires : tie.Need-word-at-requires
 word-at-requires c κs = search needs
 
 returns : tie.Need-returns
-unfolding textStart
+unfolding textStartBy
 returns c = cc
 
 pub text-start-spec : {M : Type 1} → statement M

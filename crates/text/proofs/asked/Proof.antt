@@ -1,7 +1,7 @@
 -- `text::asked` meets its contract: each arm of the `match` is a row of the table. The arms of one number are asked first.
 -- Assumes nothing.
 use native.Mathlib.Omega.{arith}
-use Rattle.text.specs.RowLaws.{leads, row-E0, row-ED, row-F0, row-F4, row-7F, row-C1, row-DF, row-EC, row-EF, row-F3, row-last}
+use Rattle.text.proofs.RowLaws.{leads, row-E0, row-ED, row-F0, row-F4, row-7F, row-C1, row-DF, row-EC, row-EF, row-F3, row-last}
 use Rattle.text.proofs.asked.Statement.{statement}
 use Rattle.text.proofs.asked.Tie as tie
 

@@ -6,7 +6,7 @@ use borrow.Author.Needs.{needs}
 use native.Mathlib.Omega.{arith}
 use lib.ListN.{drop}
 use Rattle.text.specs.Char.{charLength}
-use Rattle.text.specs.CharLaws.{charLeft, char-past, char-start, char-short, char-next, char-low, char-high, char-done}
+use Rattle.text.proofs.CharLaws.{charLeft, char-past, char-start, char-short, char-next, char-low, char-high, char-done}
 use Rattle.text.proofs.char_len.Statement.{statement}
 use Rattle.text.proofs.char_len.Tie as tie
 
@@ -33,12 +33,14 @@ sub-if2 c = search needs
 
 returns-2 : tie.Need-returns-2 Inv-loop μ-loop
 returns-2 c =
-    let a = c .before .before .before .before .before .args in
+    let p4 = c .before .before .before .before in
+    let a = p4 .before .args in
     sym (char-short (a .s .now) (a .i) _ _ _ (omega arith) (c .before .asked .ensures) (c .if2 .taken))
 
 loop-holds : tie.Need-loop-holds Inv-loop μ-loop
 loop-holds c =
-    let a = c .before .before .before .before .before .args in
+    let p4 = c .before .before .before .before in
+    let a = p4 .before .args in
     (omega arith, char-start (a .s .now) (a .i) _ _ _ (omega arith) (c .before .asked .ensures))
 
 add-b : tie.Need-add-b Inv-loop μ-loop
@@ -53,13 +55,15 @@ shared-slice-read-b c = omega arith
 returns-3 : tie.Need-returns-3 Inv-loop μ-loop
 returns-3 c =
     let l = c .before .before .before in
-    let s = l .before .before .before .before .before .before .args .s .now in
+    let p7 = l .before .before .before .before in
+    let s = p7 .before .before .args .s .now in
     sym (char-low s _ (l .loop .k) _ _ _ _ (omega arith) (omega arith) (c .if3 .taken)) ∙ l .loop .inv .1
 
 returns-4 : tie.Need-returns-4 Inv-loop μ-loop
 returns-4 c =
     let l = c .before .before .before .before in
-    let s = l .before .before .before .before .before .before .args .s .now in
+    let p8 = l .before .before .before .before in
+    let s = p8 .before .before .args .s .now in
     sym (char-high s _ (l .loop .k) _ _ _ _ (omega arith) (omega arith) (c .if4 .taken)) ∙ l .loop .inv .1
 
 add-k : tie.Need-add-k Inv-loop μ-loop
@@ -71,7 +75,8 @@ loop-less c = omega arith
 loop-again : tie.Need-loop-again Inv-loop μ-loop
 loop-again c =
     let l = c .before .before .before .before in
-    let a = l .before .before .before .before .before .before .args in
+    let p8 = l .before .before .before .before in
+    let a = p8 .before .before .args in
     let n = l .before .before .asked .result .0 in (
       omega arith,
       sym (char-next (a .s .now) n (l .loop .k) _ _ (a .i + 1) _ (omega arith) (omega arith) (c .before .if3 .left) (c .if4 .left))
@@ -84,9 +89,11 @@ add-result c = omega arith
 returns-5 : tie.Need-returns-5 Inv-loop μ-loop
 returns-5 c =
     let l = c .before in
-    let a = l .before .before .before .before .before .before .args in
+    let p5 = l .before .before .before .before in
+    let a = p5 .before .before .args in
     let n = l .before .before .asked .result .0 in
-    sym (char-done (a .s .now) n (l .loop .k) (l .loop .low) (l .loop .high) (a .i + 1 + l .loop .k) (n + 1) (omega arith)) ∙ l .loop .inv .1
+    sym (char-done (a .s .now) n (l .loop .k) (l .loop .low) (l .loop .high) (a .i + 1 + l .loop .k) (n + 1) (omega arith))
+    ∙ l .loop .inv .1
 
 pub char-len-spec : {M : Type 1} → statement M
 char-len-spec =

@@ -2,7 +2,7 @@
 -- nothing.
 use mathlib.Core.Path.{sym}
 use native.Mathlib.Omega.{arith}
-use Rattle.text.specs.SameLaws.{same-lengths}
+use Rattle.text.proofs.SameLaws.{same-lengths}
 use borrow.Author.Needs.{needs}
 use Rattle.text.proofs.same_bytes.Statement.{statement}
 use Rattle.text.proofs.same_bytes.Tie as tie

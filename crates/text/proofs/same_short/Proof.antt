@@ -5,7 +5,7 @@ use borrow.Author.Count.{below-more}
 use borrow.Author.Needs.{needs}
 use native.Mathlib.Omega.{arith}
 use lib.ListN.{length, getD}
-use Rattle.text.specs.SameLaws.{same-at, same-each}
+use Rattle.text.proofs.SameLaws.{same-at, same-each}
 use Rattle.text.proofs.same_short.Statement.{statement}
 use Rattle.text.proofs.same_short.Tie as tie
 

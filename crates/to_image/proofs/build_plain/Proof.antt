@@ -32,8 +32,10 @@ same-length c = search needs
 returns : tie.Need-returns
 returns c =
     let counted = c .before in
-    let emitted = counted .before .before .before .before .before in
-    let cleared = emitted .before .before .before .before .before .before in
+    let p5 = counted .before .before .before .before in
+    let emitted = p5 .before in
+    let p10 = emitted .before .before .before .before in
+    let cleared = p10 .before .before in
     let begun = cleared .before .before in
     let table = begun .before in
     λ R h. plain-long h _ _ _ _ _ _ _ _ R (table .before .node-count .ensures) (begun .start .result) (begun .start .ensures)
@@ -53,8 +55,10 @@ returns-2 : tie.Need-returns-2
 returns-2 c =
     let wrote = c .before .before in
     let counted = wrote .before .before .before .before in
-    let emitted = counted .before .before .before .before .before in
-    let cleared = emitted .before .before .before .before .before .before in
+    let p10 = counted .before .before .before .before in
+    let emitted = p10 .before in
+    let p15 = emitted .before .before .before .before in
+    let cleared = p15 .before .before in
     let begun = cleared .before .before in
     let table = begun .before in
     λ R h. plain-built h _ _ _ _ _ _ _ _ R (table .before .node-count .ensures) (begun .start .result) (begun .start .ensures)

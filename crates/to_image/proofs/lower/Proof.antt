@@ -1,6 +1,6 @@
 -- `to_image::lower` meets its contract: refused by the check, or lowered.
 use mathlib.Core.Path.{sym, ap, _∙_}
-use Rattle.checks.specs.Checked.{numberOf}
+use Rattle.checks.specs.Checked.{verdictNumber}
 use Rattle.to_image.proofs.AnswerLaws.{check-stays}
 use borrow.Author.Needs.{needs}
 use Rattle.to_image.proofs.lower.Statement.{statement}
@@ -33,7 +33,7 @@ returns-2 : tie.Need-returns-2
 returns-2 c =
     let lowered = c .before .before .before .before in
     let told = lowered .before .before .before in
-    lowered .lower-accepted .ensures (ap numberOf (sym (told .before .before .check .ensures) ∙ told .enum-told .given .1))
+    lowered .lower-accepted .ensures (ap verdictNumber (sym (told .before .before .check .ensures) ∙ told .enum-told .given .1))
 
 pub lower-spec : {M : Type 1} → statement M
 lower-spec =

@@ -1,6 +1,6 @@
 -- `words::byte` meets its contract: past the end the answer is 0. Assumes nothing.
 use borrow.Author.Needs.{needs}
-use Rattle.words.specs.WordLaws.{byte-past}
+use Rattle.words.proofs.WordLaws.{byte-past}
 use mathlib.Core.Path.{sym}
 use Rattle.words.proofs.byte.Statement.{statement}
 use Rattle.words.proofs.byte.Tie as tie

@@ -1,7 +1,7 @@
 -- `words::part` meets its contract: each of the three ways to cut gives `take len (drop at s)`. Assumes nothing.
 use borrow.Author.Needs.{needs}
 use native.Mathlib.Omega.{arith}
-use Rattle.words.specs.PartLaws.{part-empty, part-between, part-rest}
+use Rattle.words.proofs.PartLaws.{part-empty, part-between, part-rest}
 use Rattle.words.proofs.part.Statement.{statement}
 use Rattle.words.proofs.part.Tie as tie
 

@@ -1,6 +1,6 @@
 -- `words::whole` meets its contract: the four bytes are there, and stand for the word. Assumes nothing.
 use borrow.Author.Needs.{needs}
-use Rattle.words.specs.WordLaws.{word-bytes}
+use Rattle.words.proofs.WordLaws.{word-bytes}
 use Rattle.words.proofs.whole.Statement.{statement}
 use Rattle.words.proofs.whole.Tie as tie
 
@@ -32,7 +32,10 @@ from-bytes-requires : tie.Need-from-bytes-requires
 from-bytes-requires c κs = search needs
 
 returns : tie.Need-returns
-returns c = cc (word-bytes (c .before .before .before .before .before .before .args .s .now) (c .before .before .before .before .before .before .args .i) (c .before .before .before .before .before .before .pre))
+returns c =
+    let p4 = c .before .before .before .before in
+    let at-start = p4 .before .before in
+    cc (word-bytes (at-start .args .s .now) (at-start .args .i) (at-start .pre))
 
 pub whole-spec : {M : Type 1} → statement M
 whole-spec =

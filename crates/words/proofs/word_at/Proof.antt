@@ -1,5 +1,5 @@
 -- `words::word_at` meets its contract: past the last whole word the answer is 0.
-use Rattle.words.specs.WordLaws.{word-past}
+use Rattle.words.proofs.WordLaws.{word-past}
 use mathlib.Core.Path.{sym}
 use native.Mathlib.Omega.{arith}
 use borrow.Author.Needs.{needs}

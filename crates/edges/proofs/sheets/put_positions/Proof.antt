@@ -40,7 +40,10 @@ loop-less : tie.Need-loop-less Inv-loop μ-loop
 loop-less c = search needs
 
 loop-again : tie.Need-loop-again Inv-loop μ-loop
-loop-again c = c .before .before .put .kept .0 ∙ c .before .before .before .before .before .loop .inv
+loop-again c =
+    let at-put = c .before .before in
+    let at-loop = at-put .before .before .before in
+    at-put .put .kept .0 ∙ at-loop .loop .inv
 
 same-length : tie.Need-same-length Inv-loop μ-loop
 same-length c = c .before .loop .inv

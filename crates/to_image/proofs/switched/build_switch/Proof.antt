@@ -33,13 +33,14 @@ returns : tie.Need-returns
 returns c =
     let counted = c .before in
     let tables = counted .before in
-    let runs = tables .before in
-    let cases = runs .before .before in
-    let lowered = cases .before .before .before .before .before in
+    let bands = tables .before in
+    let cases = bands .before .before in
+    let p9 = cases .before .before .before .before in
+    let lowered = p9 .before in
     let n = lowered .before .before .before .node-count .ensures in
     λ R k z T P.
     let S = lowered .held .ensures (record { ready = R; switch = k; nodes = n; sized = z; tables = T; placed = P }) in
-    left-out S _ _ (cases .field-b .ensures) (runs .get .ensures) _ _ _ (tables .tables-len .ensures)
+    left-out S _ _ (cases .field-b .ensures) (bands .get .ensures) _ _ _ (tables .tables-len .ensures)
     (λ a h. counted .image-len .ensures _ _ _ a h) (omega (arith, c .if1 .taken))
 
 write-requires : tie.Need-write-requires
@@ -60,13 +61,14 @@ returns-2 c =
     let test = wrote .before .before .before .before in
     let counted = test .before in
     let tables = counted .before in
-    let runs = tables .before in
-    let cases = runs .before .before in
-    let lowered = cases .before .before .before .before .before in
+    let bands = tables .before in
+    let cases = bands .before .before in
+    let p15 = cases .before .before .before .before in
+    let lowered = p15 .before in
     let n = lowered .before .before .before .node-count .ensures in
     λ R k z T P.
     let S = lowered .held .ensures (record { ready = R; switch = k; nodes = n; sized = z; tables = T; placed = P }) in
-    put-in S _ _ (cases .field-b .ensures) (runs .get .ensures) _ _ _ (tables .tables-len .ensures)
+    put-in S _ _ (cases .field-b .ensures) (bands .get .ensures) _ _ _ (tables .tables-len .ensures)
     (λ a h. counted .image-len .ensures _ _ _ a h) (omega (arith, test .if1 .left)) (wrote .write .ensures _ S)
 
 pub build-switch-spec : {M : Type 1} → statement M

@@ -30,9 +30,12 @@ same-length-2 c = search needs
 
 returns : tie.Need-returns
 returns c =
-    let added = c .before .before .before .before .before .before in
-    let switched = added .before .before .before .before .before .before in
-    let cleared = switched .before .before .before .before .before .before .before in
+    let p4 = c .before .before .before .before in
+    let added = p4 .before .before in
+    let p10 = added .before .before .before .before in
+    let switched = p10 .before .before in
+    let p16 = switched .before .before .before .before in
+    let cleared = p16 .before .before .before in
     let begun = cleared .before .before in
     λ P. settled _ _ _ _ _ _ (begun .start .result) _ _ _ _ _ P (begun .start .ensures) (cleared .begin .ensures)
     (switched .switch .ensures _ (begun .before .effects .ensures)) (added .case-consts .ensures .0 _) (added .case-consts .ensures .1 .0 _)

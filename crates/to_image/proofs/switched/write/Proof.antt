@@ -48,9 +48,9 @@ returns c =
     let fallback = tables .before .before in
     let front = fallback .before .before .before .before in
     let count = front .before in
-    let runs = count .before .before in
-    let number = runs .before in
-    λ l S. written S (number .field-b .result) (runs .get .result) (number .field-b .ensures) (runs .get .ensures)
+    let bands = count .before .before in
+    let number = bands .before in
+    λ l S. written S (number .field-b .result) (bands .get .result) (number .field-b .ensures) (bands .get .ensures)
     (count .table-count .result)
     (fallback .get2 .result) (tables .before .get3 .result) (count .table-count .ensures) (fallback .get2 .ensures)
     (tables .before .get3 .ensures)

@@ -1,2 +1,0 @@
--- Laws of what is walked along the links of a chain.
-mod WalkedLaws

@@ -1,0 +1,2 @@
+mod PartsLaws
+pub mod QuickLaws

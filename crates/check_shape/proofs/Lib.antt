@@ -1,0 +1,3 @@
+pub mod KindsLaws
+mod ReadLaws
+pub mod ShapeLaws

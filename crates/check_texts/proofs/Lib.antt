@@ -1,0 +1,4 @@
+-- Laws of texts whose bytes are all ASCII.
+mod PlainLaws
+mod MarkLaws
+mod TextsLaws

@@ -1,2 +1,0 @@
--- Laws of where a node's code ends.
-mod EndLaws

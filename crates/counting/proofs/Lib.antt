@@ -1,2 +1,0 @@
--- Laws of counts by different locals.
-pub mod BoundLaws

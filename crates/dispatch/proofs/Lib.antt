@@ -1,7 +1,0 @@
-pub mod ReadyLaws
-mod PartLaws
-mod TableLaws
-mod ArmDoes
-mod BodyDoes
-mod CaseDoes
-mod SwitchDoes

@@ -1,0 +1,6 @@
+pub mod Limits
+pub mod Tally
+pub mod Locals
+pub mod Plan
+pub mod Link
+pub mod Count

@@ -1,0 +1,4 @@
+pub mod Answers
+pub mod Inverse
+pub mod Reads
+pub mod Keywords

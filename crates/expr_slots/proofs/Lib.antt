@@ -1,0 +1,3 @@
+-- Laws of names by their lengths.
+pub mod LengthLaws
+mod SlotLaws

@@ -1,7 +1,0 @@
--- Laws of heads: numbers of lists among the distinct ones, the targets that they name, and the loops over cases and runs.
-pub mod NumbersLaws
-pub mod TargetLaws
-mod SearchLaws
-mod FillLaws
-mod CaseLaws
-mod RunLaws

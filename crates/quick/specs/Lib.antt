@@ -1,4 +1,0 @@
-pub mod Parts
-pub mod PartsLaws
-pub mod Quick
-pub mod QuickLaws

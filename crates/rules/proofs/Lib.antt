@@ -1,3 +1,0 @@
-mod KeywordLaws
-mod ReadLaws
-pub mod ReceiverLaws

@@ -1,5 +1,0 @@
-pub mod Answers
-pub mod Inverse
-pub mod Reads
-pub mod Keywords
-pub mod RuleLaws

@@ -1,0 +1,3 @@
+pub mod BangLaws
+pub mod KeyLaws
+pub mod SeekLaws

@@ -1,5 +1,0 @@
-pub mod Kinds
-pub mod Shape
-pub mod KindsLaws
-pub mod ShapeLaws
-pub mod ReadLaws

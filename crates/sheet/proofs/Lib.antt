@@ -1,0 +1,2 @@
+mod StartLaws
+pub mod WalkLaws

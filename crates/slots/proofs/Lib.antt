@@ -1,2 +1,0 @@
--- Laws of names by their lengths.
-pub mod LengthLaws

@@ -1,0 +1,8 @@
+pub mod ReadyLaws
+mod PartLaws
+mod TableLaws
+mod ArmDoes
+mod BodyDoes
+mod CaseDoes
+mod SwitchDoes
+mod FromLaws

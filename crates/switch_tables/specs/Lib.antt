@@ -1,0 +1,10 @@
+pub mod Columns
+pub mod Listed
+pub mod Place
+pub mod Spans
+pub mod Hash
+pub mod Numbers
+pub mod Bands
+pub mod Heads
+pub mod Table
+pub mod Planned

@@ -1,4 +1,0 @@
-pub mod Switch
-pub mod SwitchLaws
-pub mod ReadLaws
-pub mod Key

@@ -1,0 +1,17 @@
+mod EdgeRight
+mod RangesRight
+mod Refused10Right
+mod Refused11Right
+mod RightLaws
+mod Table1Right
+mod Table10Right
+mod Table11Right
+mod Table12Right
+mod Table2Right
+mod Table3Right
+mod Table4Right
+mod Table5Right
+mod Table6Right
+mod Table7Right
+mod Table8Right
+mod Table9Right

@@ -1,2 +1,0 @@
--- Laws of texts whose bytes are all ASCII.
-mod PlainLaws

@@ -1,0 +1,5 @@
+pub mod FrontFacts
+mod FrontLaws
+pub mod PutsLaws
+mod RoomLaws
+mod RowLengths

@@ -1,0 +1,4 @@
+pub mod ChainRows
+pub mod PutLaws
+pub mod RowLaws
+mod StepRows
