@@ -30,7 +30,7 @@ fn line(label: &str, sheet: &[u8], image_room: usize, scratch_room: usize) -> St
     );
     if number == 0 {
         line.push_str(", sizes");
-        for word in &image[..12] {
+        for word in &image[..IMAGE_SIZES] {
             line.push_str(&format!(" {word}"));
         }
     }

@@ -1,6 +1,8 @@
 //! Hand-made images on both sides of each clause of request A1, as small as
 //! can be.
 
+use crate::format::{CASE_WORDS, CHAIN_WORDS, CODE_WORDS, CONSTANT_WORDS, IMAGE_SIZES};
+use crate::format::{NAME_WORDS, RANGE_WORDS, STEP_WORDS, SWITCH_WORDS};
 use crate::image_check::Clause;
 use crate::image_draft::ImageDraft;
 
@@ -35,12 +37,12 @@ const NAMED: &[u32] = &[1, 1, 1, 1, 2, 1, 0, 0, 0, 0, 0, 0, 1, 97, 0];
 /// FnCall `eval`, which lowering refuses with 9.
 const EVAL: &[u32] = &[1, 1, 4, 0, 13, 1, 0, 0, 0, 0, 0, 0, 4, 0x6C61_7665];
 
-const UNIT: [u32; 4] = [2, 0, 0, 0];
-const POP: [u32; 4] = [7, 0, 0, 0];
+const UNIT: [u32; CODE_WORDS] = [2, 0, 0, 0];
+const POP: [u32; CODE_WORDS] = [7, 0, 0, 0];
 /// Keeps one value.
-const KEEP: [u32; 4] = [14, 0, 0, 0];
+const KEEP: [u32; CODE_WORDS] = [14, 0, 0, 0];
 /// One value for another.
-const SWAP: [u32; 4] = [16, 0, 0, 0];
+const SWAP: [u32; CODE_WORDS] = [16, 0, 0, 0];
 const HIGH: u32 = u32::MAX;
 
 struct Rows(Vec<Row>);
@@ -83,20 +85,20 @@ impl Rows {
         clause: Clause,
         name: &str,
         pools: &ImageDraft,
-        right: [u32; 4],
-        wrong: [u32; 4],
+        right: [u32; CODE_WORDS],
+        wrong: [u32; CODE_WORDS],
     ) {
         self.both(clause, name, NAMED, dead(pools, right), dead(pools, wrong));
     }
 }
 
 /// This code with this reported depth.
-fn code(depth: u32, code: &[[u32; 4]]) -> ImageDraft {
+fn code(depth: u32, code: &[[u32; CODE_WORDS]]) -> ImageDraft {
     with(&ImageDraft::default(), depth, code)
 }
 
 /// The same with pools.
-fn with(pools: &ImageDraft, depth: u32, code: &[[u32; 4]]) -> ImageDraft {
+fn with(pools: &ImageDraft, depth: u32, code: &[[u32; CODE_WORDS]]) -> ImageDraft {
     ImageDraft {
         code: code.to_vec(),
         max_stack: depth,
@@ -106,7 +108,7 @@ fn with(pools: &ImageDraft, depth: u32, code: &[[u32; 4]]) -> ImageDraft {
 }
 
 /// Unit, a jump to the end, and an instruction in between.
-fn dead(pools: &ImageDraft, op: [u32; 4]) -> ImageDraft {
+fn dead(pools: &ImageDraft, op: [u32; CODE_WORDS]) -> ImageDraft {
     with(pools, 1, &[UNIT, [8, 3, 0, 0], op])
 }
 
@@ -115,14 +117,14 @@ fn beside(pools: ImageDraft) -> ImageDraft {
     with(&pools, 1, &[UNIT])
 }
 
-fn constants(rows: &[[u32; 3]]) -> ImageDraft {
+fn constants(rows: &[[u32; CONSTANT_WORDS]]) -> ImageDraft {
     ImageDraft {
         constants: rows.to_vec(),
         ..Default::default()
     }
 }
 
-fn names(rows: &[[u32; 2]]) -> ImageDraft {
+fn names(rows: &[[u32; NAME_WORDS]]) -> ImageDraft {
     ImageDraft {
         names: rows.to_vec(),
         ..Default::default()
@@ -144,7 +146,7 @@ fn residuals(rows: &[u32]) -> ImageDraft {
 }
 
 /// Chains and steps with one name.
-fn chains(chains: &[[u32; 6]], steps: &[[u32; 6]]) -> ImageDraft {
+fn chains(chains: &[[u32; CHAIN_WORDS]], steps: &[[u32; STEP_WORDS]]) -> ImageDraft {
     ImageDraft {
         names: vec![[0, 0]],
         chains: chains.to_vec(),
@@ -154,7 +156,7 @@ fn chains(chains: &[[u32; 6]], steps: &[[u32; 6]]) -> ImageDraft {
 }
 
 /// Tables of cases, with one constant.
-fn cases(tables: &[[u32; 4]], cases: &[[u32; 2]]) -> ImageDraft {
+fn cases(tables: &[[u32; SWITCH_WORDS]], cases: &[[u32; CASE_WORDS]]) -> ImageDraft {
     ImageDraft {
         constants: vec![[3, 5, 0]],
         tables: tables.to_vec(),
@@ -163,7 +165,7 @@ fn cases(tables: &[[u32; 4]], cases: &[[u32; 2]]) -> ImageDraft {
     }
 }
 
-fn ranges(tables: &[[u32; 4]], ranges: &[[u32; 6]]) -> ImageDraft {
+fn ranges(tables: &[[u32; SWITCH_WORDS]], ranges: &[[u32; RANGE_WORDS]]) -> ImageDraft {
     ImageDraft {
         tables: tables.to_vec(),
         ranges: ranges.to_vec(),
@@ -205,7 +207,7 @@ fn sizes(rows: &mut Rows) {
     rows.words("a word less: wrong (Sizes)", BARE, less, clause);
     rows.words("no words: wrong (Sizes)", BARE, vec![], clause);
     rows.words("eleven words: wrong (Sizes)", BARE, vec![0; 11], clause);
-    let twelve = vec![0; 12];
+    let twelve = vec![0; IMAGE_SIZES];
     let remains = Some(Clause::Remains);
     rows.words("twelve words: wrong (Remains)", BARE, twelve, remains);
     // Words of a row times the size are 0 to 32 bits.

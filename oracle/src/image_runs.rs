@@ -1,12 +1,14 @@
 //! Request A1 of document 02 by brute force, for small images: every run one
 //! by one, as 01 tells it, and for the other clauses a loop for each chain and
-//! step, and for each Switch and row. It writes the numbers out again and
-//! shares with the check only the names of the clauses.
+//! step, and for each Switch and row. It writes kinds and limits out again, and
+//! shares with the check only the names of the clauses and the widths of records.
 
 use std::collections::{BTreeSet, HashMap};
 
+use crate::format::{CASE_WORDS, CHAIN_WORDS, CONSTANT_WORDS, NAME_WORDS};
+use crate::format::{RANGE_WORDS, STEP_WORDS, SWITCH_WORDS};
 use crate::image_check::Clause;
-use crate::runs::{Instruction, Program};
+use crate::runs::{record, Instruction, Program};
 use crate::sheet::Sheet;
 
 /// The clauses that fail, as `image_check::failing` gives them, or none if the
@@ -83,7 +85,7 @@ fn words(sheet: &Sheet<'_>, program: &Program<'_>) -> BTreeSet<Clause> {
         }
     }
 
-    for constant in program.constants.chunks(3) {
+    for constant in program.constants.chunks(CONSTANT_WORDS) {
         match constant[0] {
             3 | 4 => (),
             5 => {
@@ -98,7 +100,7 @@ fn words(sheet: &Sheet<'_>, program: &Program<'_>) -> BTreeSet<Clause> {
             _ => bad(true, Clause::Kind),
         }
     }
-    for name in program.names.chunks(2) {
+    for name in program.names.chunks(NAME_WORDS) {
         bad(name[0] >= texts, Clause::SheetIndex);
         bad(name[1] > 1, Clause::Flag);
     }
@@ -109,7 +111,7 @@ fn words(sheet: &Sheet<'_>, program: &Program<'_>) -> BTreeSet<Clause> {
         bad(*residual as usize >= sheet.nodes, Clause::SheetIndex);
     }
 
-    for chain in program.chains.chunks(6) {
+    for chain in program.chains.chunks(CHAIN_WORDS) {
         match chain[0] {
             0 => {
                 bad(chain[1] >= locals, Clause::SheetIndex);
@@ -127,7 +129,7 @@ fn words(sheet: &Sheet<'_>, program: &Program<'_>) -> BTreeSet<Clause> {
             continue;
         }
         for step in first..first + steps {
-            let step = &program.steps[6 * step..6 * step + 6];
+            let step = record(program.steps, STEP_WORDS, step);
             let operands = u64::from(chain[5]);
             match step[0] {
                 0 => bad(u64::from(step[1]) >= operands, Clause::Operand),
@@ -139,7 +141,7 @@ fn words(sheet: &Sheet<'_>, program: &Program<'_>) -> BTreeSet<Clause> {
             }
         }
     }
-    for step in program.steps.chunks(6) {
+    for step in program.steps.chunks(STEP_WORDS) {
         match step[0] {
             0 => {
                 bad(step[2] > 1, Clause::Flag);
@@ -160,7 +162,7 @@ fn words(sheet: &Sheet<'_>, program: &Program<'_>) -> BTreeSet<Clause> {
         }
     }
 
-    for (index, table) in program.switches.chunks(4).enumerate() {
+    for (index, table) in program.switches.chunks(SWITCH_WORDS).enumerate() {
         bad(table[3] > count, Clause::End);
         let rows = match table[0] {
             0 => size(8),
@@ -189,11 +191,11 @@ fn words(sheet: &Sheet<'_>, program: &Program<'_>) -> BTreeSet<Clause> {
             }
         }
     }
-    for case in program.cases.chunks(2) {
+    for case in program.cases.chunks(CASE_WORDS) {
         bad(case[0] > count, Clause::End);
         bad(case[1] >= constants, Clause::PoolIndex);
     }
-    for range in program.ranges.chunks(6) {
+    for range in program.ranges.chunks(RANGE_WORDS) {
         bad(range[4] > 1, Clause::Flag);
         bad(range[5] > count, Clause::End);
     }

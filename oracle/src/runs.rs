@@ -6,6 +6,8 @@
 use std::collections::{HashMap, HashSet};
 
 use crate::format;
+use crate::format::{CASE_WORDS, CHAIN_WORDS, CODE_WORDS, CONSTANT_WORDS, IMAGE_SIZES};
+use crate::format::{NAME_WORDS, RANGE_WORDS, STEP_WORDS, SWITCH_WORDS};
 use crate::grain::stand_in::Marks;
 use crate::random::Random;
 use crate::sheet::{Node, Sheet};
@@ -62,6 +64,11 @@ pub(crate) struct Instruction {
     pub c: u32,
 }
 
+/// Record `index` of a section whose records have so many words.
+pub(crate) fn record(section: &[u32], words: usize, index: usize) -> &[u32] {
+    &section[words * index..words * (index + 1)]
+}
+
 impl<'i> Program<'i> {
     pub fn of(image: &'i [u32]) -> Result<Self, String> {
         let mut rest = image;
@@ -73,19 +80,19 @@ impl<'i> Program<'i> {
             rest = back;
             Ok(front)
         };
-        let sizes = part(12)?;
+        let sizes = part(IMAGE_SIZES)?;
         let size = |index: usize| sizes[index] as usize;
-        let code = part(4 * size(0))?;
+        let code = part(CODE_WORDS * size(0))?;
         let _positions = part(size(0))?;
-        let constants = part(3 * size(1))?;
-        let names = part(2 * size(2))?;
+        let constants = part(CONSTANT_WORDS * size(1))?;
+        let names = part(NAME_WORDS * size(2))?;
         let tokens = part(size(3))?;
         let residuals = part(size(4))?;
-        let chains = part(6 * size(5))?;
-        let steps = part(6 * size(6))?;
-        let switches = part(4 * size(7))?;
-        let cases = part(2 * size(8))?;
-        let ranges = part(6 * size(9))?;
+        let chains = part(CHAIN_WORDS * size(5))?;
+        let steps = part(STEP_WORDS * size(6))?;
+        let switches = part(SWITCH_WORDS * size(7))?;
+        let cases = part(CASE_WORDS * size(8))?;
+        let ranges = part(RANGE_WORDS * size(9))?;
         if !rest.is_empty() {
             return Err("the image is longer than its sizes".to_string());
         }
@@ -109,7 +116,7 @@ impl<'i> Program<'i> {
     }
 
     pub(crate) fn instruction(&self, place: usize) -> Instruction {
-        let words = &self.code[4 * place..4 * place + 4];
+        let words = record(self.code, CODE_WORDS, place);
         Instruction {
             kind: words[0],
             a: words[1],
@@ -132,7 +139,7 @@ impl<'i> Program<'i> {
             17 => pops = i64::from(op.a) + 1,
             21 => pops = i64::from(op.a),
             23 => {
-                let chain = &self.chains[6 * op.a as usize..6 * op.a as usize + 6];
+                let chain = record(self.chains, CHAIN_WORDS, op.a as usize);
                 pops = i64::from(chain[5]);
                 if chain[0] == 3 {
                     pops += 1;
@@ -151,9 +158,9 @@ impl<'i> Program<'i> {
     /// The target of a row of a table of this kind.
     pub(crate) fn row_target(&self, kind: u32, row: usize) -> u32 {
         if kind == 0 {
-            self.cases[2 * row]
+            self.cases[CASE_WORDS * row]
         } else {
-            self.ranges[6 * row + 5]
+            record(self.ranges, RANGE_WORDS, row)[5]
         }
     }
 
@@ -163,7 +170,7 @@ impl<'i> Program<'i> {
             8 => vec![op.a as usize],
             9..=11 => vec![op.a as usize, place + 1],
             15 => {
-                let table = &self.switches[4 * op.a as usize..4 * op.a as usize + 4];
+                let table = record(self.switches, SWITCH_WORDS, op.a as usize);
                 let (first, rows) = (table[1] as usize, table[2] as usize);
                 let mut ways = vec![table[3] as usize];
                 for row in first..first + rows {
@@ -177,18 +184,18 @@ impl<'i> Program<'i> {
 
     /// Where a Switch sends an integer.
     fn dispatch(&self, op: Instruction, subject: i64) -> usize {
-        let table = &self.switches[4 * op.a as usize..4 * op.a as usize + 4];
+        let table = record(self.switches, SWITCH_WORDS, op.a as usize);
         let (first, rows) = (table[1] as usize, table[2] as usize);
         let signed = |low: u32, high: u32| (u64::from(high) << 32 | u64::from(low)) as i64;
         for row in first..first + rows {
             if table[0] == 0 {
-                let at = 3 * self.cases[2 * row + 1] as usize;
-                let constant = &self.constants[at..at + 3];
+                let case = record(self.cases, CASE_WORDS, row);
+                let constant = record(self.constants, CONSTANT_WORDS, case[1] as usize);
                 if constant[0] == 3 && signed(constant[1], constant[2]) == subject {
-                    return self.cases[2 * row] as usize;
+                    return case[0] as usize;
                 }
             } else {
-                let words = &self.ranges[6 * row..6 * row + 6];
+                let words = record(self.ranges, RANGE_WORDS, row);
                 let from = signed(words[0], words[1]);
                 let to = signed(words[2], words[3]);
                 let inside = if words[4] == 1 {
@@ -242,7 +249,7 @@ impl<'i> Program<'i> {
             }
         }
         let mut first = 0;
-        for chain in self.chains.chunks(6) {
+        for chain in self.chains.chunks(CHAIN_WORDS) {
             let root = match chain[0] {
                 0 => (chain[1] as usize) < sheet.locals && chain[2] < size(2),
                 1 => chain[1] < size(2),
@@ -255,7 +262,7 @@ impl<'i> Program<'i> {
             }
             let mut operands = 0;
             for step in first..first + chain[4] {
-                let step = &self.steps[6 * step as usize..6 * step as usize + 6];
+                let step = record(self.steps, STEP_WORDS, step as usize);
                 let good = match step[0] {
                     0 => {
                         operands += 1;

@@ -30,7 +30,7 @@ fn is_stored(path: &str) -> bool {
         ["samples", _] => true,
         ["crates", _, "stdin" | "stdout" | "args"] => true,
         ["crates", _, "data", ..] => true,
-        ["crates", "agreement" | "made_rows", "specs", file] => {
+        ["crates", "test_agreement" | "test_image", "specs", file] => {
             file.starts_with("Table") || file.starts_with("Refused")
         }
         _ => false,

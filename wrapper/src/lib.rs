@@ -13,12 +13,17 @@ pub const MAX_EMITTED: usize = 262_143;
 /// The greatest count of nodes of a sheet.
 pub const MAX_NODES: usize = 131_072;
 
+/// Words of scratch for each emitted instruction, for each node, and besides.
+const PER_EMITTED: usize = 16;
+const PER_NODE: usize = 16;
+const BESIDES: usize = 4_096;
+
 /// The scratch that is enough for every sheet, in words.
 pub const SCRATCH_MOST: usize = scratch_words(MAX_EMITTED, MAX_NODES);
 
 /// The scratch for a sheet of so many nodes that emits so many instructions, in words.
 pub const fn scratch_words(emitted: usize, nodes: usize) -> usize {
-    16 * emitted + 16 * nodes + 4_096
+    PER_EMITTED * emitted + PER_NODE * nodes + BESIDES
 }
 
 mod sys {

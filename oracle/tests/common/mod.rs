@@ -1,8 +1,10 @@
 //! Sheets from words written out in the tests.
 #![allow(dead_code)]
 
-/// A sheet: nodes of six words, their positions, texts one after the other,
-/// locals.
+use oracle::format::NODE_WORDS;
+
+/// A sheet: nodes by their first six words, the rest of them 0, their
+/// positions, texts one after the other, locals.
 pub fn sheet(nodes: &[[u32; 6]], positions: &[u32], texts: &[&str], locals: &[u32]) -> Vec<u8> {
     assert_eq!(nodes.len(), positions.len());
     let bytes: Vec<u8> = texts.concat().into_bytes();
@@ -12,7 +14,10 @@ pub fn sheet(nodes: &[[u32; 6]], positions: &[u32], texts: &[&str], locals: &[u3
         bytes.len() as u32,
         locals.len() as u32,
     ];
-    words.extend(nodes.iter().flatten());
+    for node in nodes {
+        words.extend(node);
+        words.resize(words.len() + NODE_WORDS - node.len(), 0);
+    }
     words.extend(positions);
     let mut start = 0;
     for text in texts {
