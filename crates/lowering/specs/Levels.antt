@@ -1,4 +1,4 @@
--- The levels of the definition cut nothing off. On a sheet that the check of 1 to 8 lets through, more levels give the same, and each
+-- The levels of the definition cut nothing off. On a sheet that the check of 1 to 8 accepts, more levels give the same, and each
 -- definition that counts levels meets its own equation without them: it can be read as if there were none.
 use Prim.Native.Nat.{ℕ, _+_, _<_}
 use mathlib.Core.Path.{_≡_}

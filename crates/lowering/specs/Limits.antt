@@ -80,6 +80,6 @@ scratchBesides = 4096
 abbrev pub namesPerNode : ℕ
 namesPerNode = 3
 
--- greatest count of runs of a switch: so many pieces lie at and between the ends of all ranges
+-- greatest count of bands of a switch: so many pieces lie at and between the ends of all ranges
 abbrev pub maxBands : ℕ
 maxBands = 255

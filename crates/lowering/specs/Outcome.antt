@@ -55,7 +55,7 @@ lowered s imageLength scratchLength r =
           ]
     ]
 
--- a sheet that the check of 1 to 8 lets through is lowered
+-- a sheet that the check of 1 to 8 accepts is lowered
 unfoldable pub outcomeAfter : List ℕ → ℕ → ℕ → Verdict → Outcome
 outcomeAfter s imageLength scratchLength Accepted = lowered s imageLength scratchLength (lower s)
 outcomeAfter s imageLength scratchLength (Refused r) = refused r

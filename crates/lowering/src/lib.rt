@@ -41,5 +41,5 @@ pub const MAX_EMITTED: u64 = 262143;
 // Names that a node may give: the key of a name is this times the node plus the field.
 pub const NAMES_PER_NODE: u32 = 3;
 
-// Greatest count of runs of a switch.
+// Greatest count of bands of a switch.
 pub const MAX_BANDS: u32 = 255;

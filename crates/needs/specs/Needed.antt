@@ -32,7 +32,7 @@ neededBy s p =
       | false ↦ elim (ltb maxEmitted (p .emitted)) [ true ↦ Refused Emitted | false ↦ Scratch (scratchNeeded s p) ]
     ]
 
--- a sheet that the check of 1 to 8 lets through is lowered
+-- a sheet that the check of 1 to 8 accepts is lowered
 unfoldable pub neededAfter : List ℕ → Verdict → Need
 neededAfter s Verdicts.Accepted = neededBy s (lower s .pools)
 neededAfter s (Verdicts.Refused by) = Refused by

@@ -17,7 +17,7 @@ use write_rows::case_rows;
 use write_rows::range_rows;
 use write_rows::switch_rows;
 
-// How many cases and how many runs there may be.
+// How many cases and how many bands there may be.
 const CASES: usize = MAX_ENTRIES as usize;
 
 const RUNS: usize = MAX_BANDS as usize;
@@ -65,7 +65,7 @@ pub fn put_cases(image: &mut [u32], at: usize, flat: &[u32], n: usize) -> usize
     e
 }
 
-// The rows of `n` runs, by the flat table.
+// The rows of `n` bands, by the flat table.
 pub fn put_ranges(image: &mut [u32], at: usize, flat: &[u32], n: usize) -> usize
     ensures { λ r. ⌜ (n ≤ maxBands → Puts (now (image .entry)) (now (image .exit)) at r
         (rowsTo (rangeWordsIn (now (flat .entry))) n)) ⌝ }
