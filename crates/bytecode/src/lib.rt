@@ -1,4 +1,6 @@
 // The records of an image: instructions, chains and their steps, switch tables. specs/ gives the words of each.
+#![tactic(auto)]
+
 mod table;
 
 pub use table::{counted, effects, entry, kept};

@@ -1,4 +1,6 @@
 // Refusal 5: depth of the tree above its limit. At most as many levels of calls as the limit has.
+#![tactic(auto)]
+
 ghost use Rattle.std.specs.Prelude.{◌≡◌};
 ghost use Rattle.check_depth.specs.Depth as depths;
 

@@ -1,4 +1,6 @@
 // Refusal 4: a text or block number that does not exist.
+#![tactic(auto)]
+
 ghost use Rattle.std.specs.Prelude.{◌≡◌};
 ghost use Rattle.check_numbers.specs.Numbers as numbers;
 

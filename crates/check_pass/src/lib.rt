@@ -1,5 +1,7 @@
 // One pass over the nodes in order, with the open nodes on a stack. True only where nothing of refusals 2, 4 (of nodes), 5 and 8 holds;
 // where it says false, nothing is known.
+#![tactic(auto)]
+
 ghost use Rattle.std.specs.Prelude.{◌≡◌, true, not, ◌+◌, ◌*◌, ◌<◌, length};
 ghost use Rattle.text.specs.Keyword.{is_curry};
 ghost use Rattle.sheet.specs.Text.{text};

@@ -1,4 +1,6 @@
 // Refusal 2: node kind, shape or field wrong.
+#![tactic(auto)]
+
 ghost use Rattle.std.specs.Prelude.{◌≡◌, ◌+◌, ◌*◌, ◌<◌, ◌≤◌};
 ghost use Rattle.sheet.specs.Sections.{node_count};
 ghost use Rattle.sheet.specs.Node as nodes;

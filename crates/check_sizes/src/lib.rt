@@ -1,4 +1,6 @@
 // Refusal 1: length, padding or a size wrong.
+#![tactic(auto)]
+
 ghost use Rattle.std.specs.Prelude.{◌≡◌, ◌+◌, ◌*◌, ◌<◌};
 ghost use Rattle.sheet.specs.Sections.{end_at};
 ghost use Rattle.check_sizes.specs.Sizes as sizes;

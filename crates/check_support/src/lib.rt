@@ -1,4 +1,6 @@
 // Refusal 8: a kind that is known only to be refused; an FnCall `curry` with over one argument.
+#![tactic(auto)]
+
 ghost use Rattle.std.specs.Prelude.{◌≡◌};
 ghost use Rattle.check_support.specs.Support as support;
 

@@ -1,4 +1,6 @@
 // Refusals 6 and 7, of a Switch: too many entries; two cases of equal kind and value.
+#![tactic(auto)]
+
 ghost use Rattle.std.specs.Prelude.{◌≡◌, true, false, ℕ, ◌+◌, ◌<◌, ◌≤◌, length, get_or};
 ghost use Rattle.sheet.specs.Walk as walks;
 ghost use Rattle.check_switches.specs.Switch as switches;

@@ -3,6 +3,8 @@
 // eight times the text bytes. Longer texts overlap. So that the bytes are not read once for each text, they are taken in stretches of
 // 16,384, from the last to the first, and each block of 64 bytes of a stretch gets a mark: a place at the block's end, and how far whole
 // characters stand from there on. A text that starts in the stretch is read to the end of its first block, and goes on by its mark.
+#![tactic(auto)]
+
 ghost use Rattle.std.specs.Prelude.{◌≡◌, true, ◌+◌, ◌*◌, ◌^◌, ◌≤◌, ◌<◌, length};
 ghost use Rattle.words.specs.Count.{all_below};
 ghost use Rattle.text.specs.Utf8.{utf8};

@@ -1,4 +1,6 @@
 // The check of a sheet: refusals 1 to 8 in ascending number. Any bytes are answered, nothing is written, and no memory is used but locals.
+#![tactic(auto)]
+
 ghost use Rattle.std.specs.Prelude.{◌≡◌};
 ghost use Rattle.checks.specs.Checked as answers;
 ghost use Rattle.checks.specs.Rest.{rest_checked};

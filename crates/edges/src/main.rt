@@ -1,6 +1,7 @@
 // The edges of document 01: each sheet is made by `sheets`, lowered into buffers that hold noise, and answered by one line: the number, the
 // word count, a checksum of the image's room and one of the scratch, and for an image its twelve sizes. `oracle edges` prints the same from
 // its own sheets.
+#![tactic(auto)]
 ghost use Rattle.std.specs.Prelude.{◌-◌, get_or, ◌≡◌};
 ghost use Rattle.edges.specs.Sums as sums;
 

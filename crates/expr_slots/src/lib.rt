@@ -1,4 +1,5 @@
 // Locals by name: the last one with the name wins.
+#![tactic(auto)]
 ghost use Rattle.std.specs.Prelude.{◌≡◌, false, ◌<◌, ◌-◌, take, drop, length};
 ghost use Rattle.text.specs.Same.{same};
 ghost use Rattle.sheet.specs.Text as texts;

@@ -1,4 +1,6 @@
 // Ranges of numbers asked for their maximum, each in as many steps as a tree over the numbers is high.
+#![tactic(auto)]
+
 ghost use Rattle.std.specs.Prelude.{◌≡◌, ◌*◌, ◌≤◌, max, length};
 ghost use Rattle.image_maxima.specs.Tree.{Tree, Built, leaves_up_to};
 

@@ -1,6 +1,7 @@
 // The program `lower`, for each crate that runs it on a sheet of its own: `run` reads a sheet from standard input and prints
 // the words of its image, or `refused` and the number. The image and the scratch have 16,384 words each. An input of over
 // 65,536 bytes is refused with 1.
+#![tactic(auto)]
 ghost use Rattle.std.specs.Prelude.{length, ◌≡◌};
 
 use libc::{STDIN_FILENO, STDOUT_FILENO};

@@ -1,5 +1,6 @@
 // The definition of the lowering stands in specs/. Here are its numbers for the code, as specs/Limits.antt has them; those of
 // the scratch that is asked for are in crate needs.
+#![tactic(auto)]
 
 // Words before the image's sections: the twelve sizes.
 pub const SIZES: usize = 12;

@@ -1,4 +1,6 @@
 // Why something is refused: the refusals of documents 01 and 02, in one type.
+#![tactic(auto)]
+
 ghost use Rattle.std.specs.Prelude.{◌≡◌};
 ghost use Rattle.refusals.specs.Refusal.{refusal_number};
 

@@ -1,6 +1,7 @@
 // Replays image checks of the oracle. Standard input holds the count of sheets, then for each: its length in bytes, the count of its
 // records, the sheet padded with zeros to a word, and the records. A record is the image's length in words, the scratch's, the expected
 // number, and the image. Compares the number and every word of the scratch. Prints how many records were the same, and how many were not.
+#![tactic(auto)]
 ghost use Rattle.std.specs.Prelude.{◌≤◌, length, ◌≡◌};
 
 use image_check::check_image;

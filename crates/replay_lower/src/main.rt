@@ -2,6 +2,7 @@
 // room, the expected number, the word count, that many image words, the sheet's length in bytes, and the sheet padded with zeros to a word.
 // Compares the answer, every word of the image's room, every word of the scratch, and what the sheet is said to need. Prints how many
 // records were the same, and how many were not.
+#![tactic(auto)]
 ghost use Rattle.std.specs.Prelude.{◌≤◌, ◌<◌, length, get_or, eqb, ◌≡◌};
 ghost use Rattle.words.specs.Count.{all_below};
 ghost use Rattle.replay_lower.specs.Left as left;

@@ -1,4 +1,6 @@
 // What the programs that replay answers of the oracle share: reading a record, noise in lent buffers, and a line of the result.
+#![tactic(auto)]
+
 ghost use Rattle.std.specs.Prelude.{◌-◌, ◌≤◌, length, get_or, eqb, ◌≡◌, true};
 ghost use Rattle.words.specs.Count.{all_below};
 ghost use Rattle.replay_records.specs.Left as left;

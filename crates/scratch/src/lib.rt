@@ -1,5 +1,6 @@
 // The lent scratch, in words: reads and writes that answer at every place, and where each list lies (specs/Places.antt has the same for the
 // contracts). Places of an index are words, so their sums never wrap; within the format's limits none is cut off.
+#![tactic(auto)]
 ghost use Rattle.std.specs.Prelude.{◌≡◌, ◌+◌, ◌<◌, ◌%◌, min, set, get_or};
 ghost use Rattle.scratch.specs.Clear.{cleared};
 ghost use Rattle.scratch.specs.Places as places;

@@ -1,5 +1,7 @@
 // The sheet: its sizes, nodes, positions, texts and locals. Every number is answered, also one that the sheet does not have: what lies
 // past the end reads as 0, and a text is cut to the sheet.
+#![tactic(auto)]
+
 ghost use Rattle.std.specs.Prelude.{◌≡◌, ◌+◌, ◌*◌, ◌<◌, ◌≤◌, length};
 ghost use Rattle.sheet.specs.Sections.{node_count, text_count, byte_count, local_count, positions_at, starts_at, lengths_at, bytes_at};
 ghost use Rattle.sheet.specs.Sections.{locals_at};

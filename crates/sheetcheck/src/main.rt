@@ -1,4 +1,5 @@
 // Reads a sheet from standard input and prints `accepted`, or `refused` and the number. A sheet of over 65,536 bytes is refused with 1.
+#![tactic(auto)]
 use libc::{STDIN_FILENO, STDOUT_FILENO};
 use refusals::{Refusal, refusal_number};
 

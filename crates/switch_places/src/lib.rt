@@ -1,6 +1,7 @@
 // The plan of a switch: the flat table is read from the sheet, then each chain and each body is counted and gets its place. The guard of
 // a block is counted once, however many lists name it; the chain of a list once, however many cases and bands have it. `told` says which
 // Variables are locals (expr_count::locals).
+#![tactic(auto)]
 ghost use Rattle.std.specs.Prelude.{◌≡◌, ℕ, ◌+◌, ◌-◌, ◌<◌, ◌≤◌, false, List, length};
 ghost use Rattle.sheet.specs.Node.{kind as kind_of};
 ghost use Rattle.checks.specs.Checked.{verdict_number, checked};

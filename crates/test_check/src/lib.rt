@@ -1,1 +1,2 @@
 // The rows of the sheet check are theorems, in specs/.
+#![tactic(auto)]

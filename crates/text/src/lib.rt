@@ -1,4 +1,6 @@
 // Texts as byte strings: equality, the four keywords, and well-formed UTF-8.
+#![tactic(auto)]
+
 ghost use Rattle.std.specs.Prelude.{◌≡◌, ◌+◌, ◌^◌, ◌≤◌, ◌<◌, length, drop};
 ghost use Rattle.text.specs.Same.{same};
 ghost use Rattle.text.specs.Eight.{from_four, four_at, eight_at, block_same, Agree};

@@ -1,4 +1,5 @@
 // What a lowering answers, and the image of an expression. Refusals 1 to 11 are found without touching a buffer.
+#![tactic(auto)]
 ghost use Rattle.std.specs.Prelude.{◌≡◌, length};
 ghost use Rattle.checks.specs.Checked as Checked;
 ghost use Rattle.sheet.specs.Node as nodes;

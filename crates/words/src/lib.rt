@@ -1,5 +1,7 @@
 // Bytes and little-endian 32-bit words of a byte string. Every index is answered: a byte past the end, and a word that is not
 // there whole, reads as 0.
+#![tactic(auto)]
+
 ghost use Rattle.std.specs.Prelude.{◌≡◌, ◌+◌, ◌*◌, ◌<◌, ◌≤◌, length, take, drop};
 ghost use Rattle.words.specs.Word.{byte_of, from_bytes, word};
 

@@ -1,4 +1,6 @@
 // Lent words set to 0.
+#![tactic(auto)]
+
 ghost use Rattle.zeros.specs.Zeros.{Zeroed};
 
 // Every word of `out` becomes 0.

@@ -1,0 +1,8 @@
+-- `check_pass::child_words` meets its contract.
+use Rattle.check_pass.proofs.WordLaws.{words-child}
+use Rattle.check_pass.proofs.child_words.Goals as goal
+
+pub returns : goal.returns
+returns c h =
+    let a = c.args in
+    words-child a.p a.a a.b a.e a.i a.j a.k a.w c.child_ok.ensures h

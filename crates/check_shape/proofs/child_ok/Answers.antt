@@ -1,0 +1,9 @@
+-- `check_shape::child_ok` meets its contract: the tests are the definition's.
+use Rattle.check_shape.proofs.ReadLaws.{fits_read}
+use Rattle.check_shape.proofs.child_ok.Goals as goal
+
+pub returns : goal.returns
+returns c =
+    let a = c.args in
+    fits_read a.sheet.now a.p a.a a.b a.e a.i a.j c.span-w.ensures c.kind.ensures
+    c.child_kind.ensures

@@ -1,0 +1,15 @@
+-- `text::char_len` meets its contract. The loop's invariant: what is left to read, the tail bytes from k on, gives the length.
+-- Assumes nothing.
+use Prim.Native.Nat.{◌+◌, ◌-◌, ◌≤◌}
+use mathlib.Core.Path.{◌≡◌}
+use lib.ListN.{drop}
+use Rattle.text.specs.Char.{char_length}
+use Rattle.text.proofs.CharLaws.{char_left}
+use Rattle.text.proofs.char_len.Given as goal
+
+abbrev pub invariant-loop-k : goal.invariant-loop-k
+invariant-loop-k l =
+    (l.k ≤ l.n) × (char_left l.s (l.n - l.k) l.low l.high (l.i + 1 + l.k) (l.n + 1) ≡ char_length (drop l.i l.s))
+
+abbrev pub decreases-loop-k : goal.decreases-loop-k
+decreases-loop-k l = l.n - l.k
