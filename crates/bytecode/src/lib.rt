@@ -6,7 +6,7 @@ mod table;
 pub use table::{counted, effects, entry, kept};
 
 // Where CallRef finds the variable that it calls through.
-#[derive(Drop)]
+#[derive(Clone, Copy)]
 pub enum Receiver {
     Local(u32),
     Named(u32),
@@ -15,7 +15,7 @@ pub enum Receiver {
 
 // An instruction. Indexes are into the pools, targets are instruction numbers; `op` is a token's index plus 1, or 0; `capture` and
 // `Bool` hold 0 or 1.
-#[derive(Drop)]
+#[derive(Clone, Copy)]
 pub enum Op {
     Const(u32),
     Unit,
@@ -56,7 +56,7 @@ pub enum Op {
 }
 
 // Where a chain starts.
-#[derive(Drop)]
+#[derive(Clone, Copy)]
 pub enum Root {
     Local { slot: u32, name: u32 },
     Named { name: u32, pos: u32 },
@@ -65,7 +65,7 @@ pub enum Root {
 }
 
 // One step along a chain. `flags` is 1 where the step is skipped on a unit receiver.
-#[derive(Drop)]
+#[derive(Clone, Copy)]
 pub enum Step {
     Index {
         operand: u32,
@@ -90,7 +90,7 @@ pub enum Step {
 }
 
 // A chain: its root, its part of the steps, and how many operands the steps take.
-#[derive(Drop)]
+#[derive(Clone, Copy)]
 pub struct Chain {
     pub root: Root,
     pub first: u32,
@@ -99,7 +99,7 @@ pub struct Chain {
 }
 
 // A switch table: `ranged` is 0 for rows of cases, 1 for rows of ranges.
-#[derive(Drop)]
+#[derive(Clone, Copy)]
 pub struct Switch {
     pub ranged: u32,
     pub first: u32,
@@ -108,14 +108,14 @@ pub struct Switch {
 }
 
 // A row of cases: where it goes, and the constant that it is for.
-#[derive(Drop)]
+#[derive(Clone, Copy)]
 pub struct SwitchCase {
     pub target: u32,
     pub constant: u32,
 }
 
 // A row of ranges: the 64 bits of both ends, whether the upper one is included, and where the row goes.
-#[derive(Drop)]
+#[derive(Clone, Copy)]
 pub struct SwitchRange {
     pub from: u64,
     pub to: u64,

@@ -22,7 +22,7 @@ use words::whole;
 const ANY: u32 = 0xffff_ffff;
 
 // The six words of a node.
-#[derive(Drop)]
+#[derive(Clone, Copy)]
 struct Six {
     k: u32,
     w: u32,

@@ -142,7 +142,7 @@ fn restart(b: &[u8], p: usize) -> usize
 }
 
 // Two places between which there are whole characters.
-#[derive(Drop)]
+#[derive(Clone, Copy)]
 struct Far(usize, usize);
 
 // The end of the bytes, twice.

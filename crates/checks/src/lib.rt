@@ -16,7 +16,7 @@ use check_texts::texts_ok;
 use refusals::{Refusal, refusal_number};
 
 // What is answered: nothing refuses, or the first cause that fits.
-#[derive(Drop)]
+#[derive(Clone, Copy)]
 pub enum Verdict {
     Accepted,
     Refused(Refusal),

@@ -30,14 +30,14 @@ use sheet::{child, count, field_a, field_b, field_c, kind, position, start_of};
 use text::same_bytes;
 
 // How many links a chain has, and how many operands their steps take.
-#[derive(Drop)]
+#[derive(Clone, Copy)]
 struct Counts {
     pub links: u32,
     pub operands: u32,
 }
 
 // Whether each link of a chain has a step, whether each step lowers, and how many operands the steps take.
-#[derive(Drop)]
+#[derive(Clone, Copy)]
 pub struct Far {
     pub flattens: bool,
     pub lowers: bool,

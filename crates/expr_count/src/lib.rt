@@ -59,7 +59,7 @@ fn coalesce(levels: u32, sheet: &[u8], told: &[u32], j: u32) -> Tally
 }
 
 // The operands of a chain's links, up to one that does not lower, and how far the chain comes with all its links (links::reach).
-#[derive(Drop)]
+#[derive(Clone, Copy)]
 struct Walked {
     sum: Tally,
     far: u32,

@@ -11,7 +11,7 @@ use sheet::limits::MAX_DEPTH;
 use sheet::{child, count, kind};
 
 // The `n` operands from node `from` on of a link's step; a method that does not lower; no step at all.
-#[derive(Drop)]
+#[derive(Clone, Copy)]
 pub enum Link {
     Lowers { n: u32, from: u32 },
     Fails,

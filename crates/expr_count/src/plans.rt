@@ -12,7 +12,7 @@ use lowering::MAX_ELEMENTS;
 use sheet::{child, count, next};
 
 // `n` siblings from node `from` on, each with `gap` instructions behind it, and `rest` besides; or a construct with a rule of its own.
-#[derive(Drop)]
+#[derive(Clone, Copy)]
 pub enum Plan {
     Parts {
         gap: u32,

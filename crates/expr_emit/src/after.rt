@@ -13,7 +13,7 @@ use scratch_store::emit;
 use scratch_store::states::COUNTS;
 
 // Nothing; CheckSize; InterpolateAppend; the jump of And (`stop` 0) or Or (1); SkipIfNotUnit and Pop.
-#[derive(Drop)]
+#[derive(Clone, Copy)]
 pub enum After {
     Nothing,
     CheckPlace,

@@ -31,7 +31,7 @@ use sheet::kinds::{THIS, VARIABLE};
 use sheet::{child, count, field_b, next, position};
 
 // The ways of a call: `Fn`; `call`; through a local, a name, `this`; of values; `eval`; kept as it is.
-#[derive(Drop)]
+#[derive(Clone, Copy)]
 pub enum Way {
     FnPtr,
     FnPtrCall,

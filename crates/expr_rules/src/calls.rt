@@ -9,7 +9,7 @@ use sheet::kinds::{THIS, VARIABLE};
 use sheet::{child, count, field_a, field_b, field_c, kind};
 
 // Which rule lowers a call: `Fn`, `call`, generic dispatch, `eval`; or the call is kept.
-#[derive(Drop)]
+#[derive(Clone, Copy)]
 pub enum CallRule {
     FnPtr,
     FnPtrCall,
@@ -19,7 +19,7 @@ pub enum CallRule {
 }
 
 // What the first argument is: a variable by slot or by name, `this`, or a value (or there is none).
-#[derive(Drop)]
+#[derive(Clone, Copy)]
 pub enum First {
     Local(u32),
     Named,

@@ -11,7 +11,7 @@ use sheet::kinds::{DOT, INDEX, METHOD_CALL, PROPERTY};
 use sheet::{child, count, field_a, kind, next};
 
 // What step a link has. A dot onto anything but a property or a method has none.
-#[derive(Drop)]
+#[derive(Clone, Copy)]
 pub enum StepRule {
     Index,
     Property,
@@ -20,7 +20,7 @@ pub enum StepRule {
 }
 
 // What a link says: whether the rest is a link too, the rest, the node that the step is taken with, the step, flag NEGATED (0 or 1).
-#[derive(Drop)]
+#[derive(Clone, Copy)]
 pub struct Read {
     pub on: bool,
     pub rest: u32,

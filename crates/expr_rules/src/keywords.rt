@@ -8,7 +8,7 @@ use lowering::MAX_ARGS;
 use text::{is_call, is_curry, is_eval, is_fn};
 
 // A name with a meaning of its own, or any other.
-#[derive(Drop)]
+#[derive(Clone, Copy)]
 pub enum Keyword {
     Fn,
     Call,

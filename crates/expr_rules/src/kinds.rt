@@ -1,7 +1,7 @@
 // The rules by kind.
 
 // How a node is lowered. A kind without a rule stays a residual.
-#[derive(Drop)]
+#[derive(Clone, Copy)]
 pub enum Rule {
     Boolean,
     Unit,

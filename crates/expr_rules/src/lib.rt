@@ -1,5 +1,6 @@
 // Which rule lowers a node, a call and a link of a chain. Nothing here goes down into operands.
 #![tactic(auto)]
+
 ghost use Rattle.std.specs.Prelude.{◌≡◌};
 ghost use Rattle.lowering.specs.Expression as expressions;
 ghost use Rattle.expr_rules.specs.Answers as answers;

@@ -1,5 +1,6 @@
 // Locals by name: the last one with the name wins.
 #![tactic(auto)]
+
 ghost use Rattle.std.specs.Prelude.{◌≡◌, false, ◌<◌, ◌-◌, take, drop, length};
 ghost use Rattle.text.specs.Same.{same};
 ghost use Rattle.sheet.specs.Text as texts;
@@ -14,7 +15,7 @@ use text::same_bytes;
 use words::{byte, part, word_at};
 
 // The number of a local, or none.
-#[derive(Drop)]
+#[derive(Clone, Copy)]
 pub enum Found {
     At(u32),
     Nothing,

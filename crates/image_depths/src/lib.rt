@@ -22,7 +22,7 @@ use lowering::{CHAIN_WIDTH, OP_WIDTH, SIZES};
 use zeros::zero;
 
 // An instruction: its word a, where it goes, and what it pushes, pops and needs to find.
-#[derive(Drop)]
+#[derive(Clone, Copy)]
 struct Code {
     pub a: u32,
     pub flow: u32,

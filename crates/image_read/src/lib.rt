@@ -1,5 +1,6 @@
 // An image read word by word: any word, where each section starts, and the targets of rows.
 #![tactic(auto)]
+
 ghost use Rattle.std.specs.Prelude.{◌≡◌, ◌+◌, ◌*◌, ◌≤◌};
 ghost use Rattle.lowering.specs.Limits.{range_width};
 ghost use Rattle.lowering.specs.Words as words;

@@ -14,7 +14,7 @@ use lowering::{CASE_WIDTH, RANGE_TARGET, RANGE_WIDTH, SWITCH_WIDTH};
 
 // Of the image's sizes: how many places, tables, cases and ranges there are, and where chains, tables, cases (`rows`) and ranges
 // (`spans`) start.
-#[derive(Drop)]
+#[derive(Clone, Copy)]
 pub struct Starts {
     pub places: u32,
     pub tables: u32,

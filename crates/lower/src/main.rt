@@ -1,5 +1,5 @@
 // Lowers the sheet on standard input; the gate runs it on samples/port.sheet, a switch.
 #![tactic(auto)]
-fn main() {
-    lower_io::run();
+fn main(rt: HostRuntime) -> std::io::Result<()> {
+    lower_io::run(&rt)
 }

@@ -4,8 +4,9 @@
 #![tactic(auto)]
 ghost use Rattle.std.specs.Prelude.{length, ◌≡◌};
 
-use libc::{STDIN_FILENO, STDOUT_FILENO};
+use input::{more, read_full};
 use refusals::{Refusal, refusal_number};
+use std::io;
 use to_image::{Answer, lower};
 
 // Zeros for the image or the scratch.
@@ -15,55 +16,44 @@ fn room() -> [u32; 16384]
     [0; 16384]
 }
 
-// Whether standard input has a byte left.
-fn more() -> bool {
-    let mut one = [0u8; 1];
-    io::read_full(STDIN_FILENO, &mut one) != 0
-}
-
-fn print_refusal(number: u32) {
-    io::write_all(STDOUT_FILENO, b"refused ");
-    io::print_decimal(STDOUT_FILENO, number as u64);
-    io::write_all(STDOUT_FILENO, b"\n");
+fn print_refusal(rt: &impl Print, number: u32) -> io::Result<()> {
+    println!(rt; "refused {number}")
 }
 
 // Word `i` of a line: a space stands before each but the first.
-fn print_word(i: usize, word: u32) {
+fn print_word(rt: &impl Print, i: usize, word: u32) -> io::Result<()> {
     if i != 0 {
-        io::write_all(STDOUT_FILENO, b" ");
+        print!(rt; " ")?;
     }
-    io::print_decimal(STDOUT_FILENO, word as u64);
+    print!(rt; "{word}")
 }
 
-fn print_words(words: &[u32]) {
+fn print_words(rt: &impl Print, words: &[u32]) -> io::Result<()> {
     let mut i = 0;
     while i < words.len() {
-        print_word(i, words[i]);
+        print_word(rt, i, words[i])?;
         i += 1;
     }
-    io::write_all(STDOUT_FILENO, b"\n");
+    println!(rt;)
 }
 
 // Lowers `sheet` and prints the answer.
-fn answer(sheet: &[u8], image: &mut [u32], scratch: &mut [u32]) {
+fn answer(rt: &impl Print, sheet: &[u8], image: &mut [u32], scratch: &mut [u32]) -> io::Result<()> {
     match lower(sheet, image, scratch) {
-        Answer::Lowered { words } => {
-            print_words(&image[..words]);
-        }
-        Answer::Refused { by } => {
-            print_refusal(refusal_number(by));
-        }
+        Answer::Lowered { words } => print_words(rt, &image[..words]),
+        Answer::Refused { by } => print_refusal(rt, refusal_number(by)),
     }
 }
 
-pub fn run() {
-    let mut sheet = io::large_buffer();
-    let n = io::read_full(STDIN_FILENO, &mut sheet);
-    if more() {
-        print_refusal(refusal_number(Refusal::Size));
-        return;
+// What the program does, with the runtime that it is given.
+pub fn run(rt: &(impl Input + Print)) -> io::Result<()> {
+    let mut reader = rt.reader();
+    let mut sheet = [0u8; 65536];
+    let n = read_full(&mut reader, &mut sheet)?;
+    if more(&mut reader)? {
+        return print_refusal(rt, refusal_number(Refusal::Size));
     }
     let mut image = room();
     let mut scratch = room();
-    answer(&sheet[..n], &mut image, &mut scratch);
+    answer(rt, &sheet[..n], &mut image, &mut scratch)
 }

@@ -1,5 +1,5 @@
 // The program `lower` on a sheet that is refused: two equal cases, so 7.
 #![tactic(auto)]
-fn main() {
-    lower_io::run();
+fn main(rt: HostRuntime) -> std::io::Result<()> {
+    lower_io::run(&rt)
 }

@@ -168,7 +168,7 @@ module _ (s : List ℕ) (rec : Rec) (M : Meets rec) (def : ℕ) (l : SwitchLaid)
     where
       by : (n : ℕ) → def ≡ n → Tells run (default_at def l) u (default_events def)
       by zero q = subst (λ (n : ℕ). Tells run (default_at n l) u (default_events n)) (sym q) (missing-tells q u)
-      by (suc k) q = subst (λ (n : ℕ). Tells run (default_at n l) u (default_events n)) (sym q) (body-reaches k (Y.default-Body k q) u)
+      by (suc k) q = subst (λ (n : ℕ). Tells run (default_at n l) u (default_events n)) (sym q) (body-reaches k (Y.default_body k q) u)
 
   -- a table whose fallback tells `after` tells what each of its lists says
   table-tells : (after : ℕ → List Event) (fb b : ℕ) (arms : List Arm) → ((u : ℕ) → Tells run fb u (after u))

@@ -182,7 +182,7 @@ module _ (s : List ℕ) (rec : Rec) (V' : ℕ → Type 0) (K : Links rec V') (l 
           ranges-reached.1 closed
       by (suc k) q =
           subst for (sym q)
-          (λ r c. given-reached s rec hs V' K in_context R k l.bodies_place (end_at (suc k) l) l.bodies (Y.default-Body k q)
+          (λ r c. given-reached s rec hs V' K in_context R k l.bodies_place (end_at (suc k) l) l.bodies (Y.default_body k q)
           Y.out.bodies-lowered body-met refl c)
           ranges-reached.1 closed
 

@@ -77,18 +77,18 @@ module _ (s : List ℕ) (rec : Rec) (hs : List Chain) (l : SwitchLaid) (L : Laid
   pub case-names : ArmNames (λ (k : ℕ). HasBody k l.bodies) l.case_arms
   case-names =
       named-wanted (λ (k : ℕ). k < block_count s) (λ (k : ℕ). HasBody k l.bodies) l.case_arms case-named
-      (λ k h lt. L.Body-has k lt
+      (λ k h lt. L.body_has k lt
       (or_right (eqb (default_block s) (suc k)) (wanted k (l.case_arms ++ l.range_arms)) (wanted-left k l.case_arms l.range_arms h)))
 
   pub range-names : ArmNames (λ (k : ℕ). HasBody k l.bodies) l.range_arms
   range-names =
       named-wanted (λ (k : ℕ). k < block_count s) (λ (k : ℕ). HasBody k l.bodies) l.range_arms range-named
-      (λ k h lt. L.Body-has k lt (or_right (eqb (default_block s) (suc k)) (wanted k (l.case_arms ++ l.range_arms))
+      (λ k h lt. L.body_has k lt (or_right (eqb (default_block s) (suc k)) (wanted k (l.case_arms ++ l.range_arms))
       (wanted-right k l.case_arms l.range_arms h)))
 
   -- so has the default
   pub default-has : (k : ℕ) → default_block s ≡ suc k → HasBody k l.bodies
   default-has k h =
       let le = B.default-exists in
-      L.Body-has k (omega arith)
+      L.body_has k (omega arith)
       (or_left (eqb (default_block s) (suc k)) (wanted k (l.case_arms ++ l.range_arms)) (eq-eqb (default_block s) (suc k) h))

@@ -112,7 +112,7 @@ entry-falls fb b to_fallback h = tt
 
 arms-fall : (fb b : ℕ) (arms : List Arm) → AllJump arms → FallTo fb b arms
 arms-fall fb b [] h = tt
-arms-fall fb b (a ∷ arms) h = (entry-falls fb b a.entry h.0, arms-fall fb _ arms h.1)
+arms-fall fb b (a ∷ arms) h = (entry-falls fb b a.entry h.0, arms-fall fb (b + entry_extent a.entry) arms h.1)
 
 drop-entry-falls : (fb b : ℕ) (e : Entry) → b + entry_extent (drop_entry e) ≡ fb → FallsTo fb b (drop_entry e)
 unfolding drop_entry drop_end entry_extent end_extent
@@ -133,7 +133,7 @@ drop-fall fb b (a ∷ arms) h q = by (eqb (arms_extent arms) 0) refl (drop-fall 
         → b + arms_extent (drop_idle_jump (a ∷ arms)) ≡ fb → FallTo fb b (drop_idle_jump (a ∷ arms))
     by true z f =
         rw (drop_here a arms z)
-        (λ q'. let z' = eqb-true (arms_extent arms) 0 z in (drop-entry-falls fb b a.entry (omega arith), arms-fall fb _ arms h.1))
+        (λ q'. let z' = eqb-true (arms_extent arms) 0 z in (drop-entry-falls fb b a.entry (omega arith), arms-fall fb (b + entry_extent (drop_entry a.entry)) arms h.1))
     by false z f = rw (drop-later a arms z) (λ q'. (entry-falls fb b a.entry h.0, f (omega arith)))
 
 -- ---- each arm stands

@@ -26,7 +26,7 @@ use switch_places::{count, read};
 use switch_tables::SIZE;
 
 // What a sheet needs: so many words of scratch; or it is refused, whatever is lent.
-#[derive(Drop)]
+#[derive(Clone, Copy)]
 pub enum Need {
     Scratch { words: u64 },
     Refused { by: Refusal },

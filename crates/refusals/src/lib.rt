@@ -6,7 +6,7 @@ ghost use Rattle.refusals.specs.Refusal.{refusal_number};
 
 // The cause: in the sheet (Size to Unsupported), of its lowering (Eval, Emitted), in a lent buffer (ScratchShort,
 // ImageLong), in a lent image (IllMade).
-#[derive(Drop)]
+#[derive(Clone, Copy)]
 pub enum Refusal {
     Size,
     Shape,

@@ -1,6 +1,7 @@
 // Replays answers of the oracle. Standard input holds the count of records, then each record: the expected number, the sheet's length in
 // bytes, and the sheet padded with zeros to a word. Prints how many answers were the same, and how many were not.
 #![tactic(auto)]
+
 ghost use Rattle.std.specs.Prelude.{◌≤◌};
 
 use replay_records::{fill, print_result};

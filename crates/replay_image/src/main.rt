@@ -75,7 +75,7 @@ fn agreeing(sheet: &[u8], most: u32) -> u32
 }
 
 // How many records of the next sheet there are, and how many agree.
-#[derive(Drop)]
+#[derive(Clone, Copy)]
 struct Counted {
     same: u32,
     most: u32,

@@ -1,20 +1,23 @@
 // What the programs that replay answers of the oracle share: reading a record, noise in lent buffers, and a line of the result.
 #![tactic(auto)]
 
-ghost use Rattle.std.specs.Prelude.{◌-◌, ◌≤◌, length, get_or, eqb, ◌≡◌, true};
+ghost use Rattle.std.specs.Prelude.{◌-◌, ◌≤◌, length, get_or, eqb, ◌≡◌, true, IfOk};
 ghost use Rattle.words.specs.Count.{all_below};
 ghost use Rattle.replay_records.specs.Left as left;
 
-use libc::{STDIN_FILENO, STDOUT_FILENO};
+use input::read_full;
+use std::io;
+use std::io::Read;
 
 // Reads `n` bytes to the start of `buf`, and answers whether they were there.
-pub fn fill(buf: &mut [u8], n: usize) -> bool
-    ensures { result ≡ true → n ≤ length buf.old }
+pub fn fill<R: Read>(reader: &mut R, buf: &mut [u8], n: usize) -> io::Result<bool>
+    ensures { IfOk result (λ there. there ≡ true → n ≤ length buf.old) }
 {
     if n <= buf.len() {
-        return io::read_full(STDIN_FILENO, &mut buf[..n]) == n;
+        let got = read_full(reader, &mut buf[..n])?;
+        return Ok(got == n);
     }
-    false
+    Ok(false)
 }
 
 // What stands in word `i` of a buffer before it is lent.
@@ -67,13 +70,8 @@ fn rest(most: u64, same: u64) -> u64
 }
 
 // Prints how many records were the same, and how many of `most` were not.
-pub fn print_result(same: u64, most: u64) {
-    print(b"same ", same);
-    print(b"different ", rest(most, same));
-}
-
-fn print(label: &[u8], count: u64) {
-    io::write_all(STDOUT_FILENO, label);
-    io::print_decimal(STDOUT_FILENO, count);
-    io::write_all(STDOUT_FILENO, b"\n");
+pub fn print_result(rt: &impl Print, same: u64, most: u64) -> io::Result<()> {
+    let different = rest(most, same);
+    println!(rt; "same {same}")?;
+    println!(rt; "different {different}")
 }

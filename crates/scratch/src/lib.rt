@@ -1,6 +1,7 @@
 // The lent scratch, in words: reads and writes that answer at every place, and where each list lies (specs/Places.antt has the same for the
 // contracts). Places of an index are words, so their sums never wrap; within the format's limits none is cut off.
 #![tactic(auto)]
+
 ghost use Rattle.std.specs.Prelude.{◌≡◌, ◌+◌, ◌<◌, ◌%◌, min, set, get_or};
 ghost use Rattle.scratch.specs.Clear.{cleared};
 ghost use Rattle.scratch.specs.Places as places;
@@ -8,14 +9,14 @@ ghost use Rattle.scratch.specs.Places as places;
 use lowering::{CODE_WIDTH, OP_WIDTH};
 
 // How many instructions may be emitted, and how many nodes the sheet has.
-#[derive(Drop)]
+#[derive(Clone, Copy)]
 pub struct Layout {
     pub most: u32,
     pub nodes: u32,
 }
 
 // An index of keys: where its heads start and how many there are, where the keys and where the links start.
-#[derive(Drop)]
+#[derive(Clone, Copy)]
 pub struct Index {
     pub heads: u32,
     pub count: u32,

@@ -48,7 +48,7 @@ const NO_TEXT: u32 = 4294967295;
 // What the scratch holds: how many instructions stand, how many entries each pool has, how many instructions were emitted, the depth at the
 // next instruction, the greatest depth before an instruction that stands (1 where none does), the layout, and how many steps the chains
 // have. While it is filled, these counts stand in a lent array.
-#[derive(Drop)]
+#[derive(Clone, Copy)]
 pub struct State {
     pub code: u32,
     pub consts: u32,

@@ -1,30 +1,23 @@
 // Reads a sheet from standard input and prints `accepted`, or `refused` and the number. A sheet of over 65,536 bytes is refused with 1.
 #![tactic(auto)]
-use libc::{STDIN_FILENO, STDOUT_FILENO};
+
+use input::{more, read_full};
 use refusals::{Refusal, refusal_number};
+use std::io;
 
-fn answer(number: u32) {
+fn answer(rt: &impl Print, number: u32) -> io::Result<()> {
     if number == 0 {
-        io::write_all(STDOUT_FILENO, b"accepted\n");
-        return;
+        return println!(rt; "accepted");
     }
-    io::write_all(STDOUT_FILENO, b"refused ");
-    io::print_decimal(STDOUT_FILENO, number as u64);
-    io::write_all(STDOUT_FILENO, b"\n");
+    println!(rt; "refused {number}")
 }
 
-// Whether standard input has a byte left.
-fn more() -> bool {
-    let mut one = [0u8; 1];
-    io::read_full(STDIN_FILENO, &mut one) != 0
-}
-
-fn main() {
-    let mut sheet = io::large_buffer();
-    let n = io::read_full(STDIN_FILENO, &mut sheet);
-    if more() {
-        answer(refusal_number(Refusal::Size));
-        return;
+fn main(rt: HostRuntime) -> io::Result<()> {
+    let mut reader = rt.reader();
+    let mut sheet = [0u8; 65536];
+    let n = read_full(&mut reader, &mut sheet)?;
+    if more(&mut reader)? {
+        return answer(&rt, refusal_number(Refusal::Size));
     }
-    answer(checks::number(checks::check(&sheet[..n])));
+    answer(&rt, checks::number(checks::check(&sheet[..n])))
 }

@@ -31,7 +31,7 @@ use switch_tables::{
 };
 
 // Where a chain goes that takes no body, and whether the jump there is dropped.
-#[derive(Drop)]
+#[derive(Clone, Copy)]
 struct Tail {
     pub to: u32,
     pub drop: bool,

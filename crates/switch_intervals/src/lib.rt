@@ -179,7 +179,7 @@ fn put_spans(
 }
 
 // The bands so far, and the piece from which one is open, if that is before the next piece.
-#[derive(Drop)]
+#[derive(Clone, Copy)]
 struct Open {
     bands: usize,
     band: usize,

@@ -27,7 +27,7 @@ use switch_tables::{
 };
 
 // A chain: what it adds, and where its list goes (CASE_EXIT).
-#[derive(Drop)]
+#[derive(Clone, Copy)]
 struct Chain {
     pub sum: Tally,
     pub exit: u32,

@@ -147,7 +147,7 @@ pub fn is_curry(name: &[u8]) -> bool
 }
 
 // What a first byte asks for: the number of tail bytes, and the least and the greatest value of the first of them.
-#[derive(Drop)]
+#[derive(Clone, Copy)]
 struct Lead(usize, u8, u8);
 
 // The table of RFC 3629. A byte that starts no character asks for one from BF to 80, which there is not.

@@ -29,7 +29,7 @@ use write_front::{image_len, write_front};
 use zeros::zero;
 
 // What a lowering answers: the image's word count, or why it is refused.
-#[derive(Drop)]
+#[derive(Clone, Copy)]
 pub enum Answer {
     Lowered { words: usize },
     Refused { by: Refusal },
