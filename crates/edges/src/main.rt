@@ -2,14 +2,15 @@
 // word count, a checksum of the image's room and one of the scratch, and for an image its twelve sizes. `oracle edges` prints the same from
 // its own sheets.
 #![tactic(auto)]
+
 ghost use Rattle.std.specs.Prelude.{◌-◌, get_or, ◌≡◌};
 ghost use Rattle.edges.specs.Sums as sums;
 
 mod sheets;
 
-use libc::STDOUT_FILENO;
 use lowering::SIZES;
 use needs::{BESIDES, PER_EMITTED, PER_NODE};
+use std::io;
 use to_image::lower;
 
 // words of scratch for each emitted instruction, for each node, and besides
@@ -59,11 +60,6 @@ fn checksum(words: &[u32]) -> u32
     sum
 }
 
-fn print_number(label: &[u8], number: u64) {
-    io::write_all(STDOUT_FILENO, label);
-    io::print_decimal(STDOUT_FILENO, number);
-}
-
 // Word `i`, 0 past the end.
 fn word(words: &[u32], i: usize) -> u32
     ensures { result ≡ get_or words.now i 0 }
@@ -72,136 +68,228 @@ fn word(words: &[u32], i: usize) -> u32
 }
 
 // The twelve sizes of an image.
-fn print_sizes(image: &[u32]) {
-    io::write_all(STDOUT_FILENO, b", sizes");
+fn print_sizes(rt: &impl Print, image: &[u32]) -> io::Result<()> {
+    print!(rt; ", sizes")?;
     let mut i = 0;
     while i < SIZES {
-        print_number(b" ", word(image, i) as u64);
+        let size = word(image, i);
+        print!(rt; " {size}")?;
         i += 1;
     }
+    Ok(())
 }
 
-fn print_answer(label: &[u8], number: u32, count: usize, image: &[u32], scratch: &[u32]) {
-    io::write_all(STDOUT_FILENO, label);
-    print_number(b": number ", number as u64);
-    print_number(b", words ", count as u64);
-    print_number(b", image ", checksum(image) as u64);
-    print_number(b", scratch ", checksum(scratch) as u64);
+fn print_answer(
+    rt: &impl Print,
+    label: &str,
+    number: u32,
+    count: usize,
+    image: &[u32],
+    scratch: &[u32],
+) -> io::Result<()> {
+    let left = checksum(image);
+    let used = checksum(scratch);
+    print!(rt; "{label}: number {number}, words {count}, image {left}, scratch {used}")?;
     if number == 0 {
-        print_sizes(image);
+        print_sizes(rt, image)?;
     }
-    io::write_all(STDOUT_FILENO, b"\n");
+    println!(rt;)
 }
 
 // Lowers `sheet` into buffers that hold noise, and prints the line of the edge. The answer is the word count, 0 under a refusal.
-fn edge(label: &[u8], sheet: &[u8], image: &mut [u32], scratch: &mut [u32]) -> usize {
+fn edge(
+    rt: &impl Print,
+    label: &str,
+    sheet: &[u8],
+    image: &mut [u32],
+    scratch: &mut [u32],
+) -> io::Result<usize> {
     put_noise(image);
     put_noise(scratch);
     let a = lower(sheet, image, scratch);
     let words = to_image::words(a);
-    print_answer(label, to_image::number(a), words, &image[..], &scratch[..]);
-    words
+    print_answer(
+        rt,
+        label,
+        to_image::number(a),
+        words,
+        &image[..],
+        &scratch[..],
+    )?;
+    Ok(words)
 }
 
 // The same for the sheet in the first `n` bytes of `sheet`.
-fn try_one(label: &[u8], sheet: &[u8], n: usize, image: &mut [u32], scratch: &mut [u32]) -> usize {
+fn try_one(
+    rt: &impl Print,
+    label: &str,
+    sheet: &[u8],
+    n: usize,
+    image: &mut [u32],
+    scratch: &mut [u32],
+) -> io::Result<usize> {
     if n <= sheet.len() {
-        return edge(label, &sheet[..n], image, scratch);
+        return edge(rt, label, &sheet[..n], image, scratch);
     }
-    0
+    Ok(0)
 }
 
 // The same with an image of `x` words and a scratch of `y` words.
 fn within(
-    label: &[u8],
+    rt: &impl Print,
+    label: &str,
     sheet: &[u8],
-    n: usize,
     image: &mut [u32],
     x: usize,
     scratch: &mut [u32],
     y: usize,
-) {
+) -> io::Result<()> {
     if x <= image.len() {
         if y <= scratch.len() {
-            try_one(label, sheet, n, &mut image[..x], &mut scratch[..y]);
+            edge(rt, label, sheet, &mut image[..x], &mut scratch[..y])?;
         }
     }
+    Ok(())
 }
 
 // The depth of the tree.
-fn depths(sheet: &mut [u8], image: &mut [u32], scratch: &mut [u32]) {
+fn depths(
+    rt: &impl Print,
+    sheet: &mut [u8],
+    image: &mut [u32],
+    scratch: &mut [u32],
+) -> io::Result<()> {
     let a = sheets::size(sheets::deep(sheet, 63), 0);
-    try_one(b"depth 64", &sheet[..], a, image, scratch);
+    try_one(rt, "depth 64", &sheet[..], a, image, scratch)?;
     let b = sheets::size(sheets::deep(sheet, 64), 0);
-    try_one(b"depth 65", &sheet[..], b, image, scratch);
+    try_one(rt, "depth 65", &sheet[..], b, image, scratch)?;
+    Ok(())
 }
 
 // Ranges of a switch.
-fn many_ranges(sheet: &mut [u8], image: &mut [u32], scratch: &mut [u32]) {
+fn many_ranges(
+    rt: &impl Print,
+    sheet: &mut [u8],
+    image: &mut [u32],
+    scratch: &mut [u32],
+) -> io::Result<()> {
     let a = sheets::size(sheets::ranges(sheet, 64), 0);
-    try_one(b"ranges 64", &sheet[..], a, image, scratch);
+    try_one(rt, "ranges 64", &sheet[..], a, image, scratch)?;
     let b = sheets::size(sheets::ranges(sheet, 65), 0);
-    try_one(b"ranges 65", &sheet[..], b, image, scratch);
+    try_one(rt, "ranges 65", &sheet[..], b, image, scratch)?;
+    Ok(())
 }
 
 // Instructions emitted. With 262,143 of them the scratch here is too short, so that 11 is the answer, and with one more it is 10.
-fn emitted(sheet: &mut [u8], image: &mut [u32], scratch: &mut [u32]) {
+fn emitted(
+    rt: &impl Print,
+    sheet: &mut [u8],
+    image: &mut [u32],
+    scratch: &mut [u32],
+) -> io::Result<()> {
     let a = sheets::size(sheets::coalesce(sheet, 3, 65534), 0);
-    try_one(b"emitted 262143", &sheet[..], a, image, scratch);
+    try_one(rt, "emitted 262143", &sheet[..], a, image, scratch)?;
     let b = sheets::size(sheets::coalesce(sheet, 2, 65535), 0);
-    try_one(b"emitted 262144", &sheet[..], b, image, scratch);
+    try_one(rt, "emitted 262144", &sheet[..], b, image, scratch)?;
+    Ok(())
 }
 
 // Arguments of a call.
-fn arguments(sheet: &mut [u8], image: &mut [u32], scratch: &mut [u32]) {
+fn arguments(
+    rt: &impl Print,
+    sheet: &mut [u8],
+    image: &mut [u32],
+    scratch: &mut [u32],
+) -> io::Result<()> {
     let a = sheets::size(sheets::call(sheet, 1, G, 255), 1);
-    try_one(b"arguments 255", &sheet[..], a, image, scratch);
+    try_one(rt, "arguments 255", &sheet[..], a, image, scratch)?;
     let b = sheets::size(sheets::call(sheet, 1, G, 256), 1);
-    try_one(b"arguments 256", &sheet[..], b, image, scratch);
+    try_one(rt, "arguments 256", &sheet[..], b, image, scratch)?;
+    Ok(())
 }
 
 // Arguments of `call`, the first of which is the function pointer.
-fn call_arguments(sheet: &mut [u8], image: &mut [u32], scratch: &mut [u32]) {
+fn call_arguments(
+    rt: &impl Print,
+    sheet: &mut [u8],
+    image: &mut [u32],
+    scratch: &mut [u32],
+) -> io::Result<()> {
     let a = sheets::size(sheets::call(sheet, 4, CALL, 256), 1);
-    try_one(b"arguments of call 256", &sheet[..], a, image, scratch);
+    try_one(rt, "arguments of call 256", &sheet[..], a, image, scratch)?;
     let b = sheets::size(sheets::call(sheet, 4, CALL, 257), 1);
-    try_one(b"arguments of call 257", &sheet[..], b, image, scratch);
+    try_one(rt, "arguments of call 257", &sheet[..], b, image, scratch)?;
+    Ok(())
 }
 
 // Arguments of a method.
-fn method_arguments(sheet: &mut [u8], image: &mut [u32], scratch: &mut [u32]) {
+fn method_arguments(
+    rt: &impl Print,
+    sheet: &mut [u8],
+    image: &mut [u32],
+    scratch: &mut [u32],
+) -> io::Result<()> {
     let a = sheets::size(sheets::method(sheet, 1, G, 255), 1);
-    try_one(b"arguments of a method 255", &sheet[..], a, image, scratch);
-    let b = sheets::size(sheets::method(sheet, 1, G, 256), 1);
-    try_one(b"arguments of a method 256", &sheet[..], b, image, scratch);
-}
-
-// Arguments of the method `call`.
-fn method_call_arguments(sheet: &mut [u8], image: &mut [u32], scratch: &mut [u32]) {
-    let a = sheets::size(sheets::method(sheet, 4, CALL, 255), 1);
     try_one(
-        b"arguments of the method call 255",
+        rt,
+        "arguments of a method 255",
         &sheet[..],
         a,
         image,
         scratch,
-    );
-    let b = sheets::size(sheets::method(sheet, 4, CALL, 256), 1);
+    )?;
+    let b = sheets::size(sheets::method(sheet, 1, G, 256), 1);
     try_one(
-        b"arguments of the method call 256",
+        rt,
+        "arguments of a method 256",
         &sheet[..],
         b,
         image,
         scratch,
-    );
+    )?;
+    Ok(())
+}
+
+// Arguments of the method `call`.
+fn method_call_arguments(
+    rt: &impl Print,
+    sheet: &mut [u8],
+    image: &mut [u32],
+    scratch: &mut [u32],
+) -> io::Result<()> {
+    let a = sheets::size(sheets::method(sheet, 4, CALL, 255), 1);
+    try_one(
+        rt,
+        "arguments of the method call 255",
+        &sheet[..],
+        a,
+        image,
+        scratch,
+    )?;
+    let b = sheets::size(sheets::method(sheet, 4, CALL, 256), 1);
+    try_one(
+        rt,
+        "arguments of the method call 256",
+        &sheet[..],
+        b,
+        image,
+        scratch,
+    )?;
+    Ok(())
 }
 
 // Elements of an array. 65,535 emit 131,071 instructions, for which the scratch here is too short: 11. 65,536 are kept as one residual.
-fn elements(sheet: &mut [u8], image: &mut [u32], scratch: &mut [u32]) {
+fn elements(
+    rt: &impl Print,
+    sheet: &mut [u8],
+    image: &mut [u32],
+    scratch: &mut [u32],
+) -> io::Result<()> {
     let a = sheets::size(sheets::array(sheet, 65535), 0);
-    try_one(b"elements 65535", &sheet[..], a, image, scratch);
+    try_one(rt, "elements 65535", &sheet[..], a, image, scratch)?;
     let b = sheets::size(sheets::array(sheet, 65536), 0);
-    try_one(b"elements 65536", &sheet[..], b, image, scratch);
+    try_one(rt, "elements 65536", &sheet[..], b, image, scratch)?;
+    Ok(())
 }
 
 // The scratch that a sheet of so many nodes asks for.
@@ -219,98 +307,167 @@ fn less(n: usize) -> usize
 }
 
 // Each buffer with one word less.
-fn short(sheet: &[u8], n: usize, image: &mut [u32], x: usize, scratch: &mut [u32], y: usize) {
+fn short(
+    rt: &impl Print,
+    sheet: &[u8],
+    image: &mut [u32],
+    x: usize,
+    scratch: &mut [u32],
+    y: usize,
+) -> io::Result<()> {
     within(
-        b"image one word short",
+        rt,
+        "image one word short",
         sheet,
-        n,
         image,
         less(x),
         scratch,
         y,
-    );
+    )?;
     within(
-        b"scratch one word short",
+        rt,
+        "scratch one word short",
         sheet,
-        n,
         image,
         x,
         scratch,
         less(y),
-    );
+    )
 }
 
 // An image that is exactly full with a scratch that is exactly enough; then each with one word less.
-fn exact(sheet: &[u8], n: usize, image: &mut [u32], x: usize, scratch: &mut [u32], y: usize) {
+fn exact(
+    rt: &impl Print,
+    sheet: &[u8],
+    image: &mut [u32],
+    x: usize,
+    scratch: &mut [u32],
+    y: usize,
+) -> io::Result<()> {
     within(
-        b"image exactly full, scratch exactly enough",
+        rt,
+        "image exactly full, scratch exactly enough",
         sheet,
-        n,
         image,
         x,
         scratch,
         y,
-    );
-    short(sheet, n, image, x, scratch, y);
+    )?;
+    short(rt, sheet, image, x, scratch, y)
 }
 
 // The buffers that a sheet asks for: word 10 is what was emitted, where that is not capped.
-fn rooms(sheet: &mut [u8], image: &mut [u32], scratch: &mut [u32]) {
+fn rooms(
+    rt: &impl Print,
+    sheet: &mut [u8],
+    image: &mut [u32],
+    scratch: &mut [u32],
+) -> io::Result<()> {
     let nodes = sheets::ranges(sheet, 20);
     let n = sheets::size(nodes, 0);
-    let x = try_one(b"ranges 20", &sheet[..], n, image, scratch);
+    let x = try_one(rt, "ranges 20", &sheet[..], n, image, scratch)?;
     let y = needed(word(&image[..], 10), nodes);
-    exact(&sheet[..], n, image, x, scratch, y);
+    if n <= sheet.len() {
+        exact(rt, &sheet[..n], image, x, scratch, y)?;
+    }
+    Ok(())
 }
 
 // The edges of trees.
-fn trees(sheet: &mut [u8], image: &mut [u32], scratch: &mut [u32]) {
-    depths(sheet, image, scratch);
-    many_ranges(sheet, image, scratch);
+fn trees(
+    rt: &impl Print,
+    sheet: &mut [u8],
+    image: &mut [u32],
+    scratch: &mut [u32],
+) -> io::Result<()> {
+    depths(rt, sheet, image, scratch)?;
+    many_ranges(rt, sheet, image, scratch)?;
+    Ok(())
 }
 
 // The edges of counts.
-fn counts(sheet: &mut [u8], image: &mut [u32], scratch: &mut [u32]) {
-    emitted(sheet, image, scratch);
-    elements(sheet, image, scratch);
+fn counts(
+    rt: &impl Print,
+    sheet: &mut [u8],
+    image: &mut [u32],
+    scratch: &mut [u32],
+) -> io::Result<()> {
+    emitted(rt, sheet, image, scratch)?;
+    elements(rt, sheet, image, scratch)?;
+    Ok(())
 }
 
 // The edges of functions.
-fn functions(sheet: &mut [u8], image: &mut [u32], scratch: &mut [u32]) {
-    arguments(sheet, image, scratch);
-    call_arguments(sheet, image, scratch);
+fn functions(
+    rt: &impl Print,
+    sheet: &mut [u8],
+    image: &mut [u32],
+    scratch: &mut [u32],
+) -> io::Result<()> {
+    arguments(rt, sheet, image, scratch)?;
+    call_arguments(rt, sheet, image, scratch)?;
+    Ok(())
 }
 
 // The edges of methods.
-fn methods(sheet: &mut [u8], image: &mut [u32], scratch: &mut [u32]) {
-    method_arguments(sheet, image, scratch);
-    method_call_arguments(sheet, image, scratch);
+fn methods(
+    rt: &impl Print,
+    sheet: &mut [u8],
+    image: &mut [u32],
+    scratch: &mut [u32],
+) -> io::Result<()> {
+    method_arguments(rt, sheet, image, scratch)?;
+    method_call_arguments(rt, sheet, image, scratch)?;
+    Ok(())
 }
 
-fn first_half(sheet: &mut [u8], image: &mut [u32], scratch: &mut [u32]) {
-    trees(sheet, image, scratch);
-    counts(sheet, image, scratch);
+fn first_half(
+    rt: &impl Print,
+    sheet: &mut [u8],
+    image: &mut [u32],
+    scratch: &mut [u32],
+) -> io::Result<()> {
+    trees(rt, sheet, image, scratch)?;
+    counts(rt, sheet, image, scratch)?;
+    Ok(())
 }
 
-fn second_half(sheet: &mut [u8], image: &mut [u32], scratch: &mut [u32]) {
-    functions(sheet, image, scratch);
-    methods(sheet, image, scratch);
+fn second_half(
+    rt: &impl Print,
+    sheet: &mut [u8],
+    image: &mut [u32],
+    scratch: &mut [u32],
+) -> io::Result<()> {
+    functions(rt, sheet, image, scratch)?;
+    methods(rt, sheet, image, scratch)?;
+    Ok(())
 }
 
-fn all(sheet: &mut [u8], image: &mut [u32], scratch: &mut [u32]) {
-    first_half(sheet, image, scratch);
-    second_half(sheet, image, scratch);
-    rooms(sheet, image, scratch);
+fn all(
+    rt: &impl Print,
+    sheet: &mut [u8],
+    image: &mut [u32],
+    scratch: &mut [u32],
+) -> io::Result<()> {
+    first_half(rt, sheet, image, scratch)?;
+    second_half(rt, sheet, image, scratch)?;
+    rooms(rt, sheet, image, scratch)?;
+    Ok(())
 }
 
 // The same with room for the longest sheet, of 65,538 nodes, and for the scratch that 65,537 nodes and one instruction ask for.
-fn run(sheet: &mut [u8; 1835080], image: &mut [u32; 32768], scratch: &mut [u32; 1052704]) {
-    all(sheet, image, scratch);
+fn run(
+    rt: &impl Print,
+    sheet: &mut [u8; 1835080],
+    image: &mut [u32; 32768],
+    scratch: &mut [u32; 1052704],
+) -> io::Result<()> {
+    all(rt, sheet, image, scratch)
 }
 
-fn main() {
+fn main(rt: HostRuntime) -> io::Result<()> {
     let mut sheet = [0u8; 1835080];
     let mut image = [0u32; 32768];
     let mut scratch = [0u32; 1052704];
-    run(&mut sheet, &mut image, &mut scratch);
+    run(&rt, &mut sheet, &mut image, &mut scratch)
 }

@@ -1,6 +1,7 @@
 // The words of every record of an image: kinds, flags, counts, unused words, and indexes into its pools and its sheet. Each section is
 // gone through once. What the steps of a chain ask of its operands is left out.
 #![tactic(auto)]
+
 ghost use Rattle.std.specs.Prelude.{◌≡◌};
 ghost use Rattle.image_rule.specs.Test as tests;
 ghost use Rattle.image_fields.specs.Fields as fields;

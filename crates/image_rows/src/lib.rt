@@ -1,6 +1,7 @@
 // The rows of an image's tables, cases first and ranges behind them, with a word of the lent scratch for each. Marks are left at
 // the targets of rows, no row twice, and runs of rows with one mark are counted.
 #![tactic(auto)]
+
 ghost use Rattle.std.specs.Prelude.{◌≡◌, ◌+◌, ◌*◌, ◌<◌, ◌≤◌, min, set, take, eqb};
 ghost use Rattle.words.specs.Count.{all_below};
 ghost use Rattle.lowering.specs.Words as words;

@@ -1,6 +1,7 @@
 // Two tests of an image that many records ask of the same words: operands of steps that chains share, and targets of rows that tables and
 // Switches share. A tree over the words in the lent scratch answers each record, so that the cost stays near the image's length.
 #![tactic(auto)]
+
 ghost use Rattle.std.specs.Prelude.{◌≡◌, ◌+◌, ◌*◌, ◌≤◌, ◌<◌, leb, ltb, length};
 ghost use Rattle.words.specs.Count.{all_below};
 ghost use Rattle.bytecode.specs.Table.{effect_table};

@@ -2,11 +2,13 @@
 // records, the sheet padded with zeros to a word, and the records. A record is the image's length in words, the scratch's, the expected
 // number, and the image. Compares the number and every word of the scratch. Prints how many records were the same, and how many were not.
 #![tactic(auto)]
-ghost use Rattle.std.specs.Prelude.{◌≤◌, length, ◌≡◌};
+ghost use Rattle.std.specs.Prelude.{◌≤◌, length, ◌≡◌, IfOk};
 
 use image_check::check_image;
 use refusals::ILL_MADE;
 use replay_records::{fill, left_as, print_result, put_noise};
+use std::io;
+use std::io::Read;
 
 // Room for the image or the scratch of a record.
 fn room() -> [u32; 8192]
@@ -44,34 +46,34 @@ fn agrees(sheet: &[u8], image: &[u32], n: usize, y: usize, number: u32) -> bool 
 }
 
 // Reads a record of `sheet` and compares. A record that is cut off, or too long, does not agree.
-fn compare_one(sheet: &[u8]) -> bool {
+fn compare_one<R: Read>(reader: &mut R, sheet: &[u8]) -> io::Result<bool> {
     let mut head = [0u8; 12];
-    let mut bytes = io::large_buffer();
-    if fill(&mut head, 12) {
+    let mut bytes = [0u8; 65536];
+    if fill(reader, &mut head, 12)? {
         let n = words::word_at(&head, 0) as usize;
         let y = words::word_at(&head, 1) as usize;
-        if fill(&mut bytes, 4 * n) {
+        if fill(reader, &mut bytes, 4 * n)? {
             let mut image = room();
             put_words(&mut image, &bytes);
-            return agrees(sheet, &image, n, y, words::word_at(&head, 2));
+            return Ok(agrees(sheet, &image, n, y, words::word_at(&head, 2)));
         }
     }
-    false
+    Ok(false)
 }
 
 // How many of `most` records of `sheet` agree.
-fn agreeing(sheet: &[u8], most: u32) -> u32
-    ensures { result ≤ most }
+fn agreeing<R: Read>(reader: &mut R, sheet: &[u8], most: u32) -> io::Result<u32>
+    ensures { IfOk result (λ same. same ≤ most) }
 {
     let mut same: u32 = 0;
     let mut i: u32 = 0;
     while i < most {
-        if compare_one(sheet) {
+        if compare_one(reader, sheet)? {
             same += 1;
         }
         i += 1;
     }
-    same
+    Ok(same)
 }
 
 // How many records of the next sheet there are, and how many agree.
@@ -82,56 +84,58 @@ struct Counted {
 }
 
 // How many of `most` records agree, of the sheet in the first `n` bytes of `buf`; none where it is longer.
-fn of_part(buf: &[u8], n: usize, most: u32) -> u32
-    ensures { result ≤ most }
+fn of_part<R: Read>(reader: &mut R, buf: &[u8], n: usize, most: u32) -> io::Result<u32>
+    ensures { IfOk result (λ same. same ≤ most) }
 {
     if n <= buf.len() {
-        return agreeing(&buf[..n], most);
+        return agreeing(reader, &buf[..n], most);
     }
-    0
+    Ok(0)
 }
 
 // The same of the next sheet, of `size` bytes; none where it is not there whole.
-fn of_sheet(size: u32, most: u32) -> u32
-    ensures { result ≤ most }
+fn of_sheet<R: Read>(reader: &mut R, size: u32, most: u32) -> io::Result<u32>
+    ensures { IfOk result (λ same. same ≤ most) }
 {
-    let mut sheet = io::large_buffer();
+    let mut sheet = [0u8; 65536];
     let n = size as usize;
-    if fill(&mut sheet, (n + 3) / 4 * 4) {
-        return of_part(&sheet, n, most);
+    if fill(reader, &mut sheet, (n + 3) / 4 * 4)? {
+        return of_part(reader, &sheet, n, most);
     }
-    0
+    Ok(0)
 }
 
-fn next_sheet() -> Counted
-    ensures { result.same ≤ result.most }
+fn next_sheet<R: Read>(reader: &mut R) -> io::Result<Counted>
+    ensures { IfOk result (λ c. c.same ≤ c.most) }
 {
     let mut head = [0u8; 8];
-    if fill(&mut head, 8) {
+    if fill(reader, &mut head, 8)? {
         let most = words::word_at(&head, 1);
-        let same = of_sheet(words::word_at(&head, 0), most);
-        return Counted { same, most };
+        let same = of_sheet(reader, words::word_at(&head, 0), most)?;
+        return Ok(Counted { same, most });
     }
-    Counted { same: 0, most: 1 }
+    Ok(Counted { same: 0, most: 1 })
 }
 
 // The records of all sheets.
-fn replay(sheets: u32) {
+fn replay<R: Read>(rt: &impl Print, reader: &mut R, sheets: u32) -> io::Result<()> {
     let mut same: u64 = 0;
     let mut most: u64 = 0;
     let mut i: u32 = 0;
     while i < sheets {
-        let c = next_sheet();
+        let c = next_sheet(reader)?;
         same += c.same as u64;
         most += c.most as u64;
         i += 1;
     }
-    print_result(same, most);
+    print_result(rt, same, most)
 }
 
-fn main() {
+fn main(rt: HostRuntime) -> io::Result<()> {
+    let mut reader = rt.reader();
     let mut head = [0u8; 4];
-    if fill(&mut head, 4) {
-        replay(words::word_at(&head, 0));
+    if fill(&mut reader, &mut head, 4)? {
+        replay(&rt, &mut reader, words::word_at(&head, 0))?;
     }
+    Ok(())
 }

@@ -3,13 +3,15 @@
 // Compares the answer, every word of the image's room, every word of the scratch, and what the sheet is said to need. Prints how many
 // records were the same, and how many were not.
 #![tactic(auto)]
-ghost use Rattle.std.specs.Prelude.{◌≤◌, ◌<◌, length, get_or, eqb, ◌≡◌};
+ghost use Rattle.std.specs.Prelude.{◌≤◌, ◌<◌, length, get_or, eqb, ◌≡◌, IfOk};
 ghost use Rattle.words.specs.Count.{all_below};
 ghost use Rattle.replay_lower.specs.Left as left;
 
 use needs::{Need, needs};
 use refusals::{IMAGE_LONG, SCRATCH_SHORT, refusal_number};
 use replay_records::{fill, left_as, noise, print_result, put_noise};
+use std::io;
+use std::io::Read;
 use to_image::{Answer, lower};
 
 // Room for the image or the scratch of a record.
@@ -113,61 +115,56 @@ fn agrees(
 }
 
 // Reads the rest of a record, behind its first four words, and compares. A record that is cut off, or too long, does not agree.
-fn compare_rest(x: u32, y: u32, number: u32, count: u32) -> bool {
-    let mut wanted = io::large_buffer();
+fn compare_rest<R: Read>(reader: &mut R, x: u32, y: u32, number: u32, count: u32) -> io::Result<bool> {
+    let mut wanted = [0u8; 65536];
     let mut size = [0u8; 4];
-    let mut sheet = io::large_buffer();
-    if fill(&mut wanted, 4 * count as usize) {
-        if fill(&mut size, 4) {
+    let mut sheet = [0u8; 65536];
+    if fill(reader, &mut wanted, 4 * count as usize)? {
+        if fill(reader, &mut size, 4)? {
             let n = words::word_at(&size, 0) as usize;
-            if fill(&mut sheet, (n + 3) / 4 * 4) {
-                return agrees(
-                    &sheet,
-                    n,
-                    x as usize,
-                    y as usize,
-                    &wanted,
-                    number,
-                    count as usize,
-                );
+            if fill(reader, &mut sheet, (n + 3) / 4 * 4)? {
+                let same = agrees(&sheet, n, x as usize, y as usize, &wanted, number, count as usize);
+                return Ok(same);
             }
         }
     }
-    false
+    Ok(false)
 }
 
 // Reads a record and compares.
-fn compare_one() -> bool {
+fn compare_one<R: Read>(reader: &mut R) -> io::Result<bool> {
     let mut head = [0u8; 16];
-    if fill(&mut head, 16) {
+    if fill(reader, &mut head, 16)? {
         let x = words::word_at(&head, 0);
         let y = words::word_at(&head, 1);
         let number = words::word_at(&head, 2);
-        return compare_rest(x, y, number, words::word_at(&head, 3));
+        return compare_rest(reader, x, y, number, words::word_at(&head, 3));
     }
-    false
+    Ok(false)
 }
 
 // How many of `most` records agree.
-fn agreeing(most: u32) -> u32
-    ensures { result ≤ most }
+fn agreeing<R: Read>(reader: &mut R, most: u32) -> io::Result<u32>
+    ensures { IfOk result (λ same. same ≤ most) }
 {
     let mut same: u32 = 0;
     let mut i: u32 = 0;
     while i < most {
-        if compare_one() {
+        if compare_one(reader)? {
             same += 1;
         }
         i += 1;
     }
-    same
+    Ok(same)
 }
 
-fn main() {
+fn main(rt: HostRuntime) -> io::Result<()> {
+    let mut reader = rt.reader();
     let mut head = [0u8; 4];
-    if fill(&mut head, 4) {
+    if fill(&mut reader, &mut head, 4)? {
         let most = words::word_at(&head, 0);
-        let same = agreeing(most);
-        print_result(same as u64, most as u64);
+        let same = agreeing(&mut reader, most)?;
+        print_result(&rt, same as u64, most as u64)?;
     }
+    Ok(())
 }

@@ -1,6 +1,7 @@
 // The hash of bytes: a fold over all of them, then spread over all words. The fold up to the end of each block of text bytes may be kept in
 // lent words (`fill`); then no text costs more than two blocks (`fold_text`).
 #![tactic(auto)]
+
 ghost use Rattle.std.specs.Prelude.{◌≡◌, ◌+◌, ◌/◌, ◌%◌, ◌≤◌, min, length, take, drop};
 ghost use Rattle.sheet.specs.Limits.{max_bytes};
 ghost use Rattle.sheet.specs.Sections.{byte_count};

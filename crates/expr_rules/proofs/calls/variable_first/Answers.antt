@@ -1,0 +1,21 @@
+-- `expr_rules::calls::variable_first` meets its contract: by what the search among the locals answers.
+use mathlib.Core.Path.{sym, ap, ◌∙◌}
+use Rattle.sheet.specs.Text.{text}
+use Rattle.lowering.specs.Slots.{resolve}
+use Rattle.expr_slots.specs.Found.{found}
+use Rattle.expr_rules.proofs.RuleLaws.{variable-local, variable-named}
+use Rattle.expr_rules.proofs.calls.variable_first.Goals as goal
+
+pub returns-in-At : goal.returns-in-At
+returns-in-At c =
+    let a = c.args in
+    let s = a.sheet.now in
+    let found-is = c.resolve-found.ensures ∙ ap (λ t. found (resolve s (text s t))) c.field_a.ensures in
+    variable-local s a.v _ (sym found-is ∙ c.found-1.given.1)
+
+pub returns-in-Nothing : goal.returns-in-Nothing
+returns-in-Nothing c =
+    let a = c.args in
+    let s = a.sheet.now in
+    let found-is = c.resolve-found.ensures ∙ ap (λ t. found (resolve s (text s t))) c.field_a.ensures in
+    variable-named s a.v (sym found-is ∙ c.enum_told-1.given.1)

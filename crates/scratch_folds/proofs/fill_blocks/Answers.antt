@@ -1,0 +1,35 @@
+-- `scratch_folds::fill_blocks` meets its contract. Invariant: the folds over the blocks passed are written, and h is the last of them.
+use Prim.Native.Nat.{◌-◌}
+use native.Mathlib.Omega.{arith}
+use Rattle.scratch_folds.proofs.SumsLaws.{filling-starts, filling-goes, filling-length, filling-ends}
+use borrow.Author.Rules.{rules}
+use Rattle.scratch_folds.proofs.fill_blocks.Goals as goal
+
+pub loop-k-init : goal.loop-k-init
+loop-k-init c =
+    let a = c.args in
+    (omega arith, filling-starts a.b.now a.at a.scratch.now)
+
+pub fold_on-g-requires : goal.fold_on-g-requires
+fold_on-g-requires c = let w = c.loop-k.invariant.1.word in search rules
+
+pub loop-k-preserved : goal.loop-k-preserved
+loop-k-preserved c =
+    let w = c.loop-k in
+    let a = c.args in (
+      omega arith,
+      filling-goes a.b.now a.at w.k w.h _ _ a.scratch.now w.scratch _ w.invariant.1 (omega arith) c.part.ensures
+          c.fold_on-g.ensures c.put.ensures,
+    )
+
+pub shape_of-scratch : goal.shape_of-scratch
+shape_of-scratch c =
+    let w = c.loop-k in
+    let a = c.args in
+    filling-length a.b.now a.at w.k w.h a.scratch.now w.scratch w.invariant.1
+
+pub returns : goal.returns
+returns c =
+    let w = c.loop-k in
+    let a = c.args in
+    filling-ends a.b.now a.at w.k w.h a.scratch.now w.scratch w.invariant.1 (omega arith)

@@ -1,0 +1,19 @@
+-- `scratch_folds::fold_on` meets its contract: four bytes at a time are four steps. Invariant: what is left leads to the whole.
+use Prim.Native.Nat.{◌-◌}
+use mathlib.Core.Path.{◌∙◌}
+use native.Mathlib.Omega.{arith}
+use Rattle.scratch_folds.proofs.HashLaws.{folding-starts, folding-four}
+use Rattle.scratch_folds.proofs.fold_on.Goals as goal
+
+pub loop-i-init : goal.loop-i-init
+loop-i-init c = (omega arith, folding-starts c.args.x.now 0 c.args.start (omega arith))
+
+pub loop-i-preserved : goal.loop-i-preserved
+loop-i-preserved c =
+    let w = c.loop-i in
+    let a = c.args in
+    let f = c.four_steps-h in
+    (omega arith, folding-four a.x.now _ w.i w.h f.result w.invariant.1 c.loop-i-test.true f.ensures)
+
+pub returns : goal.returns
+returns c = c.fold_rest.ensures ∙ c.loop-i.invariant.1.rest
