@@ -11,11 +11,11 @@ returns-in-At c =
     let a = c.args in
     let s = a.sheet.now in
     let found-is = c.resolve-found.ensures ∙ ap (λ t. found (resolve s (text s t))) c.field_a.ensures in
-    variable-local s a.v _ (sym found-is ∙ c.found-1.given.1)
+    variable-local s a.v _ (sym found-is ∙ c.in-At.is)
 
 pub returns-in-Nothing : goal.returns-in-Nothing
 returns-in-Nothing c =
     let a = c.args in
     let s = a.sheet.now in
     let found-is = c.resolve-found.ensures ∙ ap (λ t. found (resolve s (text s t))) c.field_a.ensures in
-    variable-named s a.v (sym found-is ∙ c.enum_told-1.given.1)
+    variable-named s a.v (sym found-is ∙ c.in-Nothing.is)
