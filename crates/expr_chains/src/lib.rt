@@ -1,6 +1,7 @@
 // Chains by their nodes: the links of a chain, their steps, and whether two chains are the same. proofs/ shows that the nodes of the chains
 // that were pooled are all that the pools of chains and steps hold.
 #![tactic(auto)]
+
 ghost use Rattle.std.specs.Prelude.{◌≡◌, ℕ, min};
 ghost use Rattle.sheet.specs.Limits.{max_depth};
 ghost use Rattle.bytecode.specs.Chain.{step_words, chain_words};

@@ -1,6 +1,7 @@
 // How many instructions the lowering of a node gives, how many it emits, and whether it reaches an `eval`, found without lowering it.
 // Each node of a checked sheet is visited once. `told` says which Variables are locals (locals.rt).
 #![tactic(auto)]
+
 ghost use Rattle.std.specs.Prelude.{◌≡◌, ◌-◌, true, false};
 ghost use Rattle.sheet.specs.Limits.{max_depth};
 ghost use Rattle.lowering.specs.Flatten.{links};

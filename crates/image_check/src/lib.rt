@@ -1,5 +1,6 @@
 // The check of an image and its sheet: whether the image is well made. It reads both, and writes to the lent scratch only.
 #![tactic(auto)]
+
 ghost use Rattle.std.specs.Prelude.{◌≡◌, length};
 ghost use Rattle.checks.specs.Checked.{checked};
 ghost use Rattle.checks.specs.declared.Verdict.TheVariants.{Accepted};

@@ -1,5 +1,6 @@
 // The depth at each place of an image, found in one pass over its code in the lent scratch, and checked in a second one.
 #![tactic(auto)]
+
 ghost use Rattle.std.specs.Prelude.{◌≡◌, List, ℕ, ◌+◌, ◌-◌, ◌<◌, ◌≤◌, max, length, take};
 ghost use Rattle.bytecode.specs.Table.{effect_table};
 ghost use Rattle.bytecode.specs.Table as table;

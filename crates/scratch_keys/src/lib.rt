@@ -1,5 +1,6 @@
 // Pool entries kept by their keys: what a key stands for, and when two names are the same.
 #![tactic(auto)]
+
 ghost use Rattle.std.specs.Prelude.{◌≡◌, ◌/◌, ◌%◌};
 ghost use Rattle.text.specs.Same.{same};
 ghost use Rattle.scratch_keys.specs.Keys.{key_node, key_field, is_marked, name_of, marked};

@@ -1,0 +1,20 @@
+-- `expr_chains::same_index` meets its contract: one law for each way.
+use mathlib.Core.Path.{ap, ap₂, sym, ◌∙◌}
+use lib.Dec.{eqb}
+use Rattle.sheet.specs.Start.{start_of}
+use Rattle.expr_chains.proofs.TestLaws.{index-here, index-apart}
+use Rattle.expr_chains.proofs.same_index.Goals as goal
+
+pub returns-then-position : goal.returns-then-position
+returns-then-position c =
+    let a = c.args in
+    let s = a.sheet.now in
+    let here = sym c.position.ensures ∙ c.if-position.true ∙ c.position-2.ensures in
+    λ e f. ap₂ eqb (c.start_of.ensures ∙ ap (start_of s) e) (c.start_of-then-position.ensures ∙ ap (start_of s) f)
+    ∙ sym (index-here s a.c a.d here)
+
+pub returns : goal.returns
+returns c =
+    let a = c.args in
+    λ e f. sym (index-apart a.sheet.now a.c a.d
+    (λ g. c.if-position.false (c.position.ensures ∙ g ∙ sym c.position-2.ensures)))

@@ -1,0 +1,38 @@
+-- The cycle of calls of the count. The measure: four for each level left, and a step for each member between a node and its operands.
+-- Invariant of both loops: what is passed and what is left make the whole, cut off.
+use Prim.Native.Nat.{◌+◌, ◌*◌, ◌-◌}
+use Rattle.expr_count.specs.Locals.{answer}
+use Rattle.expr_count.proofs.AnswerLaws.{SumLeft}
+use Rattle.expr_count.proofs.AnswerLaws.{WalkLeft}
+use Rattle.expr_count.proofs.AnswerLaws.{ReachLeft}
+use Rattle.expr_count.specs.Count as counts
+use Rattle.expr_count.proofs.+chain_coalesce_siblings_tally_walk.Given as goal
+
+abbrev pub decreases-chain : goal.decreases-chain
+decreases-chain l = 4 * l.levels + 3
+
+abbrev pub decreases-coalesce : goal.decreases-coalesce
+decreases-coalesce l = 4 * l.levels + 2
+
+abbrev pub decreases-siblings : goal.decreases-siblings
+decreases-siblings l = 4 * l.levels + 1
+
+abbrev pub decreases-tally : goal.decreases-tally
+decreases-tally l = 4 * l.levels
+
+abbrev pub decreases-walk : goal.decreases-walk
+decreases-walk l = 4 * l.levels + 2
+
+abbrev pub invariant-siblings-loop-i : goal.invariant-siblings-loop-i
+invariant-siblings-loop-i l = SumLeft l.sheet
+    (counts.tally_by (answer l.told l.sheet) l.levels l.sheet) l.gap l.n l.from l.sum l.leaves l.i l.j
+
+abbrev pub decreases-siblings-loop-i : goal.decreases-siblings-loop-i
+decreases-siblings-loop-i l = l.n - l.i
+
+abbrev pub invariant-walk-loop-left : goal.invariant-walk-loop-left
+invariant-walk-loop-left l =
+    WalkLeft l.sheet (counts.tally_by (answer l.told l.sheet) l.levels l.sheet) l.j l.sum l.left l.c × ReachLeft l.sheet l.j 2 l.left l.c
+
+abbrev pub decreases-walk-loop-left : goal.decreases-walk-loop-left
+decreases-walk-loop-left l = l.left

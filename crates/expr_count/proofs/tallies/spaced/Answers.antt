@@ -1,0 +1,20 @@
+-- `expr_count::tallies::spaced` meets its contract: the sum of 32-bit numbers and their product fits 64 bits.
+use Prim.Native.Nat.{ℕ, ◌*◌, ◌≤◌}
+use native.Mathlib.Nat.{mul-le-mul_right}
+use native.Mathlib.Omega.{arith}
+use Rattle.expr_count.specs.Tally.{instructions}
+use borrow.Author.Rules.{rules}
+use Rattle.expr_count.proofs.tallies.spaced.Goals as goal
+
+most : (a b : ℕ) → a ≤ 4294967295 → b ≤ 4294967295 → a * b ≤ 18446744065119617025
+most a b h k = omega (arith, mul-le-mul_right b h)
+
+pub overflow_mul-k : goal.overflow_mul-k
+overflow_mul-k c = let a = c.args in omega (arith, most a.gap a.m (omega arith) (omega arith))
+
+pub overflow_add-k : goal.overflow_add-k
+overflow_add-k c = let a = c.args in omega (arith, most a.gap a.m (omega arith) (omega arith))
+
+pub returns : goal.returns
+unfolding instructions
+returns c = search rules

@@ -1,0 +1,36 @@
+-- `image_depths::tables_right` meets its contract. Invariant: the tables below i are right.
+use Prim.Native.Nat.{◌-◌}
+use mathlib.Core.Path.{sym, ◌∙◌}
+use mathlib.Core.Bool.{true}
+use native.Mathlib.Omega.{arith}
+use Rattle.words.proofs.CountLaws.{all_none, all_more}
+use Rattle.image_rows.specs.Scratch.{marks_of}
+use Rattle.image_depths.proofs.CheckLaws.{tables-fail, tables-done}
+use Rattle.image_depths.proofs.tables_right.Goals as goal
+
+pub loop-i-init : goal.loop-i-init
+loop-i-init c = (omega arith, λ P Q R. all_none _)
+
+pub loop-i-preserved : goal.loop-i-preserved
+loop-i-preserved c =
+    let v = c.loop-i.invariant in
+    let test = c.loop-i-test.true in
+    let right = c.table_right.ensures in (
+      omega (arith, test),
+      λ P Q R. all_more _ _ (v.1 P Q R) (sym (right P (Q _ (omega (arith, test, P.tables))) R) ∙ c.if-table_right.true),
+    )
+
+pub returns-else-table_right : goal.returns-else-table_right
+returns-else-table_right c =
+    let a = c.args in
+    let test = c.loop-i-test.true in
+    λ P Q R.
+    tables-fail a.image.now (marks_of a.image.now a.scratch.now) _ _ _ P.tables test
+    (c.table_right.ensures P (Q _ (omega (arith, test, P.tables))) R) c.if-table_right.false
+
+pub returns : goal.returns
+returns c =
+    let a = c.args in
+    let v = c.loop-i.invariant in
+    λ P Q R. tables-done a.image.now (marks_of a.image.now a.scratch.now) _ _ P.tables v.0 c.loop-i-test.false
+    (v.1 P Q R)
