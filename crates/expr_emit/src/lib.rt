@@ -1,6 +1,7 @@
 // The lowering of an expression into the lent scratch. Each function does to the scratch what its definition in crate expr_model
 // does to what has been made so far.
 #![tactic(auto)]
+
 ghost use Rattle.std.specs.Prelude.{◌≡◌, ◌<◌, ◌≤◌};
 ghost use Rattle.sheet.specs.Node as nodes;
 ghost use Rattle.sheet.specs.Limits.{max_depth};

@@ -2,6 +2,7 @@
 // records, the sheet padded with zeros to a word, and the records. A record is the image's length in words, the scratch's, the expected
 // number, and the image. Compares the number and every word of the scratch. Prints how many records were the same, and how many were not.
 #![tactic(auto)]
+
 ghost use Rattle.std.specs.Prelude.{◌≤◌, length, ◌≡◌, IfOk};
 
 use image_check::check_image;

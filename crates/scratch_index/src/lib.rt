@@ -1,6 +1,7 @@
 // The index of the pools in lent words: a head for each bucket, and for each entry a link at the slot of its key. Reads and writes answer
 // at every place; what a search answers is known where the index holds (`Finds`, `FindsName`).
 #![tactic(auto)]
+
 ghost use Rattle.std.specs.Prelude.{◌≡◌, ◌+◌, ◌/◌, ◌==◌, slice_index};
 ghost use Rattle.sheet.specs.Limits.{max_depth};
 ghost use Rattle.sheet.specs.Node as nodes;

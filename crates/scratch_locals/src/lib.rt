@@ -1,6 +1,7 @@
 // The local of each Variable, found by hash before the lowering starts, and read by the lowering and the image. Few locals are gone through
 // at each use.
 #![tactic(auto)]
+
 ghost use Rattle.std.specs.Prelude.{◌≡◌, ◌+◌, ◌/◌};
 ghost use Rattle.sheet.specs.Sections.{local_count};
 ghost use Rattle.sheet.specs.Node as nodes;

@@ -1,6 +1,7 @@
 // The lent scratch as growing lists: the code and the pools that have been made so far, with counts beside them. No call asks anything;
 // what it does is known where the scratch held something before (`Holds`), and what is emitted has its room (`Does`).
 #![tactic(auto)]
+
 ghost use Rattle.std.specs.Prelude.{◌≡◌, ℕ, ◌*◌, ◌/◌, ◌%◌, List, map, length};
 ghost use Rattle.std.proofs.lemmas.List.Edits.{sets};
 ghost use Rattle.sheet.specs.Node as nodes;

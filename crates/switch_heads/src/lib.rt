@@ -1,6 +1,7 @@
 // Which cases and which bands are the first with their list of blocks, and the number of each one's head. A list is compared with that of a
 // head only where their hashes are equal.
 #![tactic(auto)]
+
 ghost use Rattle.std.specs.Prelude.{◌≡◌, ℕ, ◌+◌, ◌≤◌, ◌<◌, length, set, take};
 ghost use Rattle.sheet.specs.Limits.{max_entries};
 ghost use Rattle.sheet.specs.Walk.{skip};

@@ -1,6 +1,7 @@
 // The ranges of a switch in the flat table: their cuts, each range as an interval of pieces, and the bands of pieces with equal lists. A
 // piece is a cut or lies between two: 128 cuts have 255 pieces, and no more bands.
 #![tactic(auto)]
+
 ghost use Rattle.std.specs.Prelude.{◌≡◌, List, map, ℕ, ◌+◌, ◌*◌, ◌-◌, ◌<◌, ◌≤◌, min, length, get_or, take};
 ghost use Rattle.text.specs.Same.{same};
 ghost use Rattle.sheet.specs.Limits.{max_entries};

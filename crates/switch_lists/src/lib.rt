@@ -1,6 +1,7 @@
 // Lists of blocks: read from a Case of the sheet or from the intervals of the flat table, hashed, compared. No list has over 64 blocks: of
 // more Refs, which no accepted sheet has, the first 64 are read.
 #![tactic(auto)]
+
 ghost use Rattle.std.specs.Prelude.{◌≡◌, ℕ, ◌-◌, ◌<◌, ◌≤◌, min, take, length};
 ghost use Rattle.text.specs.Same.{same};
 ghost use Rattle.sheet.specs.Limits.{max_entries};

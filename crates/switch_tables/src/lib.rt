@@ -1,5 +1,6 @@
 // The flat table of a switch: where each column stands. specs/Columns.antt has the same for the contracts, with what the columns mean.
 #![tactic(auto)]
+
 use lowering::MAX_BANDS;
 use sheet::limits::MAX_ENTRIES;
 

@@ -1,5 +1,6 @@
 // The finished image, written from what the scratch holds. Each section goes to its own part of the image; what does not fit is left out.
 #![tactic(auto)]
+
 ghost use Rattle.std.specs.Prelude.{◌≡◌, ℕ, ◌+◌, ◌≤◌, min, List, ◌++◌, map, length, drop};
 ghost use Rattle.sheet.specs.Node as nodes;
 ghost use Rattle.bytecode.specs.Chain.{chain_words};

@@ -1,6 +1,7 @@
 // The sections of a switch's tables, by one look into the flat table for each row. Each function writes the whole of a part that is lent
 // to it, of just the length that the section has.
 #![tactic(auto)]
+
 ghost use Rattle.std.specs.Prelude.{◌≡◌, ◌*◌, ◌≤◌, ◌<◌, length};
 ghost use Rattle.sheet.specs.Limits.{max_entries};
 ghost use Rattle.bytecode.specs.Switch.{switch_words};

@@ -1,5 +1,6 @@
 // The sections of an image. Each function writes the whole of a part that is lent to it, of just the length that the section has.
 #![tactic(auto)]
+
 ghost use Rattle.std.specs.Prelude.{◌≡◌, [], ◌∷◌, map, ◌+◌, ◌*◌, ◌<◌, ◌≤◌, length};
 ghost use Rattle.sheet.specs.Node as nodes;
 ghost use Rattle.bytecode.specs.Chain.{chain_words};

@@ -1,0 +1,14 @@
+-- The call's name, then Call of its place.
+use Rattle.std.proofs.Common.{ℕ, ◌<◌, sym, subst, lit<}
+use Rattle.expr_emit.proofs.CallDoes.{call-as-does}
+use Rattle.expr_emit.proofs.calls.call_as.Goals as goal
+
+pub returns : goal.returns
+returns c =
+    λ l table.
+    λ p n b v.
+    let named = c.add_name-name.ensures l in
+    let few = subst (λ (m : ℕ). m < 256) (sym c.count.ensures) n in
+    call-as-does _ _ _ _ _ p c.count.ensures c.position.ensures (λ a h. named.1 a (lit< tt) v h)
+    (named.0 (lit< tt) v)
+    (c.emit.ensures l table _ (few, b))

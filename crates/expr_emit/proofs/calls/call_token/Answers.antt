@@ -1,0 +1,11 @@
+-- The token, then the call with its place plus 1.
+use Rattle.std.proofs.Common.{arith}
+use Rattle.expr_emit.proofs.CallDoes.{call-token-does}
+use Rattle.expr_emit.proofs.calls.call_token.Goals as goal
+
+pub returns : goal.returns
+returns c =
+    λ l table.
+    λ p n v t. call-token-does _ _ c.one_more.ensures (c.add_token-at.ensures l).place
+    ((c.add_token-at.ensures l).does t)
+    (c.call_as.ensures l table p n (omega arith) v)

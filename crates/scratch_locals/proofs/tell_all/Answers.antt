@@ -1,0 +1,27 @@
+-- `scratch_locals::tell_all` meets its contract: each turn is a law.
+use Rattle.std.proofs.Common.{◌≡◌, ℕ, ◌-◌, refl, ◌∙◌, subst, arith}
+use Rattle.sheet.specs.Sections.{local_count}
+use Rattle.scratch_locals.specs.Pass.{Telling}
+use Rattle.scratch_locals.proofs.tell_all.Goals as goal
+
+pub loop-k-init : goal.loop-k-init
+loop-k-init c = (omega arith, refl, λ h. h)
+
+pub loop-k-preserved : goal.loop-k-preserved
+loop-k-preserved c =
+    let w = c.loop-k in (
+      omega arith,
+      c.tell.auto.scratch ∙ w.invariant.1,
+      λ h. c.tell.ensures.told (omega arith) (w.invariant.2 h),
+    )
+
+pub shape_of-scratch : goal.shape_of-scratch
+shape_of-scratch c = c.loop-k.invariant.1
+
+pub returns : goal.returns
+returns c =
+    let a = c.args in
+    let w = c.loop-k in
+    let n = c.local_count-m.ensures in
+    let e : w.k ≡ local_count a.sheet.now = omega arith in
+    λ h. subst (λ (i : ℕ). Telling a.sheet.now a.layout a.n i w.scratch) e (w.invariant.2 h)

@@ -1,0 +1,17 @@
+-- `write_front::put_pools` meets its contract: one section behind the other.
+use Rattle.write_front.proofs.FrontLaws.{consts-put, names-put, tokens-put, residuals-put}
+use Rattle.write_front.proofs.PutsLaws.{puts-next}
+use Rattle.write_front.specs.Front.{pools_part}
+use Rattle.write_front.proofs.put_pools.Goals as goal
+
+pub returns : goal.returns
+unfolding pools_part
+returns c =
+    λ m h.
+    let one = consts-put h c.consts_at.result c.consts_at.ensures c.put_consts-e.ensures in
+    let two = puts-next _ _ one
+    (names-put h c.names_at.result c.names_at.ensures c.put_names-f.ensures) in
+    let three = puts-next _ _ two
+    (tokens-put h c.tokens_at.result c.tokens_at.ensures c.put_tokens-g.ensures) in
+    puts-next _ _ three
+    (residuals-put h c.residuals_at.result c.residuals_at.ensures c.put_part.ensures)

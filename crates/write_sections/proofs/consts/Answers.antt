@@ -1,0 +1,35 @@
+-- `write_sections::consts` meets its contract. Invariant: the first i rows are the constants of the first i nodes.
+use Prim.Native.Nat.{◌-◌}
+use mathlib.Core.Path.{refl, ◌∙◌}
+use Rattle.write_sections.proofs.PutLaws.{written_none}
+use Rattle.lowering.specs.Image.{section}
+use Rattle.write_sections.proofs.RowLaws.{const-next, const-end}
+use native.Mathlib.Omega.{arith}
+use Rattle.write_sections.proofs.consts.Goals as goal
+
+pub loop-i-init : goal.loop-i-init
+unfolding section
+loop-i-init c = (omega arith, refl, written_none c.args.out.now)
+
+pub loop-i-preserved : goal.loop-i-preserved
+loop-i-preserved c =
+    let a = c.args in
+    let w =
+    const-next a.sheet.now a.ks.now c.loop-i.i
+    c.requires _ _ _
+    c.loop-i-test.true
+    c.kind.ensures c.field_a.ensures
+    c.field_b.ensures c.put_three.ensures
+    c.loop-i.invariant.2 in (
+      omega arith,
+      c.put_three.auto.out ∙ c.loop-i.invariant.1,
+      w,
+    )
+
+pub shape_of-out : goal.shape_of-out
+shape_of-out c = c.loop-i.invariant.1
+
+pub returns : goal.returns
+returns c =
+    const-end c.args.sheet.now c.args.ks.now
+    c.loop-i.i c.requires c.loop-i-test.false c.loop-i.invariant.2

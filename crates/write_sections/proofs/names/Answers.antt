@@ -1,0 +1,31 @@
+-- `write_sections::names` meets its contract. Invariant: the first i rows are the names of the first i keys.
+use Prim.Native.Nat.{◌-◌}
+use mathlib.Core.Path.{refl, ◌∙◌}
+use Rattle.write_sections.proofs.PutLaws.{written_none}
+use Rattle.lowering.specs.Image.{section}
+use Rattle.write_sections.proofs.RowLaws.{name-next, name-end}
+use native.Mathlib.Omega.{arith}
+use Rattle.write_sections.proofs.names.Goals as goal
+
+pub loop-i-init : goal.loop-i-init
+unfolding section
+loop-i-init c = (omega arith, refl, written_none c.args.out.now)
+
+pub loop-i-preserved : goal.loop-i-preserved
+loop-i-preserved c =
+    let a = c.args in
+    let w =
+    name-next a.sheet.now a.ks.now c.loop-i.i
+    c.requires _ _
+    c.loop-i-test.true c.text_of.ensures
+    c.mark_of.ensures c.put_two.ensures
+    c.loop-i.invariant.2 in
+    (omega arith, c.put_two.auto.out ∙ c.loop-i.invariant.1, w)
+
+pub shape_of-out : goal.shape_of-out
+shape_of-out c = c.loop-i.invariant.1
+
+pub returns : goal.returns
+returns c =
+    name-end c.args.sheet.now c.args.ks.now
+    c.loop-i.i c.requires c.loop-i-test.false c.loop-i.invariant.2

@@ -1,0 +1,21 @@
+-- `write_sections::root_at` meets its contract: a variable by its name and its local, any other root whatever they are.
+use mathlib.Core.Path.{◌∙◌}
+use Rattle.scratch_index.specs.Held.{names_held}
+use Rattle.write_sections.proofs.ChainRows.{placed, root-named, root-plain}
+use Rattle.write_sections.proofs.root_at.Goals as goal
+
+pub returns-then-kind-eq-VARIABLE : goal.returns-then-kind-eq-VARIABLE
+returns-then-kind-eq-VARIABLE c =
+    let a = c.args in
+    λ h.
+    c.root_of.ensures (λ _. c.local_of.ensures h.slots)
+    ∙ root-named a.sheet.now (names_held a.sheet.now a.layout a.n a.scratch.now) a.v c.field_a.ensures
+    (placed c.text_place-name.ensures h)
+
+pub returns : goal.returns
+returns c =
+    let a = c.args in
+    λ _.
+    c.root_of-2.ensures (λ e. absurd (c.if-kind-eq-VARIABLE.false (c.kind.ensures ∙ e)))
+    ∙ root-plain a.sheet.now (names_held a.sheet.now a.layout a.n a.scratch.now) a.v 0 (λ e. c.if-kind-eq-VARIABLE.false
+    (c.kind.ensures ∙ e))
