@@ -2,6 +2,7 @@
 // a block is counted once, however many lists name it; the chain of a list once, however many cases and bands have it. `told` says which
 // Variables are locals (expr_count::locals).
 #![tactic(auto)]
+
 ghost use Rattle.std.specs.Prelude.{◌≡◌, ℕ, ◌+◌, ◌-◌, ◌<◌, ◌≤◌, false, List, length};
 ghost use Rattle.sheet.specs.Node.{kind as kind_of};
 ghost use Rattle.checks.specs.Checked.{verdict_number, checked};

@@ -1,5 +1,6 @@
 // The tables of a switch, each section at its place in the image; what does not fit is left out.
 #![tactic(auto)]
+
 ghost use Rattle.std.specs.Prelude.{◌≡◌, ◌≤◌};
 ghost use Rattle.sheet.specs.Limits.{max_entries};
 ghost use Rattle.bytecode.specs.Switch.{switch_words};

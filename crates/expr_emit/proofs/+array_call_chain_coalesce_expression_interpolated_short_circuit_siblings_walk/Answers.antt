@@ -17,11 +17,7 @@ use Rattle.expr_emit.proofs.+array_call_chain_coalesce_expression_interpolated_s
 
 pub array-siblings-requires : goal.array-siblings-requires
 array-siblings-requires t c =
-    (sibling-falls _ c.requires.0, tt)
-
-pub array-returns-then-n-le-MAX_ELEMENTS : goal.array-returns-then-n-le-MAX_ELEMENTS
-array-returns-then-n-le-MAX_ELEMENTS t c =
-    c.emit.auto.scratch ∙ c.siblings.auto.scratch
+    (sibling-falls _ c.decreases, tt)
 
 pub array-returns-then-n-le-MAX_ELEMENTS : goal.array-returns-then-n-le-MAX_ELEMENTS
 array-returns-then-n-le-MAX_ELEMENTS t c =
@@ -34,11 +30,7 @@ array-returns-else-n-le-MAX_ELEMENTS t c =
 
 pub call-siblings-requires : goal.call-siblings-requires
 call-siblings-requires t c =
-    (sibling-falls _ c.requires.0, tt)
-
-pub call-returns : goal.call-returns
-call-returns t c =
-    c.close.auto.scratch ∙ c.siblings.auto.scratch ∙ p14.«open».auto.1.1.1.0
+    (sibling-falls _ c.decreases, tt)
 
 pub call-returns : goal.call-returns
 call-returns t c =
@@ -46,24 +38,17 @@ call-returns t c =
     does-held (λ a h.
     call-by-way _ _ _ _ _ _ C v k (c.way_of-w.ensures (held-slots c.layout_of.ensures h))
     c.arg_count.ensures
-    c.first_arg.ensures (p14.«open».ensures l table).0 (p14.«open».ensures l table).1
+    c.first_arg.ensures (c.open-at.ensures l table).0 (c.open-at.ensures l table).1
     (c.siblings.ensures l table)
     (c.close.ensures l table))
 
 pub chain-walk-requires : goal.chain-walk-requires
 chain-walk-requires t c =
-    (walk-falls _ c.requires.0, tt)
+    (walk-falls _ c.decreases, tt)
 
 pub chain-siblings-requires : goal.chain-siblings-requires
 chain-siblings-requires t c =
-    (root-falls _ c.requires.0, tt)
-
-pub chain-returns-then-far-2 : goal.chain-returns-then-far-2
-chain-returns-then-far-2 t c =
-    c.close_chain.auto.scratch
-    ∙ c.siblings.auto.scratch
-    ∙ c.walk.auto.scratch
-    ∙ c.root_name.auto.scratch
+    (root-falls _ c.decreases, tt)
 
 pub chain-returns-then-far-2 : goal.chain-returns-then-far-2
 chain-returns-then-far-2 t c =
@@ -72,10 +57,6 @@ chain-returns-then-far-2 t c =
     chain-does _ _ _ _ C L c.child-root.ensures c.temporary.ensures (sym far.lowers_is ∙ c.if-far-2.true)
     (c.root_name.ensures l) (c.walk.ensures l table) (c.siblings.ensures l table)
     (c.close_chain.ensures l far.operands_are table)
-
-pub chain-residual-requires-2 : goal.chain-residual-requires-2
-chain-residual-requires-2 t c =
-    c.residual.auto.1.1.0 ∙ c.walk.auto.1.1.1.1.0 ∙ c.root-name.auto.1.1.0
 
 pub chain-returns-then-far : goal.chain-returns-then-far
 chain-returns-then-far t c =
@@ -93,25 +74,17 @@ chain-returns t c =
 
 pub coalesce-siblings-requires : goal.coalesce-siblings-requires
 coalesce-siblings-requires t c =
-    (sibling-falls _ c.requires.0, tt)
+    (sibling-falls _ c.decreases, tt)
 
 pub coalesce-expression-requires : goal.coalesce-expression-requires
 coalesce-expression-requires t c =
-    (last-falls _ c.requires.0, tt)
-
-pub coalesce-returns : goal.coalesce-returns
-coalesce-returns t c =
-    c.expression.auto.scratch ∙ c.siblings.auto.scratch
+    (last-falls _ c.decreases, tt)
 
 pub coalesce-returns : goal.coalesce-returns
 coalesce-returns t c =
     λ l table C v some. coalesce-does _ _ _ _ _ _ _ C v some c.count.ensures c.one_less-n.ensures
     c.child-first.ensures c.skip.ensures (c.siblings.ensures l table)
     (c.expression.ensures l table)
-
-pub expression-returns-then-levels-eq0 : goal.expression-returns-then-levels-eq0
-expression-returns-then-levels-eq0 t c =
-    c.residual.auto.scratch
 
 pub expression-returns-then-levels-eq0 : goal.expression-returns-then-levels-eq0
 expression-returns-then-levels-eq0 t c =
@@ -123,7 +96,7 @@ expression-overflow_sub-levels t c =
 
 pub expression-interpolated-requires : goal.expression-interpolated-requires
 expression-interpolated-requires t c =
-    (arm-falls _ c.if-levels-eq0.false c.requires.0, tt)
+    (arm-falls _ c.if-levels-eq0.false c.decreases, tt)
 
 pub expression-overflow_sub-levels-in-Array : goal.expression-overflow_sub-levels-in-Array
 expression-overflow_sub-levels-in-Array t c =
@@ -131,7 +104,7 @@ expression-overflow_sub-levels-in-Array t c =
 
 pub expression-array-requires : goal.expression-array-requires
 expression-array-requires t c =
-    (arm-falls _ c.if-levels-eq0.false c.requires.0, tt)
+    (arm-falls _ c.if-levels-eq0.false c.decreases, tt)
 
 pub expression-overflow_sub-levels-in-FnCall : goal.expression-overflow_sub-levels-in-FnCall
 expression-overflow_sub-levels-in-FnCall t c =
@@ -139,7 +112,7 @@ expression-overflow_sub-levels-in-FnCall t c =
 
 pub expression-call-requires : goal.expression-call-requires
 expression-call-requires t c =
-    (arm-falls _ c.if-levels-eq0.false c.requires.0, tt)
+    (arm-falls _ c.if-levels-eq0.false c.decreases, tt)
 
 pub expression-overflow_sub-levels-in-Chain : goal.expression-overflow_sub-levels-in-Chain
 expression-overflow_sub-levels-in-Chain t c =
@@ -147,7 +120,7 @@ expression-overflow_sub-levels-in-Chain t c =
 
 pub expression-chain-requires : goal.expression-chain-requires
 expression-chain-requires t c =
-    (chain-falls _ c.if-levels-eq0.false c.requires.0, tt)
+    (chain-falls _ c.if-levels-eq0.false c.decreases, tt)
 
 pub expression-overflow_sub-levels-in-And : goal.expression-overflow_sub-levels-in-And
 expression-overflow_sub-levels-in-And t c =
@@ -155,7 +128,7 @@ expression-overflow_sub-levels-in-And t c =
 
 pub expression-short_circuit-requires : goal.expression-short_circuit-requires
 expression-short_circuit-requires t c =
-    (arm-falls _ c.if-levels-eq0.false c.requires.0, lit< tt)
+    (arm-falls _ c.if-levels-eq0.false c.decreases, lit< tt)
 
 pub expression-overflow_sub-levels-in-Or : goal.expression-overflow_sub-levels-in-Or
 expression-overflow_sub-levels-in-Or t c =
@@ -163,7 +136,7 @@ expression-overflow_sub-levels-in-Or t c =
 
 pub expression-short_circuit-requires-in-Or : goal.expression-short_circuit-requires-in-Or
 expression-short_circuit-requires-in-Or t c =
-    (arm-falls _ c.if-levels-eq0.false c.requires.0, lit< tt)
+    (arm-falls _ c.if-levels-eq0.false c.decreases, lit< tt)
 
 pub expression-overflow_sub-levels-in-Coalesce : goal.expression-overflow_sub-levels-in-Coalesce
 expression-overflow_sub-levels-in-Coalesce t c =
@@ -171,7 +144,7 @@ expression-overflow_sub-levels-in-Coalesce t c =
 
 pub expression-coalesce-requires : goal.expression-coalesce-requires
 expression-coalesce-requires t c =
-    (arm-falls _ c.if-levels-eq0.false c.requires.0, tt)
+    (arm-falls _ c.if-levels-eq0.false c.decreases, tt)
 
 pub expression-returns-in-Boolean : goal.expression-returns-in-Boolean
 expression-returns-in-Boolean t c =
@@ -243,11 +216,7 @@ expression-returns-in-Residual t c =
 
 pub interpolated-siblings-requires : goal.interpolated-siblings-requires
 interpolated-siblings-requires t c =
-    (sibling-falls _ c.requires.0, tt)
-
-pub interpolated-returns : goal.interpolated-returns
-interpolated-returns t c =
-    c.emit-2.auto.scratch ∙ c.siblings.auto.scratch ∙ c.emit.auto.scratch
+    (sibling-falls _ c.decreases, tt)
 
 pub interpolated-returns : goal.interpolated-returns
 interpolated-returns t c =
@@ -256,15 +225,11 @@ interpolated-returns t c =
 
 pub short_circuit-siblings-requires : goal.short_circuit-siblings-requires
 short_circuit-siblings-requires t c =
-    (sibling-falls _ c.requires.0, tt)
+    (sibling-falls _ c.decreases, tt)
 
 pub short_circuit-decision-requires : goal.short_circuit-decision-requires
 short_circuit-decision-requires t c =
-    c.requires.1
-
-pub short_circuit-returns : goal.short_circuit-returns
-short_circuit-returns t c =
-    c.decision.auto.scratch ∙ c.siblings.auto.scratch
+    c.requires
 
 pub short_circuit-returns : goal.short_circuit-returns
 short_circuit-returns t c =
@@ -276,7 +241,7 @@ siblings-loop-i-init t c = (omega arith, refl, skip_first _ _, λ l table C R. r
 
 pub siblings-expression-requires : goal.siblings-expression-requires
 siblings-expression-requires t c =
-    (one-falls _ c.requires.0, tt)
+    (one-falls _ c.decreases, tt)
 
 pub siblings-loop-i-preserved : goal.siblings-loop-i-preserved
 siblings-loop-i-preserved t c =
@@ -291,10 +256,6 @@ siblings-loop-i-preserved t c =
 
 pub siblings-returns : goal.siblings-returns
 siblings-returns t c =
-    c.loop-i.invariant.1
-
-pub siblings-returns : goal.siblings-returns
-siblings-returns t c =
     λ l table C R. rows-done _ _ _ _ _ c.loop-i.invariant.0 c.loop-i-test.false (c.loop-i.invariant.3 l table C R)
 
 pub walk-loop-left-init : goal.walk-loop-left-init
@@ -302,7 +263,7 @@ walk-loop-left-init t c = (omega arith, refl, λ l table C L. walk-starts _ _ _ 
 
 pub walk-siblings-requires : goal.walk-siblings-requires
 walk-siblings-requires t c =
-    (sibling-falls _ c.requires.0, tt)
+    (sibling-falls _ c.decreases, tt)
 
 pub walk-loop-left-preserved : goal.walk-loop-left-preserved
 walk-loop-left-preserved t c =
@@ -315,10 +276,6 @@ walk-loop-left-preserved t c =
           c.loop-left-test.true
           (sym says.on_is ∙ c.if-p.true),
     )
-
-pub walk-returns-in-Fails : goal.walk-returns-in-Fails
-walk-returns-in-Fails t c =
-    c.step-names.auto.1.1.0 ∙ c.siblings.auto.1.1.1.1.0 ∙ c.loop-left.invariant.1
 
 pub walk-returns-else-p : goal.walk-returns-else-p
 walk-returns-else-p t c =

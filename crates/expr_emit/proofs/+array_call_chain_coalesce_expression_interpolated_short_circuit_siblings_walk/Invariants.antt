@@ -42,18 +42,18 @@ abbrev pub decreases-walk : goal.decreases-walk
 decreases-walk l = 4 * l.levels + 2
 
 abbrev pub invariant-siblings-loop-i : goal.invariant-siblings-loop-i
-invariant-siblings-loop-i l =
-    (l.i ≤ l.n) × (length l.scratch ≡ length l.initial.scratch) × (l.j ≡ skip l.sheet l.i l.from)
-    × ((l : Layout) → l.t ≡ effect_table → Right l.sheet → Row l.sheet l.n l.from
-    → Does l.sheet l l.initial.scratch (state_of l.initial.counts) l.scratch (state_of l.counts) (rows l.sheet (lowered l.levels l.sheet) l.by l.i l.from))
+invariant-siblings-loop-i v =
+    (v.i ≤ v.n) × (length v.scratch ≡ length v.initial.scratch) × (v.j ≡ skip v.sheet v.i v.from)
+    × ((l : Layout) → v.t ≡ effect_table → Right v.sheet → Row v.sheet v.n v.from
+    → Does v.sheet l v.initial.scratch (state_of v.initial.counts) v.scratch (state_of v.counts) (rows v.sheet (lowered v.levels v.sheet) v.by v.i v.from))
 
 abbrev pub decreases-siblings-loop-i : goal.decreases-siblings-loop-i
 decreases-siblings-loop-i l = l.n - l.i
 
 abbrev pub invariant-walk-loop-left : goal.invariant-walk-loop-left
-invariant-walk-loop-left l =
-    (l.left ≤ max_depth) × (length l.scratch ≡ length l.initial.scratch)
-    × ((l : Layout) → l.t ≡ effect_table → Right l.sheet → Linked l.sheet l.j → Walking l.sheet l l.levels l.initial.scratch (state_of l.initial.counts) l.j l.scratch (state_of l.counts) l.left l.at)
+invariant-walk-loop-left v =
+    (v.left ≤ max_depth) × (length v.scratch ≡ length v.initial.scratch)
+    × ((l : Layout) → v.t ≡ effect_table → Right v.sheet → Linked v.sheet v.j → Walking v.sheet l v.levels v.initial.scratch (state_of v.initial.counts) v.j v.scratch (state_of v.counts) v.left v.at)
 
 abbrev pub decreases-walk-loop-left : goal.decreases-walk-loop-left
 decreases-walk-loop-left l = l.left
