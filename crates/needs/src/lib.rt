@@ -1,5 +1,6 @@
 // What a sheet needs before buffers are lent: its counts, the refusals by counts, and the words of scratch that its lowering asks for.
 #![tactic(auto)]
+
 ghost use Rattle.std.specs.Prelude.{◌+◌, ◌*◌, ◌≤◌, ◌≡◌, eqb, length};
 ghost use Rattle.checks.specs.Checked as Checked;
 ghost use Rattle.sheet.specs.Limits.{max_depth};

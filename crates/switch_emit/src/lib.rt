@@ -1,6 +1,7 @@
 // The lowering of the Switch at node 0 into the lent scratch, by the flat table. Each function does to the scratch what its definition in
 // crate switch_model does to what has been made so far.
 #![tactic(auto)]
+
 ghost use Rattle.std.specs.Prelude.{◌≡◌, length};
 ghost use Rattle.sheet.specs.Limits.{max_depth};
 ghost use Rattle.lowering.specs.SwitchSheet.{cases_of, default_block};

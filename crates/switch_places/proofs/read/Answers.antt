@@ -13,4 +13,4 @@ returns c l₀ ok k =
     let x = c.ranges-2.ensures l₂ (c.case_heads-r.ensures.fact first (few_cases s ok k)) in
     let a = x.1.1 in
     tables-read s ok k (c.guards-c.ensures.fact_2 l₀).0 (c.case_heads-r.ensures.fact_2 l₁ first) x.0 x.1.0 a.0 a.1.1
-    (c.band_heads.ensures (c.ranges-2.auto.1.0 ∙ l₂) x.0.few a.0.few a.1.0)
+    (c.band_heads.ensures (c.ranges-2.auto.flat ∙ l₂) x.0.few a.0.few a.1.0)

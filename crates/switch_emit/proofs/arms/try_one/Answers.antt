@@ -1,0 +1,8 @@
+-- `switch_emit::arms::try_one` meets its contract.
+use Rattle.switch_emit.proofs.PartLaws.{try-does}
+use Rattle.switch_emit.proofs.arms.try_one.Goals as goal
+
+pub returns : goal.returns
+returns c =
+    λ l table C v. try-does _ _ _ _ c.position.ensures (c.expression.ensures l table C v)
+    (c.emit.ensures l table _ tt)

@@ -1,0 +1,9 @@
+-- `switch_emit::bodies::close` meets its contract.
+use Rattle.switch_emit.proofs.BodyDoes.{close-does}
+use Rattle.switch_emit.proofs.bodies.close.Goals as goal
+
+pub returns : goal.returns
+returns c =
+    λ l table.
+    λ s. close-does c.args.counts.now c.at_depth.ensures
+    (c.emit.ensures l table s tt) (c.emit-2.ensures l table s tt)

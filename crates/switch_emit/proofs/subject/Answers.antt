@@ -1,0 +1,9 @@
+-- `switch_emit::subject` meets its contract.
+use Rattle.switch_emit.proofs.SwitchDoes.{subject-does}
+use Rattle.switch_emit.proofs.subject.Goals as goal
+
+pub returns : goal.returns
+returns c =
+    λ l table.
+    λ C. subject-does _ c.child.ensures C
+    (c.expression.ensures l table) (c.emit.ensures l table _ tt)
