@@ -1,4 +1,4 @@
-/* The proved library, target/staticlib/libapi.a: the check of a sheet, what it needs, its lowering into an image, and the check of an image.
+/* The proved library, crates/api/out/libapi.a: the check of a sheet, what it needs, its lowering into an image, and the check of an image.
  *
  * The formats of sheet and image, word by word, are in docs/FORMAT.md. What the comments here say of answers and buffers is proved of the functions
  * for every sheet and every buffer (docs/PROOFS.md); the caller's duties are these:

@@ -1,6 +1,6 @@
 /* Checks the image in a file of decimal words beside the sheet in another: prints `well made`, or `refused` and the number.
  *
- *   cc -std=c99 -I include examples/c/check_image.c target/staticlib/libapi.a -o check_image
+ *   cc -std=c99 -I include examples/c/check_image.c crates/api/out/libapi.a -o check_image
  */
 #include <inttypes.h>
 #include <stdio.h>

@@ -1,6 +1,6 @@
 /* Lowers the sheet in a file: prints the image's words, or `refused` and the number.
  *
- *   cc -std=c99 -I include examples/c/lower.c target/staticlib/libapi.a -o lower
+ *   cc -std=c99 -I include examples/c/lower.c crates/api/out/libapi.a -o lower
  */
 #include <inttypes.h>
 #include <stdio.h>

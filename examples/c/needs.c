@@ -1,6 +1,6 @@
 /* What the sheet in a file needs: prints the words of scratch that its lowering asks for, or `refused` and the number.
  *
- *   cc -std=c99 -I include examples/c/needs.c target/staticlib/libapi.a -o needs
+ *   cc -std=c99 -I include examples/c/needs.c crates/api/out/libapi.a -o needs
  */
 #include <inttypes.h>
 #include <stdio.h>

@@ -41,6 +41,10 @@ fn is_stored(path: &str) -> bool {
 fn files(base: &Path, folder: &str, found: &mut Vec<String>) {
     for entry in fs::read_dir(base.join(folder)).expect(folder) {
         let entry = entry.unwrap();
+        // what rt makes
+        if entry.file_name() == "out" {
+            continue;
+        }
         let path = format!("{folder}/{}", entry.file_name().to_str().unwrap());
         if entry.file_type().unwrap().is_dir() {
             files(base, &path, found);
