@@ -57,7 +57,7 @@ fn same_text(sheet: &[u8], a: u32, b: u32) -> bool
 
 // The steps of links `c` and `d`, both indexes, are the same; `x` and `y` are what they are taken with.
 fn same_index(sheet: &[u8], c: u32, d: u32, x: u32, y: u32) -> bool
-    ensures { let sheet = sheet.entry.now in (x ≡ flatten.operand_of sheet c → y ≡ flatten.operand_of sheet d → result ≡ sames.same_index sheet c d) }
+    ensures { let sheet = sheet.now in (x ≡ flatten.operand_of sheet c → y ≡ flatten.operand_of sheet d → result ≡ sames.same_index sheet c d) }
 {
     if position(sheet, c) == position(sheet, d) {
         return start_of(sheet, x) == start_of(sheet, y);
@@ -102,7 +102,7 @@ fn rule_number(r: StepRule) -> u32
 
 // The steps of links `c` and `d`, both by rule `r`, are the same; `x` and `y` are what they are taken with.
 fn same_as(r: StepRule, sheet: &[u8], c: u32, d: u32, x: u32, y: u32) -> bool
-    ensures { let sheet = sheet.entry.now in (x ≡ flatten.operand_of sheet c → y ≡ flatten.operand_of sheet d → result ≡ sames.same_as (answers.step_rule_from r) sheet c d) }
+    ensures { let sheet = sheet.now in (x ≡ flatten.operand_of sheet c → y ≡ flatten.operand_of sheet d → result ≡ sames.same_as (answers.step_rule_from r) sheet c d) }
 {
     match r {
         StepRule::Index => same_index(sheet, c, d, x, y),
@@ -114,7 +114,7 @@ fn same_as(r: StepRule, sheet: &[u8], c: u32, d: u32, x: u32, y: u32) -> bool
 
 // The steps of links `c` and `d`, which say `p` and `q`, are the same, but for the operands' numbers.
 fn same_step(sheet: &[u8], c: u32, d: u32, p: Read, q: Read) -> bool
-    ensures { let sheet = sheet.entry.now in (Reads sheet c p → Reads sheet d q → result ≡ sames.same_step sheet c d) }
+    ensures { let sheet = sheet.now in (Reads sheet c p → Reads sheet d q → result ≡ sames.same_step sheet c d) }
 {
     let r = p.rule;
     let u = q.rule;
@@ -219,7 +219,7 @@ fn variable_root(found: Found, name: u32, pos: u32) -> Root
 
 // Node `v` as a root, with its name at place `name`, where `found` is the local that a variable is.
 pub fn root_of(sheet: &[u8], v: u32, name: u32, found: Found) -> Root
-    ensures { let sheet = sheet.entry.now in ((nodes.kind sheet v ≡ variable_kind → found ≡ founds.found (locals.resolve sheet (texts.text sheet (nodes.field_a sheet v))))
+    ensures { let sheet = sheet.now in ((nodes.kind sheet v ≡ variable_kind → found ≡ founds.found (locals.resolve sheet (texts.text sheet (nodes.field_a sheet v))))
         → result ≡ chains.root_with sheet v name) }
 {
     let k = kind(sheet, v);
@@ -236,7 +236,7 @@ pub fn root_of(sheet: &[u8], v: u32, name: u32, found: Found) -> Root
 
 // How many operands the step of a link takes, which says `p`.
 pub fn width(sheet: &[u8], p: Read) -> u32
-    ensures { let sheet = sheet.entry.now in ((c : ℕ) → Reads sheet c p → result ≡ chains.step_operands sheet c) }
+    ensures { let sheet = sheet.now in ((c : ℕ) → Reads sheet c p → result ≡ chains.step_operands sheet c) }
 {
     let r = p.rule;
     match r {
@@ -312,7 +312,7 @@ fn has_step(r: StepRule) -> bool
 
 // The step of a link lowers, which says `p`.
 fn step_lowers(sheet: &[u8], p: Read) -> bool
-    ensures { let sheet = sheet.entry.now in ((c : ℕ) → Reads sheet c p → result ≡ lowering.step_lowers sheet c) }
+    ensures { let sheet = sheet.now in ((c : ℕ) → Reads sheet c p → result ≡ lowering.step_lowers sheet c) }
 {
     let r = p.rule;
     match r {
@@ -371,7 +371,7 @@ pub fn chain_of(sheet: &[u8], j: u32, root: Root, first: u32) -> Chain
 
 // The step of link `c`, which says `p`, with `n` operands before it and its names at these places.
 pub fn step_of(sheet: &[u8], c: u32, p: Read, n: u32, name: u32, getter: u32, setter: u32) -> Step
-    ensures { let sheet = sheet.entry.now in (Reads sheet c p → result ≡ chains.step_with (flatten.step_rule sheet c) sheet c n name getter setter) }
+    ensures { let sheet = sheet.now in (Reads sheet c p → result ≡ chains.step_with (flatten.step_rule sheet c) sheet c n name getter setter) }
 {
     let r = p.rule;
     let x = p.with;

@@ -25,7 +25,7 @@ use tallies::{Tally, instructions, nothing, plus, spaced, taken_back};
 // `n` siblings from node `from` on, each with `gap` instructions behind it, with `levels` levels each. Leaves are counted without a call.
 #[cycle(chain_coalesce_siblings_tally_walk)]
 fn siblings(levels: u32, sheet: &[u8], told: &[u32], gap: u32, n: u32, from: u32) -> Tally
-    ensures { let sheet = sheet.entry.now in let t = counts.tally_by (answer told.now sheet) levels sheet in result ≡ capped (counts.siblings sheet t gap n from) }
+    ensures { let sheet = sheet.now in let t = counts.tally_by (answer told.now sheet) levels sheet in result ≡ capped (counts.siblings sheet t gap n from) }
 {
     if n == 0 {
         return nothing();
@@ -51,7 +51,7 @@ fn siblings(levels: u32, sheet: &[u8], told: &[u32], gap: u32, n: u32, from: u32
 // Coalesce: two instructions behind each operand but the last.
 #[cycle(chain_coalesce_siblings_tally_walk)]
 fn coalesce(levels: u32, sheet: &[u8], told: &[u32], j: u32) -> Tally
-    ensures { let sheet = sheet.entry.now in let t = counts.tally_by (answer told.now sheet) levels sheet in result ≡ capped (counts.coalesce sheet t j) }
+    ensures { let sheet = sheet.now in let t = counts.tally_by (answer told.now sheet) levels sheet in result ≡ capped (counts.coalesce sheet t j) }
 {
     let n = one_less(count(sheet, j));
     let first = child(j);
@@ -69,8 +69,8 @@ struct Walked {
 // The links of chain `j`. Where all of them lower, they are read once.
 #[cycle(chain_coalesce_siblings_tally_walk)]
 fn walk(levels: u32, sheet: &[u8], told: &[u32], j: u32) -> Walked
-    ensures sum_value { let sheet = sheet.entry.now in let t = counts.tally_by (answer told.now sheet) levels sheet in result.sum ≡ capped (counts.walk sheet t (links max_depth sheet j)) }
-    ensures far_value { let sheet = sheet.entry.now in result.far ≡ linked.least sheet (links max_depth sheet j) }
+    ensures sum_value { let sheet = sheet.now in let t = counts.tally_by (answer told.now sheet) levels sheet in result.sum ≡ capped (counts.walk sheet t (links max_depth sheet j)) }
+    ensures far_value { let sheet = sheet.now in result.far ≡ linked.least sheet (links max_depth sheet j) }
 {
     let mut sum = nothing();
     let mut left = MAX_DEPTH;
@@ -100,7 +100,7 @@ fn walk(levels: u32, sheet: &[u8], told: &[u32], j: u32) -> Walked
 // Dot, Index: a residual; a residual, with its code taken back; or operands, root and Chain.
 #[cycle(chain_coalesce_siblings_tally_walk)]
 fn chain(levels: u32, sheet: &[u8], told: &[u32], j: u32) -> Tally
-    ensures { let sheet = sheet.entry.now in let t = counts.tally_by (answer told.now sheet) levels sheet in result ≡ capped (counts.chain sheet t j) }
+    ensures { let sheet = sheet.now in let t = counts.tally_by (answer told.now sheet) levels sheet in result ≡ capped (counts.chain sheet t j) }
 {
     if is_plain(sheet, j) {
         return instructions(1);
@@ -121,7 +121,7 @@ fn chain(levels: u32, sheet: &[u8], told: &[u32], j: u32) -> Tally
 // The tally of node `j`, with that many levels left.
 #[cycle(chain_coalesce_siblings_tally_walk)]
 pub fn tally(levels: u32, sheet: &[u8], told: &[u32], j: u32) -> Tally
-    ensures { let sheet = sheet.entry.now in result ≡ capped (counts.tally_by (answer told.now sheet) levels sheet j) }
+    ensures { let sheet = sheet.now in result ≡ capped (counts.tally_by (answer told.now sheet) levels sheet j) }
 {
     if levels == 0 {
         return instructions(1);

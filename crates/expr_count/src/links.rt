@@ -33,7 +33,7 @@ fn method(sheet: &[u8], x: u32) -> Link
 
 // What of a link is counted, which says `p`.
 pub fn link_with(sheet: &[u8], p: Read) -> Link
-    ensures { let sheet = sheet.entry.now in ((c : ℕ) → Reads sheet c p → result ≡ linked.link sheet c) }
+    ensures { let sheet = sheet.now in ((c : ℕ) → Reads sheet c p → result ≡ linked.link sheet c) }
 {
     let by = p.rule;
     let x = p.with;

@@ -41,7 +41,7 @@ fn is_local(sheet: &[u8], told: &[u32], v: u32) -> bool
 
 // Variable `v` as a first argument.
 fn variable_by(sheet: &[u8], told: &[u32], v: u32) -> First
-    ensures { let sheet = sheet.entry.now in result ≡ first_of (locals.variable_by (locals.answer told.now sheet) v) }
+    ensures { let sheet = sheet.now in result ≡ first_of (locals.variable_by (locals.answer told.now sheet) v) }
 {
     if is_local(sheet, told, v) {
         return First::Local(0);
@@ -51,7 +51,7 @@ fn variable_by(sheet: &[u8], told: &[u32], v: u32) -> First
 
 // Node `v` as a first argument.
 fn first_by(sheet: &[u8], told: &[u32], v: u32) -> First
-    ensures { let sheet = sheet.entry.now in result ≡ first_of (locals.first_by (locals.answer told.now sheet) sheet v) }
+    ensures { let sheet = sheet.now in result ≡ first_of (locals.first_by (locals.answer told.now sheet) sheet v) }
 {
     let k = kind(sheet, v);
     if k == THIS {
@@ -65,7 +65,7 @@ fn first_by(sheet: &[u8], told: &[u32], v: u32) -> First
 
 // The receiver of call `j`. A call with an operator, with capture or with no argument has none.
 pub fn receiver_by(sheet: &[u8], told: &[u32], j: u32) -> First
-    ensures { let sheet = sheet.entry.now in result ≡ first_of (locals.receiver_by (locals.answer told.now sheet) sheet j) }
+    ensures { let sheet = sheet.now in result ≡ first_of (locals.receiver_by (locals.answer told.now sheet) sheet j) }
 {
     let c = field_c(sheet, j);
     let b = field_b(sheet, j);

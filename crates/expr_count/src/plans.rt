@@ -142,7 +142,7 @@ fn rotates(others: u32) -> u32
 
 // A call through its receiver: CallRef; LoadNamed, Rotate, CallRef; LoadThis, CallRef; or Call.
 fn call(sheet: &[u8], told: &[u32], j: u32) -> Plan
-    ensures { let sheet = sheet.entry.now in result ≡ plans.call_by (receiver_by (answer told.now sheet) sheet j) sheet j }
+    ensures { let sheet = sheet.now in result ≡ plans.call_by (receiver_by (answer told.now sheet) sheet j) sheet j }
 {
     let first = receiver_by(sheet, told, j);
     match first {
@@ -155,7 +155,7 @@ fn call(sheet: &[u8], told: &[u32], j: u32) -> Plan
 
 // FnCall.
 fn fn_call(sheet: &[u8], told: &[u32], j: u32) -> Plan
-    ensures { let sheet = sheet.entry.now in result ≡ plans.fn_call (answer told.now sheet) sheet j }
+    ensures { let sheet = sheet.now in result ≡ plans.fn_call (answer told.now sheet) sheet j }
 {
     let by = call_rule(sheet, j);
     match by {
@@ -169,7 +169,7 @@ fn fn_call(sheet: &[u8], told: &[u32], j: u32) -> Plan
 
 // What of node `j` is counted.
 pub(crate) fn plan_of(sheet: &[u8], told: &[u32], j: u32) -> Plan
-    ensures { let sheet = sheet.entry.now in result ≡ plans.plan (answer told.now sheet) sheet j }
+    ensures { let sheet = sheet.now in result ≡ plans.plan (answer told.now sheet) sheet j }
 {
     let by = rule(sheet, j);
     match by {

@@ -55,7 +55,7 @@ fn way_variable(found: Found) -> Way
 
 // The way of a call that generic dispatch takes.
 fn way_first(sheet: &[u8], scratch: &[u32], layout: Layout, j: u32) -> Way
-    ensures { let sheet = sheet.entry.now in
+    ensures { let sheet = sheet.now in
         (Slots sheet layout scratch.now → result ≡ ways.way_first (calling.receiver sheet j)) }
 {
     let k = receiver_kind(sheet, j);
@@ -70,7 +70,7 @@ fn way_first(sheet: &[u8], scratch: &[u32], layout: Layout, j: u32) -> Way
 
 // The way of call `j`.
 pub fn way_of(sheet: &[u8], scratch: &[u32], layout: Layout, j: u32) -> Way
-    ensures { let sheet = sheet.entry.now in (Slots sheet layout scratch.now → result ≡ ways.way_of sheet j) }
+    ensures { let sheet = sheet.now in (Slots sheet layout scratch.now → result ≡ ways.way_of sheet j) }
 {
     let by = call_rule(sheet, j);
     match by {
@@ -124,7 +124,7 @@ pub fn open(
     w: Way,
     j: u32,
 ) -> u32
-    ensures { let sheet = sheet.entry.now in ((l : Layout) → t.now ≡ effect_table → (Facts w sheet j
+    ensures { let sheet = sheet.now in ((l : Layout) → t.now ≡ effect_table → (Facts w sheet j
         → Does sheet l scratch.old (state_of counts.old) scratch.new (state_of counts.new)
         (ways.opened w sheet j)) ×
         (Facts w sheet j → (a : Made) → Holds sheet l scratch.old (state_of counts.old) a
@@ -161,7 +161,7 @@ fn call_ref(
     j: u32,
     receiver: Receiver,
 )
-    ensures { let sheet = sheet.entry.now in ((l : Layout) → t.now ≡ effect_table → Plain sheet j → nodes.count sheet j < 256 → NameKey sheet (key_of j 0)
+    ensures { let sheet = sheet.now in ((l : Layout) → t.now ≡ effect_table → Plain sheet j → nodes.count sheet j < 256 → NameKey sheet (key_of j 0)
         → Does sheet l scratch.old (state_of counts.old) scratch.new (state_of counts.new)
         (constructs.call_ref sheet j receiver)) }
 {
@@ -195,7 +195,7 @@ fn close_named(
     j: u32,
     at: u32,
 )
-    ensures { let sheet = sheet.entry.now in ((l : Layout) → t.now ≡ effect_table → Plain sheet j → nodes.count sheet j < 256 → NameKey sheet (key_of j 0)
+    ensures { let sheet = sheet.now in ((l : Layout) → t.now ≡ effect_table → Plain sheet j → nodes.count sheet j < 256 → NameKey sheet (key_of j 0)
         → Does sheet l scratch.old (state_of counts.old) scratch.new (state_of counts.new)
         (ways.close_named sheet j at)) }
 {
@@ -221,7 +221,7 @@ fn call_as(
     op: u32,
     capture: u32,
 )
-    ensures { let sheet = sheet.entry.now in ((l : Layout) → t.now ≡ effect_table → name_of sheet (key_of j 0) ≡ name (nodes.field_a sheet j) capture
+    ensures { let sheet = sheet.now in ((l : Layout) → t.now ≡ effect_table → name_of sheet (key_of j 0) ≡ name (nodes.field_a sheet j) capture
         → nodes.count sheet j < 256 → capture < 2 → NameKey sheet (key_of j 0)
         → Does sheet l scratch.old (state_of counts.old) scratch.new (state_of counts.new)
         (constructs.call_as sheet j op capture)) }
@@ -245,7 +245,7 @@ fn one_more(n: u32) -> u32
 
 // The operator's token, the call's name and Call.
 fn call_token(sheet: &[u8], t: &[u8; 125], counts: &mut [u32; COUNTS], scratch: &mut [u32], j: u32)
-    ensures { let sheet = sheet.entry.now in ((l : Layout) → t.now ≡ effect_table → Plain sheet j → nodes.count sheet j < 256 → NameKey sheet (key_of j 0)
+    ensures { let sheet = sheet.now in ((l : Layout) → t.now ≡ effect_table → Plain sheet j → nodes.count sheet j < 256 → NameKey sheet (key_of j 0)
         → TokenKey sheet j
         → Does sheet l scratch.old (state_of counts.old) scratch.new (state_of counts.new)
         (constructs.call_token sheet j)) }
@@ -256,7 +256,7 @@ fn call_token(sheet: &[u8], t: &[u8; 125], counts: &mut [u32; COUNTS], scratch: 
 
 // The end of a call of values.
 fn call_end(sheet: &[u8], t: &[u8; 125], counts: &mut [u32; COUNTS], scratch: &mut [u32], j: u32)
-    ensures { let sheet = sheet.entry.now in ((l : Layout) → t.now ≡ effect_table → Facts (kinds.Value) sheet j
+    ensures { let sheet = sheet.now in ((l : Layout) → t.now ≡ effect_table → Facts (kinds.Value) sheet j
         → Does sheet l scratch.old (state_of counts.old) scratch.new (state_of counts.new)
         (constructs.call_end sheet j)) }
 {
@@ -275,7 +275,7 @@ fn close_pointer(
     scratch: &mut [u32],
     j: u32,
 )
-    ensures { let sheet = sheet.entry.now in ((l : Layout) → t.now ≡ effect_table
+    ensures { let sheet = sheet.now in ((l : Layout) → t.now ≡ effect_table
         → Does sheet l scratch.old (state_of counts.old) scratch.new (state_of counts.new)
         (ways.closed
         (kinds.FnPtrCall) sheet j 0)) }
@@ -297,7 +297,7 @@ pub fn close(
     j: u32,
     at: u32,
 )
-    ensures { let sheet = sheet.entry.now in ((l : Layout) → t.now ≡ effect_table → Facts w sheet j
+    ensures { let sheet = sheet.now in ((l : Layout) → t.now ≡ effect_table → Facts w sheet j
         → Does sheet l scratch.old (state_of counts.old) scratch.new (state_of counts.new)
         (ways.closed w sheet j at)) }
 {

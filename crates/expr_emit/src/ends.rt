@@ -23,7 +23,7 @@ use sheet::local_count;
 
 // How many instructions node `j` gives. Beside many locals the scratch says which Variables are some of them.
 fn length_of(levels: u32, sheet: &[u8], scratch: &[u32], layout: Layout, j: u32) -> u64
-    ensures { let sheet = sheet.entry.now in (result ≤ cap) × (layout.nodes ≡ node_count sheet → Slots sheet layout scratch.now
+    ensures { let sheet = sheet.now in (result ≤ cap) × (layout.nodes ≡ node_count sheet → Slots sheet layout scratch.now
         → result ≡ min (counts.tally levels sheet j).len cap) }
 {
     if local_count(sheet) <= FEW {
@@ -38,7 +38,7 @@ fn length_of(levels: u32, sheet: &[u8], scratch: &[u32], layout: Layout, j: u32)
 
 // The place behind the code of node `j`, which starts at place `code`, as a word.
 fn behind(levels: u32, sheet: &[u8], scratch: &[u32], layout: Layout, code: u32, j: u32) -> u32
-    ensures { let sheet = sheet.entry.now in (layout.nodes ≡ node_count sheet → Slots sheet layout scratch.now → result ≡ end_place levels sheet code j) }
+    ensures { let sheet = sheet.now in (layout.nodes ≡ node_count sheet → Slots sheet layout scratch.now → result ≡ end_place levels sheet code j) }
 {
     let e = (code as u64) + length_of(levels, sheet, scratch, layout, j);
     (e % 4294967296) as u32

@@ -27,7 +27,7 @@ pub fn constant(
     scratch: &mut [u32],
     j: u32,
 )
-    ensures { let sheet = sheet.entry.now in ((l : Layout) → t.now ≡ effect_table → ConstKey sheet j
+    ensures { let sheet = sheet.now in ((l : Layout) → t.now ≡ effect_table → ConstKey sheet j
         → Does sheet l scratch.old (state_of counts.old) scratch.new (state_of counts.new)
         (constructs.constant sheet j)) }
 {
@@ -37,7 +37,7 @@ pub fn constant(
 
 // A name, loaded.
 fn load_named(sheet: &[u8], t: &[u8; 125], counts: &mut [u32; COUNTS], scratch: &mut [u32], j: u32)
-    ensures { let sheet = sheet.entry.now in ((l : Layout) → t.now ≡ effect_table → Plain sheet j → NameKey sheet (key_of j 0)
+    ensures { let sheet = sheet.now in ((l : Layout) → t.now ≡ effect_table → Plain sheet j → NameKey sheet (key_of j 0)
         → Does sheet l scratch.old (state_of counts.old) scratch.new (state_of counts.new)
         (constructs.load_named sheet j)) }
 {
@@ -53,7 +53,7 @@ pub fn variable(
     scratch: &mut [u32],
     j: u32,
 )
-    ensures { let sheet = sheet.entry.now in ((l : Layout) → t.now ≡ effect_table → Plain sheet j → NameKey sheet (key_of j 0)
+    ensures { let sheet = sheet.now in ((l : Layout) → t.now ≡ effect_table → Plain sheet j → NameKey sheet (key_of j 0)
         → Does sheet l scratch.old (state_of counts.old) scratch.new (state_of counts.new)
         (constructs.variable sheet j)) }
 {

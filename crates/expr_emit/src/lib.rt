@@ -52,7 +52,7 @@ fn siblings(
     n: u32,
     from: u32,
 )
-    ensures { let sheet = sheet.entry.now in ((l : Layout) → t.now ≡ effect_table → Right sheet → Row sheet n from
+    ensures { let sheet = sheet.now in ((l : Layout) → t.now ≡ effect_table → Right sheet → Row sheet n from
         → Does sheet l scratch.old (state_of counts.old) scratch.new (state_of counts.new)
         (rows sheet
         (lowered levels sheet) by n from)) }
@@ -77,7 +77,7 @@ fn array(
     scratch: &mut [u32],
     j: u32,
 )
-    ensures { let sheet = sheet.entry.now in ((l : Layout) → t.now ≡ effect_table → Right sheet → Valid sheet j
+    ensures { let sheet = sheet.now in ((l : Layout) → t.now ≡ effect_table → Right sheet → Valid sheet j
         → Does sheet l scratch.old (state_of counts.old) scratch.new (state_of counts.new)
         (constructs.array sheet
         (lowered levels sheet) j)) }
@@ -110,7 +110,7 @@ fn interpolated(
     scratch: &mut [u32],
     j: u32,
 )
-    ensures { let sheet = sheet.entry.now in ((l : Layout) → t.now ≡ effect_table → Right sheet → Valid sheet j
+    ensures { let sheet = sheet.now in ((l : Layout) → t.now ≡ effect_table → Right sheet → Valid sheet j
         → Does sheet l scratch.old (state_of counts.old) scratch.new (state_of counts.new)
         (constructs.interpolated sheet (lowered levels sheet) j)) }
 {
@@ -141,7 +141,7 @@ fn short_circuit(
     j: u32,
 )
     requires { stop < 2 }
-    ensures { let sheet = sheet.entry.now in ((l : Layout) → t.now ≡ effect_table → Right sheet → Valid sheet j
+    ensures { let sheet = sheet.now in ((l : Layout) → t.now ≡ effect_table → Right sheet → Valid sheet j
         → Does sheet l scratch.old (state_of counts.old) scratch.new (state_of counts.new)
         (constructs.short_circuit stop sheet (lowered levels sheet) end j)) }
 {
@@ -174,7 +174,7 @@ fn coalesce(
     end: u32,
     j: u32,
 )
-    ensures { let sheet = sheet.entry.now in ((l : Layout) → t.now ≡ effect_table → Right sheet → Valid sheet j → 1 ≤ nodes.count sheet j
+    ensures { let sheet = sheet.now in ((l : Layout) → t.now ≡ effect_table → Right sheet → Valid sheet j → 1 ≤ nodes.count sheet j
         → Does sheet l scratch.old (state_of counts.old) scratch.new (state_of counts.new)
         (constructs.coalesce sheet
         (lowered levels sheet) end j)) }
@@ -204,7 +204,7 @@ fn call(
     scratch: &mut [u32],
     j: u32,
 )
-    ensures { let sheet = sheet.entry.now in ((l : Layout) → t.now ≡ effect_table → Right sheet → Valid sheet j → nodes.kind sheet j ≡ 13
+    ensures { let sheet = sheet.now in ((l : Layout) → t.now ≡ effect_table → Right sheet → Valid sheet j → nodes.kind sheet j ≡ 13
         → Does sheet l scratch.old (state_of counts.old) scratch.new (state_of counts.new)
         (constructs.fn_call sheet
         (lowered levels sheet) j)) }
@@ -234,7 +234,7 @@ fn walk(
     scratch: &mut [u32],
     j: u32,
 )
-    ensures { let sheet = sheet.entry.now in ((l : Layout) → t.now ≡ effect_table → Right sheet → Linked sheet j
+    ensures { let sheet = sheet.now in ((l : Layout) → t.now ≡ effect_table → Right sheet → Linked sheet j
         → Does sheet l scratch.old (state_of counts.old) scratch.new (state_of counts.new)
         (constructs.steps sheet
         (lowered levels sheet) (flatten.links max_depth sheet j))) }
@@ -271,7 +271,7 @@ fn chain(
     scratch: &mut [u32],
     j: u32,
 )
-    ensures { let sheet = sheet.entry.now in ((l : Layout) → t.now ≡ effect_table → Right sheet → Linked sheet j
+    ensures { let sheet = sheet.now in ((l : Layout) → t.now ≡ effect_table → Right sheet → Linked sheet j
         → Does sheet l scratch.old (state_of counts.old) scratch.new (state_of counts.new)
         (constructs.chain sheet
         (lowered levels sheet) j)) }
@@ -315,7 +315,7 @@ pub fn expression(
     scratch: &mut [u32],
     j: u32,
 )
-    ensures { let sheet = sheet.entry.now in ((l : Layout) → t.now ≡ effect_table → Right sheet → Valid sheet j
+    ensures { let sheet = sheet.now in ((l : Layout) → t.now ≡ effect_table → Right sheet → Valid sheet j
         → Does sheet l scratch.old (state_of counts.old) scratch.new (state_of counts.new)
         (lowered levels sheet j)) }
 {

@@ -35,7 +35,7 @@ pub fn add_name(
     j: u32,
     f: u32,
 ) -> u32
-    ensures { let sheet = sheet.entry.now in ((l : Layout) → (f < names_per_node → NameKey sheet (key_of j f)
+    ensures { let sheet = sheet.now in ((l : Layout) → (f < names_per_node → NameKey sheet (key_of j f)
         → Does sheet l scratch.old (state_of counts.old) scratch.new (state_of counts.new)
         (add_name sheet
         (name_of sheet (key_of j f)))) × ((a : Made) → f < names_per_node → NameKey sheet (key_of j f)

@@ -29,7 +29,7 @@ use std::num::wrapping_add_u32;
 
 // A variable's name, for the root of a chain.
 pub fn root_name(sheet: &[u8], counts: &mut [u32; COUNTS], scratch: &mut [u32], v: u32)
-    ensures { let sheet = sheet.entry.now in ((l : Layout) → Valid sheet v
+    ensures { let sheet = sheet.now in ((l : Layout) → Valid sheet v
         → Does sheet l scratch.old (state_of counts.old) scratch.new (state_of counts.new)
         (constructs.root_name sheet v)) }
 {
@@ -40,7 +40,7 @@ pub fn root_name(sheet: &[u8], counts: &mut [u32; COUNTS], scratch: &mut [u32], 
 
 // The name, getter and setter of property `v`, which a link is taken with.
 fn property(sheet: &[u8], counts: &mut [u32; COUNTS], scratch: &mut [u32], v: u32, link: u32)
-    ensures { let sheet = sheet.entry.now in ((l : Layout) → nodes.kind sheet v ≡ 11 → v ≡ flatten.operand_of sheet link → nodes.kind sheet link ≡ 14 → Valid sheet v
+    ensures { let sheet = sheet.now in ((l : Layout) → nodes.kind sheet v ≡ 11 → v ≡ flatten.operand_of sheet link → nodes.kind sheet link ≡ 14 → Valid sheet v
         → Valid sheet link
         → Does sheet l scratch.old (state_of counts.old) scratch.new (state_of counts.new)
         (constructs.property sheet v)) }
@@ -52,7 +52,7 @@ fn property(sheet: &[u8], counts: &mut [u32; COUNTS], scratch: &mut [u32], v: u3
 
 // The name of method `v`.
 fn method(sheet: &[u8], counts: &mut [u32; COUNTS], scratch: &mut [u32], v: u32)
-    ensures { let sheet = sheet.entry.now in ((l : Layout) → nodes.kind sheet v ≡ 12 → Valid sheet v
+    ensures { let sheet = sheet.now in ((l : Layout) → nodes.kind sheet v ≡ 12 → Valid sheet v
         → Does sheet l scratch.old (state_of counts.old) scratch.new (state_of counts.new)
         (step_names flatten.method sheet v)) }
 {
@@ -61,7 +61,7 @@ fn method(sheet: &[u8], counts: &mut [u32; COUNTS], scratch: &mut [u32], v: u32)
 
 // The names of the step of a link, which says `p`.
 pub fn step_names(sheet: &[u8], counts: &mut [u32; COUNTS], scratch: &mut [u32], link: u32, p: Read)
-    ensures { let sheet = sheet.entry.now in ((l : Layout) → Reads sheet link p → Valid sheet (flatten.operand_of sheet link) → ChainKey sheet link
+    ensures { let sheet = sheet.now in ((l : Layout) → Reads sheet link p → Valid sheet (flatten.operand_of sheet link) → ChainKey sheet link
         → Does sheet l scratch.old (state_of counts.old) scratch.new (state_of counts.new)
         (step_names
         (flatten.step_rule sheet link) sheet (flatten.operand_of sheet link))) }
@@ -77,7 +77,7 @@ pub fn step_names(sheet: &[u8], counts: &mut [u32; COUNTS], scratch: &mut [u32],
 
 // How many values the chain of node `j` takes off the stack: the `n` operands of its steps, and a root that is lowered.
 fn popped(sheet: &[u8], j: u32, n: u32) -> u32
-    ensures { let sheet = sheet.entry.now in (n ≡ entries.chain_operands sheet j → result ≡ entries.chain_operands sheet j + links.temporary sheet (nodes.child j)) }
+    ensures { let sheet = sheet.now in (n ≡ entries.chain_operands sheet j → result ≡ entries.chain_operands sheet j + links.temporary sheet (nodes.child j)) }
 {
     wrapping_add_u32(n, temporary(sheet, child(j)))
 }
@@ -91,7 +91,7 @@ pub fn close_chain(
     j: u32,
     n: u32,
 )
-    ensures { let sheet = sheet.entry.now in ((l : Layout) → n ≡ entries.chain_operands sheet j → t.now ≡ effect_table → ChainKey sheet j → (a : Made)
+    ensures { let sheet = sheet.now in ((l : Layout) → n ≡ entries.chain_operands sheet j → t.now ≡ effect_table → ChainKey sheet j → (a : Made)
         → Pooled sheet a.pools.names j
         → Holds sheet l scratch.old (state_of counts.old) a → Fits l (constructs.close_chain sheet j a)
         → Holds sheet l scratch.new (state_of counts.new) (constructs.close_chain sheet j a)) }

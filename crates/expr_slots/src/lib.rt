@@ -23,7 +23,7 @@ pub enum Found {
 
 // The last local with the bytes of `name`.
 fn by_bytes(sheet: &[u8], name: &[u8]) -> Found
-    ensures { let sheet = sheet.entry.now in result ≡ answers.found (slots.resolve sheet name.now) }
+    ensures { let sheet = sheet.now in result ≡ answers.found (slots.resolve sheet name.now) }
 {
     let mut left = local_count(sheet);
     while 0 < left {
@@ -60,7 +60,7 @@ fn same_part(sheet: &[u8], at: usize, len: usize, name: &[u8]) -> bool
 // The last local with the bytes of text `t`, which is `name` and does not end the sheet: texts of another length are passed over.
 fn by_length(sheet: &[u8], t: u32, name: &[u8]) -> Found
     requires { (name.now ≡ texts.text sheet.now t) × (Ends sheet.now name.now → ⊥) }
-    ensures { let sheet = sheet.entry.now in result ≡ answers.found (slots.resolve sheet name.now) }
+    ensures { let sheet = sheet.now in result ≡ answers.found (slots.resolve sheet name.now) }
 {
     let n = text_length(sheet, t);
     let lengths = lengths_at(sheet);
@@ -86,7 +86,7 @@ fn by_length(sheet: &[u8], t: u32, name: &[u8]) -> Found
 
 // The last local whose name has the bytes of text `t`.
 pub fn resolve(sheet: &[u8], t: u32) -> Found
-    ensures { let sheet = sheet.entry.now in result ≡ answers.found (slots.resolve sheet (texts.text sheet t)) }
+    ensures { let sheet = sheet.now in result ≡ answers.found (slots.resolve sheet (texts.text sheet t)) }
 {
     let name = text(sheet, t);
     if ends_with(sheet, name) {

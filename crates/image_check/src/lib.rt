@@ -26,7 +26,7 @@ fn sizes_agree(image: &[u32]) -> bool
 
 // Whether the image `image` is well made for the sheet `sheet`, found in a scratch of as many words. Each test may rely on those before it.
 fn well_made(sheet: &[u8], image: &[u32], scratch: &mut [u32]) -> bool
-    ensures { let image = image.entry.now in
+    ensures { let image = image.now in
         (length scratch.old ≡ length image → result ≡ well_made sheet.now image) }
 {
     if sizes_agree(image) {
@@ -47,7 +47,7 @@ fn well_made(sheet: &[u8], image: &[u32], scratch: &mut [u32]) -> bool
 // An image beside an accepted sheet: 11 for a scratch that has fewer words than the image, 13, or nothing. The scratch is
 // kept under 11, and zeroed else.
 fn judge(sheet: &[u8], image: &[u32], scratch: &mut [u32]) -> Verdict
-    ensures { let sheet = sheet.entry.now in (checked sheet ≡ Accepted → Answers sheet image.now scratch.old result scratch.new) }
+    ensures { let sheet = sheet.now in (checked sheet ≡ Accepted → Answers sheet image.now scratch.old result scratch.new) }
 {
     let m = image.len();
     if scratch.len() < m {

@@ -46,7 +46,7 @@ fn chain_takes(image: &[u32], o: Starts, i: u32) -> u64
 
 // The count that is popped on top; the chain is looked at only where it counts.
 fn on_top(image: &[u32], o: Starts, which: u32, a: u32, b: u32) -> u64
-    ensures value { let image = image.entry.now in
+    ensures value { let image = image.now in
         (Placed image o → result ≡ table.counted which a b (runs.chain_takes image a)) }
     ensures small { result ≤ 4294967296 }
 {
@@ -90,7 +90,7 @@ fn after(c: Code, d: u32) -> u64
 
 // A Switch hands the mark `m` to its table. If none has come to the table before, its rows and its default are come to.
 fn open_table(image: &[u32], o: Starts, m: u32, scratch: &mut [u32], i: u32)
-    ensures { let image = image.entry.now in
+    ensures { let image = image.now in
         (Placed image o
         → Pooled image i
         → 0 < m
@@ -110,7 +110,7 @@ fn open_table(image: &[u32], o: Starts, m: u32, scratch: &mut [u32], i: u32)
 
 // Place `p` hands on the mark `m`.
 fn hand_on(image: &[u32], o: Starts, c: Code, p: u32, m: u32, scratch: &mut [u32])
-    ensures { let image = image.entry.now in
+    ensures { let image = image.now in
         let done = Does image (marks.hand_on (marks.flow_at image p) image p m) scratch.old scratch.new in
         (Placed image o → Read image p c → PooledAt image p → 0 < m → done) }
 {
@@ -134,7 +134,7 @@ fn hand_on(image: &[u32], o: Starts, c: Code, p: u32, m: u32, scratch: &mut [u32
 
 // Place `p` hands on its mark; false where the mark to hand on has no room in a word.
 fn pass(image: &[u32], o: Starts, t: &[u8; 125], p: u32, scratch: &mut [u32]) -> bool
-    ensures { let image = image.entry.now in
+    ensures { let image = image.now in
         let done = Passed image p scratch.old scratch.new result in
         (Placed image o → t.now ≡ effect_table → PooledAt image p → done) }
 {
@@ -153,7 +153,7 @@ fn pass(image: &[u32], o: Starts, t: &[u8; 125], p: u32, scratch: &mut [u32]) ->
 
 // The marks of the whole code.
 fn mark_all(image: &[u32], o: Starts, t: &[u8; 125], scratch: &mut [u32]) -> bool
-    ensures { let image = image.entry.now in
+    ensures { let image = image.now in
         (Placed image o
         → t.now ≡ effect_table
         → TablesNamed image
@@ -196,7 +196,7 @@ fn leads(o: Starts, c: Code, scratch: &[u32], p: u32, m: u64) -> bool
 
 // Place `p` finds what it needs, and leads to its own mark.
 fn place_right(image: &[u32], o: Starts, t: &[u8; 125], scratch: &[u32], p: u32) -> bool
-    ensures { let image = image.entry.now in
+    ensures { let image = image.now in
         let found = marks_of image scratch.now in
         (Placed image o → t.now ≡ effect_table → result ≡ marks.place_by (marks.mark found p) image found p) }
 {
@@ -210,7 +210,7 @@ fn place_right(image: &[u32], o: Starts, t: &[u8; 125], scratch: &[u32], p: u32)
 }
 
 fn places_right(image: &[u32], o: Starts, t: &[u8; 125], scratch: &[u32]) -> bool
-    ensures { let image = image.entry.now in
+    ensures { let image = image.now in
         (Placed image o → t.now ≡ effect_table → result ≡ places_right image (marks_of image scratch.now)) }
 {
     let n = o.places;
@@ -227,7 +227,7 @@ fn places_right(image: &[u32], o: Starts, t: &[u8; 125], scratch: &[u32]) -> boo
 
 // The rows and the default of table `i` have its mark.
 fn table_right(image: &[u32], o: Starts, scratch: &[u32], i: u32) -> bool
-    ensures { let image = image.entry.now in
+    ensures { let image = image.now in
         let found = marks_of image scratch.now in
         let right = marks.table_by (marks.mark found (marks.table_node image i)) image found i in
         (Placed image o → Pooled image i → Runs image scratch.now → result ≡ right) }
@@ -243,7 +243,7 @@ fn table_right(image: &[u32], o: Starts, scratch: &[u32], i: u32) -> bool
 }
 
 fn tables_right(image: &[u32], o: Starts, scratch: &[u32]) -> bool
-    ensures { let image = image.entry.now in
+    ensures { let image = image.now in
         let found = marks_of image scratch.now in
         (Placed image o → RowsPooled image → Runs image scratch.now → result ≡ tables_right image found) }
 {
@@ -280,7 +280,7 @@ fn most(scratch: &[u32], size: usize, n: u32) -> u32
 
 // The marks agree everywhere, one value remains, and the reported depth is the greatest.
 fn marks_right(image: &[u32], o: Starts, t: &[u8; 125], scratch: &[u32]) -> bool
-    ensures { let image = image.entry.now in
+    ensures { let image = image.now in
         (Placed image o
         → t.now ≡ effect_table
         → RowsPooled image
@@ -301,7 +301,7 @@ fn marks_right(image: &[u32], o: Starts, t: &[u8; 125], scratch: &[u32]) -> bool
 // Whether runs agree on the depth at each place, find what they need, end with one value, and reach the depth that the image reports.
 // What the scratch holds in the end is not said.
 pub fn depths_right(image: &[u32], scratch: &mut [u32]) -> bool
-    ensures { let image = image.entry.now in
+    ensures { let image = image.now in
         let marked = marks.marked image (marks.marks_there image) (words.instructions image) in
         (Checked image → length scratch.old ≡ length image → result ≡ marks.marks_right image marked) }
 {

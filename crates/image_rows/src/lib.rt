@@ -149,7 +149,7 @@ fn note(scratch: &mut [u32], size: usize, k: usize, n: u32) -> u32
 // Row `k` of `left` rows is come to if it was not seen. Tells how many rows to go on.
 fn come_row(image: &[u32], o: Starts, m: u32, scratch: &mut [u32], k: usize, left: u32) -> u32
     ensures forth { 0 < left → (0 < result) × (result ≤ left) }
-    ensures step { let image = image.entry.now in
+    ensures step { let image = image.now in
         (Placed image o → Stepped image m k left result scratch.old scratch.new) }
 {
     let size = marks_there(o);
@@ -169,7 +169,7 @@ fn come_row(image: &[u32], o: Starts, m: u32, scratch: &mut [u32], k: usize, lef
 // over at once: for n rows and tables in all these are at most some n log n steps, however the tables share rows, since a step
 // either at least doubles what is noted of a row or halves the way that is left.
 pub fn come_rows(image: &[u32], o: Starts, m: u32, scratch: &mut [u32], i: u32)
-    ensures { let image = image.entry.now in
+    ensures { let image = image.now in
         let rows = marks.comes m (runs.row_target image i) (words.switch_word image i 2) in
         (Placed image o → Pooled image i → 0 < m → Does image rows scratch.old scratch.new) }
 {
@@ -225,7 +225,7 @@ pub fn count_runs(image: &[u32], o: Starts, scratch: &mut [u32])
 
 // Whether all rows of table `i` lead to the mark `m`, by the runs that were counted.
 pub fn rows_right(image: &[u32], o: Starts, scratch: &[u32], i: u32, m: u32) -> bool
-    ensures { let image = image.entry.now in
+    ensures { let image = image.now in
         let found = marks_of image scratch.now in
         (Placed image o
         → Pooled image i

@@ -40,7 +40,7 @@ fn need(kind: u32, a: u32, b: u32, c: u32) -> u32
 
 // The needs of all steps, as leaves of a tree.
 fn put_needs(image: &[u32], scratch: &mut [u32])
-    ensures { let image = image.entry.now in
+    ensures { let image = image.now in
         (2 * rules.steps image ≤ length scratch.old → NeedsIn image scratch.new (rules.steps image)) }
 {
     let first = steps_at(image);
@@ -97,7 +97,7 @@ fn chains_fit(image: &[u32], t: &[u32]) -> bool
 
 // Whether each step of each chain has its operands in that chain.
 pub fn operands_right(image: &[u32], scratch: &mut [u32]) -> bool
-    ensures { let image = image.entry.now in
+    ensures { let image = image.now in
         (Sized image scratch.old → ChainsLie image → result ≡ test.operands_right image) }
 {
     put_needs(image, scratch);
@@ -135,7 +135,7 @@ fn rows_before(kind: u32, n: usize) -> usize
 
 // Whether all targets of table `i`, its default's too, are above `p`, by the tree over the targets.
 fn table_aims(image: &[u32], t: &[u32], p: u32, i: u32) -> bool
-    ensures { let image = image.entry.now in
+    ensures { let image = image.now in
         (TargetTree image t.now → p < 4294967295 → i < rules.tables image → result ≡ ltb p (test.least_target image i)) }
 {
     if p == 4294967295 {
@@ -151,7 +151,7 @@ fn table_aims(image: &[u32], t: &[u32], p: u32, i: u32) -> bool
 
 // Whether the targets of the instruction at `p` go forward, and not past the code.
 fn aims(image: &[u32], t: &[u32], e: &[u8; 125], p: u32) -> bool
-    ensures { let image = image.entry.now in
+    ensures { let image = image.now in
         (e.now ≡ effect_table → TargetTree image t.now → p < words.instructions image
         → result ≡ test.aims (marks.flow_at image p) image p) }
 {
@@ -168,7 +168,7 @@ fn aims(image: &[u32], t: &[u32], e: &[u8; 125], p: u32) -> bool
 }
 
 fn code_aims(image: &[u32], t: &[u32], e: &[u8; 125]) -> bool
-    ensures { let image = image.entry.now in
+    ensures { let image = image.now in
         (e.now ≡ effect_table → TargetTree image t.now → result ≡ test.targets_right image) }
 {
     let n = word_of(image, 0);
@@ -185,7 +185,7 @@ fn code_aims(image: &[u32], t: &[u32], e: &[u8; 125]) -> bool
 
 // Whether all targets go forward, a table's from each Switch naming it, and those of instructions not past the code.
 pub fn targets_right(image: &[u32], scratch: &mut [u32]) -> bool
-    ensures { let image = image.entry.now in
+    ensures { let image = image.now in
         (Sized image scratch.old → RowsLie image → result ≡ test.targets_right image) }
 {
     let n = word_of(image, 8);

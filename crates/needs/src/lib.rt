@@ -90,14 +90,14 @@ fn alike(a: Tally, b: Tally, scratch: usize, nodes: u32) -> bool
 
 // The counts of an accepted expression.
 fn count_plain(sheet: &[u8]) -> Tally
-    ensures { let sheet = sheet.entry.now in ((nodes.kind sheet 0 ≡ switch_kind → ⊥) → Counts sheet result) }
+    ensures { let sheet = sheet.now in ((nodes.kind sheet 0 ≡ switch_kind → ⊥) → Counts sheet result) }
 {
     exact(MAX_DEPTH, sheet, 0)
 }
 
 // An accepted Switch read into the flat table and counted, with the locals that are told.
 fn planned(sheet: &[u8], told: &[u32], flat: &mut [u32; SIZE]) -> Tally
-    ensures fact { let sheet = sheet.entry.now in let t = tally_by (answer told.now sheet) max_depth sheet in (length flat.old ≡ columns.size → Checked.verdict_number (Checked.checked sheet) ≡ 0 → nodes.kind sheet 0 ≡ switch_kind
+    ensures fact { let sheet = sheet.now in let t = tally_by (answer told.now sheet) max_depth sheet in (length flat.old ≡ columns.size → Checked.verdict_number (Checked.checked sheet) ≡ 0 → nodes.kind sheet 0 ≡ switch_kind
         → Counted sheet t flat.new result) }
     ensures flat_len_unchanged { length flat.new ≡ length flat.old }
 {
@@ -107,7 +107,7 @@ fn planned(sheet: &[u8], told: &[u32], flat: &mut [u32; SIZE]) -> Tally
 
 // The counts of an accepted Switch, read into the flat table.
 fn count_switch(sheet: &[u8], flat: &mut [u32; SIZE]) -> Tally
-    ensures fact { let sheet = sheet.entry.now in (length flat.old ≡ columns.size
+    ensures fact { let sheet = sheet.now in (length flat.old ≡ columns.size
         → Checked.verdict_number (Checked.checked sheet) ≡ 0 → nodes.kind sheet 0 ≡ switch_kind
         → Counted sheet (tally max_depth sheet) flat.new result) }
     ensures flat_len_unchanged { length flat.new ≡ length flat.old }
@@ -118,7 +118,7 @@ fn count_switch(sheet: &[u8], flat: &mut [u32; SIZE]) -> Tally
 
 // The counts of an accepted sheet.
 fn counts(sheet: &[u8]) -> Tally
-    ensures { let sheet = sheet.entry.now in (Checked.verdict_number (Checked.checked sheet) ≡ 0 → Counts sheet result) }
+    ensures { let sheet = sheet.now in (Checked.verdict_number (Checked.checked sheet) ≡ 0 → Counts sheet result) }
 {
     if kind(sheet, 0) == SWITCH {
         let mut w = [0u32; SIZE];
@@ -129,7 +129,7 @@ fn counts(sheet: &[u8]) -> Tally
 
 // What an accepted sheet needs.
 fn need_of(sheet: &[u8]) -> Need
-    ensures { let sheet = sheet.entry.now in (Checked.verdict_number (Checked.checked sheet) ≡ 0 → result ≡ needed sheet) }
+    ensures { let sheet = sheet.now in (Checked.verdict_number (Checked.checked sheet) ≡ 0 → result ≡ needed sheet) }
 {
     let t = counts(sheet);
     let k = over_limits(t);
@@ -170,7 +170,7 @@ pub fn plain_counts(sheet: &[u8], scratch: usize) -> Tally
 
 // The counts by which a Switch is refused or built, as plain_counts has them. Beside few locals its table is counted by them.
 pub fn switch_counts(sheet: &[u8], scratch: usize, flat: &mut [u32; SIZE]) -> Tally
-    ensures fact { let sheet = sheet.entry.now in (length flat.old ≡ columns.size → Checked.verdict_number (Checked.checked sheet) ≡ 0 → nodes.kind sheet 0 ≡ switch_kind
+    ensures fact { let sheet = sheet.now in (length flat.old ≡ columns.size → Checked.verdict_number (Checked.checked sheet) ≡ 0 → nodes.kind sheet 0 ≡ switch_kind
         → Decides sheet scratch result × (local_count sheet ≤ 64 → Exact sheet flat.new)) }
     ensures flat_len_unchanged { length flat.new ≡ length flat.old }
 {
@@ -190,7 +190,7 @@ pub fn switch_counts(sheet: &[u8], scratch: usize, flat: &mut [u32; SIZE]) -> Ta
 
 // The table of a Switch that is not refused, counted by its own locals.
 pub fn settle(sheet: &[u8], flat: &mut [u32; SIZE])
-    ensures fact { let sheet = sheet.entry.now in (length flat.old ≡ columns.size → Checked.verdict_number (Checked.checked sheet) ≡ 0 → nodes.kind sheet 0 ≡ switch_kind
+    ensures fact { let sheet = sheet.now in (length flat.old ≡ columns.size → Checked.verdict_number (Checked.checked sheet) ≡ 0 → nodes.kind sheet 0 ≡ switch_kind
         → (local_count sheet ≤ 64 → Exact sheet flat.old) → Exact sheet flat.new) }
     ensures flat_len_unchanged { length flat.new ≡ length flat.old }
 {

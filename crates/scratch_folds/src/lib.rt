@@ -217,7 +217,7 @@ fn fold_part(b: &[u8], scratch: &[u32], at: u32, i: u32, n: u32) -> u32
 // The fold over text `t`, a long one: by what is kept, where it is one of the sheet's and lies within the text bytes.
 fn fold_long(sheet: &[u8], scratch: &[u32], at: u32, t: u32) -> u32
     requires { long ≤ texts.text_length sheet.now t }
-    ensures { let sheet = sheet.entry.now in BySums sheet at scratch.now (fold_hash 0 (texts.text sheet t)) result }
+    ensures { let sheet = sheet.now in BySums sheet at scratch.now (fold_hash 0 (texts.text sheet t)) result }
 {
     if text_count(sheet) <= t {
         return fold_bytes(text(sheet, t));
@@ -233,7 +233,7 @@ fn fold_long(sheet: &[u8], scratch: &[u32], at: u32, t: u32) -> u32
 
 // The fold over text `t`: by its bytes, or by what is kept.
 pub fn fold_text(sheet: &[u8], scratch: &[u32], at: u32, t: u32) -> u32
-    ensures { let sheet = sheet.entry.now in BySums sheet at scratch.now (fold_hash 0 (texts.text sheet t)) result }
+    ensures { let sheet = sheet.now in BySums sheet at scratch.now (fold_hash 0 (texts.text sheet t)) result }
 {
     if text_length(sheet, t) < LONG {
         return fold_bytes(text(sheet, t));
@@ -243,7 +243,7 @@ pub fn fold_text(sheet: &[u8], scratch: &[u32], at: u32, t: u32) -> u32
 
 // The hash of text `t`.
 pub fn hash_text(sheet: &[u8], scratch: &[u32], at: u32, t: u32) -> u32
-    ensures { let sheet = sheet.entry.now in BySums sheet at scratch.now (bytes_hash (texts.text sheet t)) result }
+    ensures { let sheet = sheet.now in BySums sheet at scratch.now (bytes_hash (texts.text sheet t)) result }
 {
     spread_out(fold_text(sheet, scratch, at, t))
 }

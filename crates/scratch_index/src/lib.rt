@@ -110,7 +110,7 @@ pub fn remember(scratch: &mut [u32], ms: u32, t: u32, p: u32)
 
 // The hash of the constant of node `j`, by the kept folds.
 pub fn const_hash(sheet: &[u8], scratch: &[u32], layout: Layout, j: u32) -> u32
-    ensures { let sheet = sheet.entry.now in
+    ensures { let sheet = sheet.now in
         BySums sheet (places.sums_from layout) scratch.now (const_hash sheet j) result }
 {
     let k = kind(sheet, j);
@@ -213,7 +213,7 @@ fn seek_token(sheet: &[u8], scratch: &[u32], ix: Index, n: u32, j: u32, h: u32) 
 
 // The hash of the name with text `t`, and `!` where `m` says: one byte more. By the kept folds.
 pub fn name_hash(sheet: &[u8], scratch: &[u32], layout: Layout, t: u32, m: bool) -> u32
-    ensures { let sheet = sheet.entry.now in BySums sheet (places.sums_from layout) scratch.now (name_hash_of sheet (name_with sheet t m)) result }
+    ensures { let sheet = sheet.now in BySums sheet (places.sums_from layout) scratch.now (name_hash_of sheet (name_with sheet t m)) result }
 {
     let f = fold_text(sheet, scratch, sums_at(layout), t);
     if m {
@@ -249,7 +249,7 @@ fn name_hit(sheet: &[u8], v: u32, h: u32, t: u32, m: bool, c: u32) -> bool
 
 // Where the name with text `t` and mark `m`, with hash `h`, stands among the first `n`; `n` where it does not.
 pub fn seek_name(sheet: &[u8], scratch: &[u32], ix: Index, n: u32, t: u32, m: bool, h: u32) -> u32
-    ensures { let sheet = sheet.entry.now in Finds (is_name sheet (name_with sheet t m)) (name_hash sheet) name_slot ix n h scratch.now result }
+    ensures { let sheet = sheet.now in Finds (is_name sheet (name_with sheet t m)) (name_hash sheet) name_slot ix n h scratch.now result }
 {
     let mut c = get(scratch, head(ix, h));
     while 0 < c {
@@ -270,14 +270,14 @@ pub fn seek_name(sheet: &[u8], scratch: &[u32], ix: Index, n: u32, t: u32, m: bo
 
 // Where the token of node `j`, with hash `h`, stands among the `n` that the scratch holds; `n` where it does not.
 pub fn find_token(sheet: &[u8], scratch: &[u32], layout: Layout, n: u32, j: u32, h: u32) -> u32
-    ensures { let sheet = sheet.entry.now in Finds (same_token_of sheet j) (token_hash sheet) const_slot (places.token_index layout) n h scratch.now result }
+    ensures { let sheet = sheet.now in Finds (same_token_of sheet j) (token_hash sheet) const_slot (places.token_index layout) n h scratch.now result }
 {
     seek_token(sheet, scratch, token_index(layout), n, j, h)
 }
 
 // The same of the name with text `t` and mark `m`.
 fn find_name(sheet: &[u8], scratch: &[u32], layout: Layout, n: u32, t: u32, m: bool, h: u32) -> u32
-    ensures { let sheet = sheet.entry.now in Finds (is_name sheet (name_with sheet t m)) (name_hash sheet) name_slot (places.name_index layout) n h
+    ensures { let sheet = sheet.now in Finds (is_name sheet (name_with sheet t m)) (name_hash sheet) name_slot (places.name_index layout) n h
         scratch.now result }
 {
     seek_name(sheet, scratch, name_index(layout), n, t, m, h)
@@ -311,7 +311,7 @@ fn index_hash(sheet: &[u8], h: u32, c: u32, v: u32) -> u32
 
 // Property `v`, by the places of its three names.
 fn property_hash(sheet: &[u8], scratch: &[u32], layout: Layout, n: u32, h: u32, v: u32) -> u32
-    ensures { let sheet = sheet.entry.now in let words = scratch.now in ByNames sheet layout n words (chains.property_hash sheet (names_held sheet layout n words) h v) result }
+    ensures { let sheet = sheet.now in let words = scratch.now in ByNames sheet layout n words (chains.property_hash sheet (names_held sheet layout n words) h v) result }
 {
     let a = text_place(sheet, scratch, layout, n, field_a(sheet, v));
     let b = text_place(sheet, scratch, layout, n, field_b(sheet, v));
@@ -321,7 +321,7 @@ fn property_hash(sheet: &[u8], scratch: &[u32], layout: Layout, n: u32, h: u32, 
 
 // Method `v`, by the place of its name.
 fn method_hash(sheet: &[u8], scratch: &[u32], layout: Layout, n: u32, h: u32, v: u32) -> u32
-    ensures { let sheet = sheet.entry.now in let words = scratch.now in ByNames sheet layout n words (chains.method_hash sheet (names_held sheet layout n words) h v) result }
+    ensures { let sheet = sheet.now in let words = scratch.now in ByNames sheet layout n words (chains.method_hash sheet (names_held sheet layout n words) h v) result }
 {
     let a = text_place(sheet, scratch, layout, n, field_a(sheet, v));
     more(
@@ -332,7 +332,7 @@ fn method_hash(sheet: &[u8], scratch: &[u32], layout: Layout, n: u32, h: u32, v:
 
 // Link `c`, which says `p`.
 fn link_hash(sheet: &[u8], scratch: &[u32], layout: Layout, n: u32, h: u32, c: u32, p: Read) -> u32
-    ensures { let sheet = sheet.entry.now in let words = scratch.now in (Reads sheet c p → ByNames sheet layout n words (chains.link_hash sheet (names_held sheet layout n words) h c) result) }
+    ensures { let sheet = sheet.now in let words = scratch.now in (Reads sheet c p → ByNames sheet layout n words (chains.link_hash sheet (names_held sheet layout n words) h c) result) }
 {
     let r = p.rule;
     let v = p.with;
@@ -347,7 +347,7 @@ fn link_hash(sheet: &[u8], scratch: &[u32], layout: Layout, n: u32, h: u32, c: u
 
 // All links of the chain of node `j`.
 fn links_hash(sheet: &[u8], scratch: &[u32], layout: Layout, n: u32, j: u32) -> u32
-    ensures { let sheet = sheet.entry.now in let words = scratch.now in ByNames sheet layout n words (chains.links_hash sheet (names_held sheet layout n words) 1 (links max_depth sheet j)) result }
+    ensures { let sheet = sheet.now in let words = scratch.now in ByNames sheet layout n words (chains.links_hash sheet (names_held sheet layout n words) 1 (links max_depth sheet j)) result }
 {
     let mut left = MAX_DEPTH;
     let mut h: u32 = 1;
@@ -375,7 +375,7 @@ fn root_hash(
     v: u32,
     local: bool,
 ) -> u32
-    ensures { let sheet = sheet.entry.now in let words = scratch.now in (RootLocal sheet v local → ByNames sheet layout n words (chains.root_hash sheet (names_held sheet layout n words) h v) result) }
+    ensures { let sheet = sheet.now in let words = scratch.now in (RootLocal sheet v local → ByNames sheet layout n words (chains.root_hash sheet (names_held sheet layout n words) h v) result) }
 {
     let k = kind(sheet, v);
     if k == VARIABLE {
@@ -396,7 +396,7 @@ fn root_hash(
 
 // The hash of the chain of node `j`, where `local` tells whether its root is a local.
 pub fn chain_hash(sheet: &[u8], scratch: &[u32], layout: Layout, n: u32, j: u32, local: bool) -> u32
-    ensures { let sheet = sheet.entry.now in let words = scratch.now in (RootLocal sheet (nodes.child j) local
+    ensures { let sheet = sheet.now in let words = scratch.now in (RootLocal sheet (nodes.child j) local
         → ByNames sheet layout n words (chains.chain_hash sheet (names_held sheet layout n words) j) result) }
 {
     let h = links_hash(sheet, scratch, layout, n, j);

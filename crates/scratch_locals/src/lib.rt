@@ -127,7 +127,7 @@ fn tell(sheet: &[u8], scratch: &mut [u32], layout: Layout, n: u32, k: u32)
 
 // All locals, from the first on.
 fn tell_all(sheet: &[u8], scratch: &mut [u32], layout: Layout, n: u32)
-    ensures { let sheet = sheet.entry.now in (Telling sheet layout n 0 scratch.old → Telling sheet layout n (local_count sheet) scratch.new) }
+    ensures { let sheet = sheet.now in (Telling sheet layout n 0 scratch.old → Telling sheet layout n (local_count sheet) scratch.new) }
 {
     let m = local_count(sheet);
     let mut k: u32 = 0;
@@ -198,7 +198,7 @@ fn found_by(a: u32) -> Found
 
 // The same where the locals are gone through.
 fn by_name(sheet: &[u8], v: u32) -> Found
-    ensures { let sheet = sheet.entry.now in
+    ensures { let sheet = sheet.now in
         result ≡ answers.found (locals.resolve sheet (texts.text sheet (nodes.field_a sheet v))) }
 {
     resolve(sheet, field_a(sheet, v))
@@ -206,7 +206,7 @@ fn by_name(sheet: &[u8], v: u32) -> Found
 
 // The local that has the name in field a of node `v`: from its slot, where `v` is a Variable and there are many locals.
 pub fn local_of(sheet: &[u8], scratch: &[u32], layout: Layout, v: u32) -> Found
-    ensures { let sheet = sheet.entry.now in (Slots sheet layout scratch.now → result ≡ answers.found (locals.resolve sheet (texts.text sheet (nodes.field_a sheet v)))) }
+    ensures { let sheet = sheet.now in (Slots sheet layout scratch.now → result ≡ answers.found (locals.resolve sheet (texts.text sheet (nodes.field_a sheet v)))) }
 {
     if local_count(sheet) <= FEW {
         return by_name(sheet, v);
@@ -232,7 +232,7 @@ fn is_some(found: Found) -> bool
 
 // The root of the chain of node `j` is a variable that is a local.
 pub fn root_local(sheet: &[u8], scratch: &[u32], layout: Layout, j: u32) -> bool
-    ensures { let sheet = sheet.entry.now in (Slots sheet layout scratch.now → RootLocal sheet (nodes.child j) result) }
+    ensures { let sheet = sheet.now in (Slots sheet layout scratch.now → RootLocal sheet (nodes.child j) result) }
 {
     let v = child(j);
     if kind(sheet, v) == VARIABLE {

@@ -136,7 +136,7 @@ pub fn residual(t: &[u8; 125], counts: &mut [u32; COUNTS], scratch: &mut [u32], 
 
 // The constant of node `j`, and its place.
 pub fn add_const(sheet: &[u8], counts: &mut [u32; COUNTS], scratch: &mut [u32], j: u32) -> u32
-    ensures { let sheet = sheet.entry.now in ((l : Layout)
+    ensures { let sheet = sheet.now in ((l : Layout)
         → Adds sheet l scratch.old (states.state_of counts.old) scratch.new
         (states.state_of counts.new) result
         (ConstKey sheet j) (made.add_const sheet (pools.const_of sheet j)) (λ a. pools.const_at sheet (pools.const_of sheet j)
@@ -158,7 +158,7 @@ pub fn add_const(sheet: &[u8], counts: &mut [u32; COUNTS], scratch: &mut [u32], 
 
 // The token of node `j`, and its place.
 pub fn add_token(sheet: &[u8], counts: &mut [u32; COUNTS], scratch: &mut [u32], j: u32) -> u32
-    ensures { let sheet = sheet.entry.now in ((l : Layout)
+    ensures { let sheet = sheet.now in ((l : Layout)
         → Adds sheet l scratch.old (states.state_of counts.old) scratch.new
         (states.state_of counts.new) result
         (TokenKey sheet j) (made.add_token (nodes.field_c sheet j)) (λ a. pools.token_at (nodes.field_c sheet j) a.pools)) }
@@ -186,7 +186,7 @@ fn push_name(
     t: u32,
     m: bool,
 ) -> u32
-    ensures { let sheet = sheet.entry.now in ((l : Layout) → t ≡ (name_of sheet k).text → m ≡ is_marked sheet (key_node k) (key_field k)
+    ensures { let sheet = sheet.now in ((l : Layout) → t ≡ (name_of sheet k).text → m ≡ is_marked sheet (key_node k) (key_field k)
         → Adds sheet l scratch.old (states.state_of counts.old) scratch.new
         (states.state_of counts.new) result
         (NameKey sheet k) (made.add_name sheet (name_of sheet k)) (λ a. pools.name_at sheet (name_of sheet k) a.pools)) }
@@ -207,7 +207,7 @@ fn push_name(
 
 // The name with key `k` (3 · node + field), and its place. What is known of its text number is asked first.
 pub fn add_name(sheet: &[u8], counts: &mut [u32; COUNTS], scratch: &mut [u32], k: u32) -> u32
-    ensures { let sheet = sheet.entry.now in ((l : Layout)
+    ensures { let sheet = sheet.now in ((l : Layout)
         → Adds sheet l scratch.old (states.state_of counts.old) scratch.new
         (states.state_of counts.new) result
         (NameKey sheet k) (made.add_name sheet (name_of sheet k)) (λ a. pools.name_at sheet (name_of sheet k) a.pools)) }

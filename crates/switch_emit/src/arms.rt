@@ -46,7 +46,7 @@ fn try_one(
     g: u32,
     to: u32,
 )
-    ensures { let sheet = sheet.entry.now in ((l : Layout) → t.now ≡ effect_table → Right sheet → Valid sheet g
+    ensures { let sheet = sheet.now in ((l : Layout) → t.now ≡ effect_table → Right sheet → Valid sheet g
         → Does sheet l scratch.old (state_of counts.old) scratch.new (state_of counts.new)
         (parts.try_one sheet (lowered max_depth sheet) to g)) }
 {
@@ -71,7 +71,7 @@ fn arm(
     a: &[u32],
     tail: Tail,
 )
-    ensures { let sheet = sheet.entry.now in ((l : Layout) → t.now ≡ effect_table → Ready sheet
+    ensures { let sheet = sheet.now in ((l : Layout) → t.now ≡ effect_table → Ready sheet
         → Guards sheet flat.now (block_count sheet) → Named sheet a.now
         → Does sheet l scratch.old (state_of counts.old) scratch.new (state_of counts.new)
         (change.arm_to sheet (lowered max_depth sheet) (parts.place_in flat.now) tail.to tail.drop
@@ -126,7 +126,7 @@ pub fn case_arms(
     flat: &[u32],
     falls: bool,
 )
-    ensures { let sheet = sheet.entry.now in
+    ensures { let sheet = sheet.now in
         let table = flat.now in
         ((l : Layout) → t.now ≡ effect_table → Ready sheet → Tables sheet table
         → Placed sheet table
@@ -155,7 +155,7 @@ pub fn range_arms(
     scratch: &mut [u32],
     flat: &[u32],
 )
-    ensures { let sheet = sheet.entry.now in
+    ensures { let sheet = sheet.now in
         let table = flat.now in
         ((l : Layout) → t.now ≡ effect_table → Ready sheet → Tables sheet table
         → Does sheet l scratch.old (state_of counts.old) scratch.new (state_of counts.new)

@@ -37,7 +37,7 @@ fn body(
     k: usize,
 )
     requires { k < max_entries }
-    ensures { let sheet = sheet.entry.now in
+    ensures { let sheet = sheet.now in
         let table = flat.now in
         ((l : Layout) → t.now ≡ effect_table → Ready sheet
         → Guards sheet table (block_count sheet) → k < block_count sheet
@@ -86,7 +86,7 @@ pub fn bodies(
     flat: &[u32],
     falls: bool,
 )
-    ensures { let sheet = sheet.entry.now in
+    ensures { let sheet = sheet.now in
         let table = flat.now in
         ((l : Layout) → t.now ≡ effect_table → Ready sheet → Tables sheet table
         → From sheet l scratch.old (state_of counts.old) scratch.new (state_of counts.new)

@@ -36,10 +36,10 @@ use switch_tables::{BANDS, CASE_CONST};
 
 // The constants of the Cases, and the place of each.
 pub fn case_consts(sheet: &[u8], counts: &mut [u32; COUNTS], scratch: &mut [u32], flat: &mut [u32])
-    ensures fact { let sheet = sheet.entry.now in ((l : Layout) → Ready sheet
+    ensures fact { let sheet = sheet.now in ((l : Layout) → Ready sheet
         → Does sheet l scratch.old (state_of counts.old) scratch.new (state_of counts.new)
         (change.cases_to sheet (cases_of sheet))) }
-    ensures fact_2 { let sheet = sheet.entry.now in ((l : Layout) (a : Made) → Ready sheet → length flat.old ≡ size
+    ensures fact_2 { let sheet = sheet.now in ((l : Layout) (a : Made) → Ready sheet → length flat.old ≡ size
         → Holds sheet l scratch.old (state_of counts.old) a
         → ConstsAt sheet flat.new a) }
     ensures within { length flat.old ≡ size → Within case_const_at size flat.old flat.new }
@@ -67,7 +67,7 @@ fn has_default(def: u32) -> bool
 
 // The subject, and the first Switch.
 fn subject(sheet: &[u8], t: &[u8; 125], counts: &mut [u32; COUNTS], scratch: &mut [u32])
-    ensures { let sheet = sheet.entry.now in ((l : Layout) → t.now ≡ effect_table → Ready sheet
+    ensures { let sheet = sheet.now in ((l : Layout) → t.now ≡ effect_table → Ready sheet
         → Does sheet l scratch.old (state_of counts.old) scratch.new (state_of counts.new)
         (change.subject_to (lowered max_depth sheet))) }
 {
@@ -83,7 +83,7 @@ fn chains(
     scratch: &mut [u32],
     flat: &[u32],
 )
-    ensures { let sheet = sheet.entry.now in
+    ensures { let sheet = sheet.now in
         let table = flat.now in
         ((l : Layout) → t.now ≡ effect_table → Ready sheet → Tables sheet table
         → Placed sheet table
@@ -108,7 +108,7 @@ pub fn switch(
     scratch: &mut [u32],
     flat: &[u32],
 )
-    ensures { let sheet = sheet.entry.now in
+    ensures { let sheet = sheet.now in
         let table = flat.now in
         ((l : Layout) → t.now ≡ effect_table → Ready sheet → Tables sheet table
         → Placed sheet table

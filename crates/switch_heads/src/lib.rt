@@ -29,7 +29,7 @@ use switch_tables::{
 fn case_number(sheet: &[u8], flat: &[u32], heads: usize, a: &[u32], n: usize, h: u32) -> usize
     requires { heads ≤ max_entries }
     ensures upper_bound { result ≤ heads }
-    ensures fact { let sheet = sheet.entry.now in let list = a.now in (n ≤ length list → h ≡ hash_of (take n list)
+    ensures fact { let sheet = sheet.now in let list = a.now in (n ≤ length list → h ≡ hash_of (take n list)
         → Hashed (case_key sheet) flat.now head_node_at head_hash_at heads
         → result ≡ number_in (take n list) (lists_by (case_key sheet) flat.now head_node_at heads)) }
 {
@@ -51,10 +51,10 @@ fn case_number(sheet: &[u8], flat: &[u32], heads: usize, a: &[u32], n: usize, h:
 fn put_case(sheet: &[u8], flat: &mut [u32], heads: usize, c: u32) -> usize
     requires { heads ≤ max_entries }
     ensures upper_bound { result ≤ heads }
-    ensures fact { let sheet = sheet.entry.now in (Hashed (case_key sheet) flat.old head_node_at head_hash_at heads
+    ensures fact { let sheet = sheet.now in (Hashed (case_key sheet) flat.old head_node_at head_hash_at heads
         → result ≡ number_in (case_key sheet c) (lists_by (case_key sheet) flat.old head_node_at heads)) }
     ensures flat_unchanged { result < heads → flat.new ≡ flat.old }
-    ensures fact_2 { let sheet = sheet.entry.now in (heads ≤ result
+    ensures fact_2 { let sheet = sheet.now in (heads ≤ result
         → flat.new ≡ set (set flat.old (head_node_at + result) c) (head_hash_at + result) (hash_of (case_key sheet c))) }
 {
     let mut a = [0u32; ENTRIES];
@@ -71,9 +71,9 @@ fn put_case(sheet: &[u8], flat: &mut [u32], heads: usize, c: u32) -> usize
 
 // The cases from node `first` on. The node behind them is answered.
 pub fn case_heads(sheet: &[u8], flat: &mut [u32], first: u32) -> u32
-    ensures fact { let sheet = sheet.entry.now in (first ≡ first_case sheet → case_count sheet ≤ max_entries
+    ensures fact { let sheet = sheet.now in (first ≡ first_case sheet → case_count sheet ≤ max_entries
         → result ≡ skip sheet (case_count sheet) (first_case sheet)) }
-    ensures fact_2 { let sheet = sheet.entry.now in (length flat.old ≡ size → first ≡ first_case sheet
+    ensures fact_2 { let sheet = sheet.now in (length flat.old ≡ size → first ≡ first_case sheet
         → CaseHeads sheet flat.new × Within case_heads_at spans_at flat.old flat.new) }
 {
     let n = capped(field_b(sheet, 0) as usize);

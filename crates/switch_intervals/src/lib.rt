@@ -58,7 +58,7 @@ fn end_of(sheet: &[u8], r: u32) -> i64
 // The end points of `n` ranges from node `first` on, in source order.
 fn points(sheet: &[u8], first: u32, n: usize) -> Points
     requires { n ≤ max_entries }
-    ensures { let sheet = sheet.entry.now in
+    ensures { let sheet = sheet.now in
         (first ≡ skip sheet (case_count sheet) (first_case sheet) → n ≡ min (range_count sheet) max_entries
         → points.Lists result.at result.n (points_of (ranges_read sheet))) }
 {
@@ -77,7 +77,7 @@ fn points(sheet: &[u8], first: u32, n: usize) -> Points
 // Where the ranges cut the number line.
 fn cuts_of(sheet: &[u8], first: u32, n: usize) -> Points
     requires { n ≤ max_entries }
-    ensures { let sheet = sheet.entry.now in
+    ensures { let sheet = sheet.now in
         (first ≡ skip sheet (case_count sheet) (first_case sheet) → n ≡ min (range_count sheet) max_entries
         → points.Lists result.at result.n (cuts (ranges_read sheet))) }
 {
@@ -164,7 +164,7 @@ fn put_spans(
     requires m_in_bounds { m ≤ length at.now }
     requires m_le_max_cuts { m ≤ max_cuts }
     requires n_le_max_entries { n ≤ max_entries }
-    ensures { let sheet = sheet.entry.now in let table = flat.new in (length flat.old ≡ size → length marks.old ≡ 256 → ((j : ℕ) → j < 256 → get_or marks.old j 0 ≡ 0)
+    ensures { let sheet = sheet.now in let table = flat.new in (length flat.old ≡ size → length marks.old ≡ 256 → ((j : ℕ) → j < 256 → get_or marks.old j 0 ≡ 0)
         → first ≡ skip sheet (case_count sheet) (first_case sheet) → n ≡ min (range_count sheet) max_entries
         → points.held at.now m ≡ cuts (ranges_read sheet)
         → (spans_to table n ≡ map (span_of (cuts (ranges_read sheet))) (ranges_read sheet))
@@ -296,7 +296,7 @@ fn piece_count(m: usize) -> usize
 
 // The ranges from node `first` on: intervals, cuts, bands and their hashes.
 pub fn ranges(sheet: &[u8], flat: &mut [u32], first: u32)
-    ensures { let sheet = sheet.entry.now in let table = flat.new in (length flat.old ≡ size → first ≡ skip sheet (case_count sheet) (first_case sheet)
+    ensures { let sheet = sheet.now in let table = flat.new in (length flat.old ≡ size → first ≡ skip sheet (case_count sheet) (first_case sheet)
         → Spanned sheet table × (CutWords sheet table × (BandsAre sheet table
         × (BandsHashed table × Within spans_at wanted_at flat.old table)))) }
 {

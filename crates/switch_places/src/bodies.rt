@@ -25,7 +25,7 @@ fn body(sheet: &[u8], told: &[u32], flat: &mut [u32], k: usize, b: Tally) -> Tal
     requires { k < max_entries }
     ensures fact { let was = flat.old in
         (b.len ≤ cap → flat.new ≡ set was (body_at + k) (place_if (want_in was k) b.len)) }
-    ensures fact_2 { let was = flat.old in let sheet = sheet.entry.now in
+    ensures fact_2 { let was = flat.old in let sheet = sheet.now in
         let t = tally_by (answer told.now sheet) max_depth sheet in (b.len ≤ cap → b.emitted ≤ cap
         → result ≡ tallies.capped (tallies.plus b (body_if t (next_of sheet (cell was (guard_node_at + k))) (want_in was k)))) }
 {
@@ -51,7 +51,7 @@ fn body(sheet: &[u8], told: &[u32], flat: &mut [u32], k: usize, b: Tally) -> Tal
 // The bodies of `n` blocks, behind `b`.
 pub fn bodies(sheet: &[u8], told: &[u32], flat: &mut [u32], n: usize, b: Tally) -> Tally
     requires { n ≤ max_entries }
-    ensures { let sheet = sheet.entry.now in
+    ensures { let sheet = sheet.now in
         let t = tally_by (answer told.now sheet) max_depth sheet in
         let table = flat.old in ((ls : List (List ℕ)) (def : ℕ) → length table ≡ size → n ≤ max_entries
         → b.len ≤ cap → b.emitted ≤ cap

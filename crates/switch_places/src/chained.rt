@@ -107,7 +107,7 @@ fn laid(flat: &mut [u32], a: &[u32], n: usize, place: usize, exit: usize, b: Tal
 
 // The chains of the cases, behind `b`.
 pub fn case_chains(sheet: &[u8], flat: &mut [u32], b: Tally) -> Tally
-    ensures { let sheet = sheet.entry.now in
+    ensures { let sheet = sheet.now in
         let table = flat.old in
         ((t : Rec) → length table ≡ size → verdict_number (checked sheet) ≡ 0
         → kind_of sheet 0 ≡ switch_kind → TablesBy sheet t table → b.len ≤ cap → b.emitted ≤ cap

@@ -39,7 +39,7 @@ fn put_known(flat: &mut [u32], k: usize, kind: u32, len: u32, emitted: u32)
 
 // What the guard at node `j` is, if it is constant.
 fn constant(sheet: &[u8], j: u32) -> u32
-    ensures { let sheet = sheet.entry.now in ((t : Rec) → kind_of sheet j ≡ bool_kind
+    ensures { let sheet = sheet.now in ((t : Rec) → kind_of sheet j ≡ bool_kind
         → record { kind = result; len = 0; emitted = 0 } ≡ known_of sheet t j) }
 {
     if field_a(sheet, j) == 0 { 0 } else { 1 }
@@ -55,7 +55,7 @@ fn tried(defeated: bool) -> u32
 // Guard `k`, at node `j`.
 fn put_guard(sheet: &[u8], told: &[u32], flat: &mut [u32], k: usize, j: u32)
     requires { k < max_entries }
-    ensures { let sheet = sheet.entry.now in let t = tally_by (answer told.now sheet) max_depth sheet in flat.new ≡ with_guard sheet t flat.old k j }
+    ensures { let sheet = sheet.now in let t = tally_by (answer told.now sheet) max_depth sheet in flat.new ≡ with_guard sheet t flat.old k j }
 {
     put(flat, GUARD_NODE + k, j);
     if kind(sheet, j) == 1 {
@@ -68,8 +68,8 @@ fn put_guard(sheet: &[u8], told: &[u32], flat: &mut [u32], k: usize, j: u32)
 
 // The guards of all blocks. The node behind the blocks is answered.
 pub fn guards(sheet: &[u8], told: &[u32], flat: &mut [u32]) -> u32
-    ensures fact { let sheet = sheet.entry.now in (block_count sheet ≤ max_entries → result ≡ first_case sheet) }
-    ensures fact_2 { let sheet = sheet.entry.now in let t = tally_by (answer told.now sheet) max_depth sheet in (length flat.old ≡ size → GuardsBy sheet t flat.new (min (block_count sheet) max_entries)
+    ensures fact { let sheet = sheet.now in (block_count sheet ≤ max_entries → result ≡ first_case sheet) }
+    ensures fact_2 { let sheet = sheet.now in let t = tally_by (answer told.now sheet) max_depth sheet in (length flat.old ≡ size → GuardsBy sheet t flat.new (min (block_count sheet) max_entries)
         × Within guard_at case_heads_at flat.old flat.new) }
 {
     let n = capped(field_a(sheet, 0) as usize);

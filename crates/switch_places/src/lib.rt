@@ -37,7 +37,7 @@ use switch_tables::{BANDS, BODY, CASE_EXIT, CASE_HEADS, DEFAULT, DISPATCH, END, 
 
 // The switch at node 0 is read into the table.
 pub fn read(sheet: &[u8], told: &[u32], flat: &mut [u32])
-    ensures { let sheet = sheet.entry.now in let t = tally_by (answer told.now sheet) max_depth sheet in (length flat.old ≡ size → verdict_number (checked sheet) ≡ 0 → kind_of sheet 0 ≡ switch_kind
+    ensures { let sheet = sheet.now in let t = tally_by (answer told.now sheet) max_depth sheet in (length flat.old ≡ size → verdict_number (checked sheet) ≡ 0 → kind_of sheet 0 ≡ switch_kind
         → TablesBy sheet t flat.new) }
 {
     let c = guards(sheet, told, flat);
@@ -159,7 +159,7 @@ fn closing(def: u32) -> u32
 
 // What the switch emits, and whether it reaches an `eval`; its parts get their places. The answer's length is not told.
 pub fn count(sheet: &[u8], told: &[u32], flat: &mut [u32]) -> Tally
-    ensures { let sheet = sheet.entry.now in let t = tally_by (answer told.now sheet) max_depth sheet in (length flat.old ≡ size → verdict_number (checked sheet) ≡ 0 → kind_of sheet 0 ≡ switch_kind
+    ensures { let sheet = sheet.now in let t = tally_by (answer told.now sheet) max_depth sheet in (length flat.old ≡ size → verdict_number (checked sheet) ≡ 0 → kind_of sheet 0 ≡ switch_kind
         → TablesBy sheet t flat.old
         → Counted sheet t flat.new result) }
 {

@@ -1,5 +1,6 @@
 // What a lowering answers, and the image of an expression. Refusals 1 to 11 are found without touching a buffer.
 #![tactic(auto)]
+
 ghost use Rattle.std.specs.Prelude.{◌≡◌, length};
 ghost use Rattle.checks.specs.Checked as Checked;
 ghost use Rattle.sheet.specs.Node as nodes;
@@ -37,7 +38,7 @@ pub enum Answer {
 
 // The image of an expression: its word count; its words are written where they fit.
 fn build_plain(sheet: &[u8], image: &mut [u32], scratch: &mut [u32], most: u32) -> usize
-    ensures { let sheet = sheet.entry.now in
+    ensures { let sheet = sheet.now in
         (Ready sheet most (length scratch.old) → (nodes.kind sheet 0 ≡ switch_kind → ⊥)
         → Built sheet image.old result image.new) }
 {

@@ -97,7 +97,7 @@ pub fn build_switch(
     most: u32,
     flat: &mut [u32],
 ) -> usize
-    ensures { let sheet = sheet.entry.now in let table = flat.old in (Ready sheet most (length scratch.old) → kind sheet 0 ≡ switch_kind → length table ≡ columns.size → Tables sheet table
+    ensures { let sheet = sheet.now in let table = flat.old in (Ready sheet most (length scratch.old) → kind sheet 0 ≡ switch_kind → length table ≡ columns.size → Tables sheet table
         → Placed sheet table
         → Built sheet image.old result image.new) }
 {

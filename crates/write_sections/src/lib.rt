@@ -123,7 +123,7 @@ pub fn tokens(sheet: &[u8], out: &mut [u32], ks: &[u32])
 
 // Root `v`, with its name among the `n` names. Only a variable has one.
 fn root_at(sheet: &[u8], scratch: &[u32], layout: Layout, n: u32, v: u32) -> Root
-    ensures { let sheet = sheet.entry.now in let words = scratch.now in (NamesHold sheet layout n words → result ≡ chains.root_in sheet (names_held sheet layout n words) v) }
+    ensures { let sheet = sheet.now in let words = scratch.now in (NamesHold sheet layout n words → result ≡ chains.root_in sheet (names_held sheet layout n words) v) }
 {
     if kind(sheet, v) == VARIABLE {
         let name = text_place(sheet, scratch, layout, n, field_a(sheet, v));
@@ -134,7 +134,7 @@ fn root_at(sheet: &[u8], scratch: &[u32], layout: Layout, n: u32, v: u32) -> Roo
 
 // The chain of node `j`, with `first` steps before it.
 fn chain_at(sheet: &[u8], scratch: &[u32], layout: Layout, n: u32, j: u32, first: u32) -> Chain
-    ensures { let sheet = sheet.entry.now in let words = scratch.now in (result.steps ≡ chains.link_count sheet j)
+    ensures { let sheet = sheet.now in let words = scratch.now in (result.steps ≡ chains.link_count sheet j)
         × (NamesHold sheet layout n words → result ≡ chains.chain_in sheet (names_held sheet layout n words) first j) }
 {
     let root = root_at(sheet, scratch, layout, n, child(j));
@@ -145,7 +145,7 @@ fn chain_at(sheet: &[u8], scratch: &[u32], layout: Layout, n: u32, j: u32, first
 pub fn chains(sheet: &[u8], out: &mut [u32], js: &[u32], scratch: &[u32], layout: Layout, n: u32)
     requires out_len { length out.old ≡ chain_width * length js.now }
     requires js_bound { kept.step_count sheet.now js.now < 4294967296 }
-    ensures { let sheet = sheet.entry.now in let words = scratch.now in (NamesHold sheet layout n words → out.new ≡ section chain_words
+    ensures { let sheet = sheet.now in let words = scratch.now in (NamesHold sheet layout n words → out.new ≡ section chain_words
         (chains.chains_from sheet (names_held sheet layout n words) 0 js.now)) }
 {
     let mut i = 0;
@@ -161,7 +161,7 @@ pub fn chains(sheet: &[u8], out: &mut [u32], js: &[u32], scratch: &[u32], layout
 
 // The step of link `c`, which says `p`, with `k` operands before it. Places are looked for only where the step has names.
 fn step_at(sheet: &[u8], scratch: &[u32], layout: Layout, n: u32, c: u32, p: Read, k: u32) -> Step
-    ensures { let sheet = sheet.entry.now in let words = scratch.now in (Reads sheet c p → NamesHold sheet layout n words
+    ensures { let sheet = sheet.now in let words = scratch.now in (Reads sheet c p → NamesHold sheet layout n words
         → result ≡ chains.step_as (flatten.step_rule sheet c) sheet (names_held sheet layout n words) c k) }
 {
     let r = p.rule;
@@ -193,7 +193,7 @@ fn step_at(sheet: &[u8], scratch: &[u32], layout: Layout, n: u32, c: u32, p: Rea
 // The steps of the chain of node `j`.
 fn chain_steps(sheet: &[u8], out: &mut [u32], j: u32, scratch: &[u32], layout: Layout, n: u32)
     requires { length out.old ≡ step_width * chains.link_count sheet.now j }
-    ensures { let sheet = sheet.entry.now in let words = scratch.now in (NamesHold sheet layout n words → out.new ≡ steps_words (chains.chain_steps sheet (names_held sheet layout n words) j)) }
+    ensures { let sheet = sheet.now in let words = scratch.now in (NamesHold sheet layout n words → out.new ≡ steps_words (chains.chain_steps sheet (names_held sheet layout n words) j)) }
 {
     let mut left = MAX_DEPTH;
     let mut c = j;
@@ -216,7 +216,7 @@ fn chain_steps(sheet: &[u8], out: &mut [u32], j: u32, scratch: &[u32], layout: L
 
 // The steps of the chains of the nodes `js`, over the `n` names that the scratch holds. A part of another length is not filled.
 pub fn steps(sheet: &[u8], out: &mut [u32], js: &[u32], scratch: &[u32], layout: Layout, n: u32)
-    ensures { let sheet = sheet.entry.now in let words = scratch.now in (NamesHold sheet layout n words → length out.old ≡ step_width * kept.step_count sheet js.now
+    ensures { let sheet = sheet.now in let words = scratch.now in (NamesHold sheet layout n words → length out.old ≡ step_width * kept.step_count sheet js.now
         → out.new ≡ steps_words (chains.steps_from sheet (names_held sheet layout n words) js.now)) }
 {
     let mut at = 0;
