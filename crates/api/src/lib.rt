@@ -1,5 +1,6 @@
 // What programs in other languages link: numbers and slices only.
 #![tactic(auto)]
+
 ghost use Rattle.std.specs.Prelude.{◌≡◌};
 ghost use Rattle.checks.specs.Checked.{verdict_number, checked};
 ghost use Rattle.api.specs.Given.{Given};

@@ -2,6 +2,7 @@
 // the words of its image, or `refused` and the number. The image and the scratch have 16,384 words each. An input of over
 // 65,536 bytes is refused with 1.
 #![tactic(auto)]
+
 ghost use Rattle.std.specs.Prelude.{length, ◌≡◌};
 
 use input::{more, read_full};

@@ -3,6 +3,7 @@
 // Compares the answer, every word of the image's room, every word of the scratch, and what the sheet is said to need. Prints how many
 // records were the same, and how many were not.
 #![tactic(auto)]
+
 ghost use Rattle.std.specs.Prelude.{◌≤◌, ◌<◌, length, get_or, eqb, ◌≡◌, IfOk};
 ghost use Rattle.words.specs.Count.{all_below};
 ghost use Rattle.replay_lower.specs.Left as left;
@@ -115,7 +116,13 @@ fn agrees(
 }
 
 // Reads the rest of a record, behind its first four words, and compares. A record that is cut off, or too long, does not agree.
-fn compare_rest<R: Read>(reader: &mut R, x: u32, y: u32, number: u32, count: u32) -> io::Result<bool> {
+fn compare_rest<R: Read>(
+    reader: &mut R,
+    x: u32,
+    y: u32,
+    number: u32,
+    count: u32,
+) -> io::Result<bool> {
     let mut wanted = [0u8; 65536];
     let mut size = [0u8; 4];
     let mut sheet = [0u8; 65536];
@@ -123,7 +130,15 @@ fn compare_rest<R: Read>(reader: &mut R, x: u32, y: u32, number: u32, count: u32
         if fill(reader, &mut size, 4)? {
             let n = words::word_at(&size, 0) as usize;
             if fill(reader, &mut sheet, (n + 3) / 4 * 4)? {
-                let same = agrees(&sheet, n, x as usize, y as usize, &wanted, number, count as usize);
+                let same = agrees(
+                    &sheet,
+                    n,
+                    x as usize,
+                    y as usize,
+                    &wanted,
+                    number,
+                    count as usize,
+                );
                 return Ok(same);
             }
         }
