@@ -1,5 +1,5 @@
 -- `sheet_needs` foretells `sheet_lower`: for every sheet, every image and every scratch, by the contracts of the two.
-use Prim.Native.Nat.{ℕ, ◌≤◌, ◌<◌}
+use Prim.Native.Nat.{ℕ}
 use mathlib.Core.Path.{◌≡◌, refl, ap, ◌∙◌}
 use mathlib.Core.Logic.{◌⊎◌, inl, inr}
 use mathlib.Core.List.{List}

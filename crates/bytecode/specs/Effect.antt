@@ -1,5 +1,5 @@
 -- What each kind of instruction does to the depth and to the place, as one table.
-use Rattle.std.specs.Prelude.{ℕ, ◌+◌, ◌-◌, ◌/◌, ◌%◌, true, false, List, [], ◌∷◌, eqb, get_or}
+use Rattle.std.specs.Prelude.{ℕ, ◌-◌, ◌/◌, ◌%◌, true, false, List, [], ◌∷◌, eqb, get_or}
 
 -- where the next place is: behind; at the target a; at the target or behind, as the branch goes; at a row's target of table a, or at its
 -- default

@@ -1,5 +1,5 @@
 -- Refusal 4: a text or block number that does not exist. Said of what reads the fields of nodes and the words, and then of a sheet.
-use Rattle.std.specs.Prelude.{ℕ, Bool, true, false, ◌&&◌, ◌||◌, not, List, leb, ltb, eqb}
+use Rattle.std.specs.Prelude.{ℕ, Bool, ◌&&◌, ◌||◌, not, List, leb, ltb, eqb}
 use Rattle.words.specs.Word.{word}
 use Rattle.words.specs.Count.{all_below}
 use Rattle.sheet.specs.Kinds.{string_kind, variable_kind, property_kind, method_call_kind, fn_call_kind, switch_kind, range_kind, ref_kind}

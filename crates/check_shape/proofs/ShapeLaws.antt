@@ -1,6 +1,6 @@
 -- Laws of the shape, in the forms that the loops need.
-use Prim.Native.Nat.{ℕ, zero, suc, ◌+◌, ◌-◌, ◌<◌, ◌≤◌}
-use mathlib.Core.Path.{◌≡◌, refl, ap, sym, ◌∙◌, subst}
+use Prim.Native.Nat.{ℕ, suc, ◌+◌, ◌-◌, ◌<◌, ◌≤◌}
+use mathlib.Core.Path.{◌≡◌, ap, sym, ◌∙◌}
 use mathlib.Core.Bool.{Bool, true, false, ◌&&◌, and-eq-true_iff}
 use mathlib.Core.List.{List}
 use native.Mathlib.Omega.{arith}
@@ -12,7 +12,7 @@ use Rattle.sheet.specs.Sections.{node_count}
 use Rattle.sheet.specs.Node.{kind, span, count, field_a, field_b, field_c}
 use Rattle.check_shape.specs.Kinds.{child_kind}
 use Rattle.check_shape.specs.Shape.{within_bounds, own_rule, self_by, child_words, tiles_by, node_by, shape_by}
-use Rattle.check_shape.specs.Shape.{child_fits, child_ok, tiles, self_fits, self_ok, node_ok, root_ok, nodes_ok, shape_ok}
+use Rattle.check_shape.specs.Shape.{child_fits, child_ok, tiles, self_ok, node_ok, root_ok, nodes_ok, shape_ok}
 
 -- a child that fits ends at e or before
 pub fits-end : (s : List ℕ) (p a b e i j : ℕ) → child_fits s p a b e i j ≡ true → j + span s j ≤ e

@@ -1,5 +1,5 @@
 -- What each node kind may hold: its count of children, its fields, and the kinds of its children.
-use Rattle.std.specs.Prelude.{ℕ, ◌+◌, ◌*◌, Bool, true, false, ◌&&◌, ◌||◌, not, List, [], ◌∷◌, leb, ltb, eqb, get_or}
+use Rattle.std.specs.Prelude.{ℕ, ◌+◌, ◌*◌, Bool, true, false, ◌&&◌, ◌||◌, List, [], ◌∷◌, leb, ltb, eqb, get_or}
 use Rattle.sheet.specs.Kinds.{bool_kind, int_kind, char_kind, string_kind, coalesce_kind, switch_kind, case_kind, range_kind, ref_kind}
 use Rattle.sheet.specs.Kinds.{map_kind, last_kind}
 

@@ -1,7 +1,7 @@
 -- Laws of the Switch's checks, in the shapes of the code.
 use Prim.Native.Nat.{ℕ, zero, suc, ◌+◌, ◌-◌, ◌*◌, ◌<◌, ◌≤◌}
 use mathlib.Core.Path.{◌≡◌, refl, ap, sym, ◌∙◌}
-use mathlib.Core.Bool.{Bool, true, false, ◌&&◌}
+use mathlib.Core.Bool.{true, false, ◌&&◌}
 use mathlib.Core.List.{List}
 use native.Mathlib.Omega.{arith}
 use native.Mathlib.Decide.{dec_le}
@@ -11,7 +11,7 @@ use Rattle.laws.proofs.Numbers.{one_less}
 use Rattle.text.specs.Same.{same}
 use Rattle.sheet.specs.Limits.{max_entries}
 use Rattle.sheet.specs.Kinds.{string_kind}
-use Rattle.sheet.specs.Node.{kind, count, field_a, field_b, child, next}
+use Rattle.sheet.specs.Node.{kind, field_a, field_b, child, next}
 use Rattle.sheet.specs.Text.{text_by, text}
 use Rattle.sheet.specs.Walk.{siblings, skip}
 use Rattle.sheet.proofs.WalkLaws.{skip-add}

@@ -1,5 +1,5 @@
 -- Numbers that equal values of cases have in common. Cases whose numbers differ differ; of others nothing is said.
-use Rattle.std.specs.Prelude.{ℕ, ◌+◌, ◌-◌, ◌*◌, Bool, true, false, List, leb, eqb, length, take, drop}
+use Rattle.std.specs.Prelude.{ℕ, ◌+◌, ◌-◌, ◌*◌, true, false, List, leb, eqb, length, take, drop}
 use Rattle.words.specs.Word.{byte_of, word}
 use Rattle.sheet.specs.Kinds.{string_kind}
 use Rattle.sheet.specs.Node.{kind, field_a, field_b}

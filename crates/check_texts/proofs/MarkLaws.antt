@@ -1,12 +1,12 @@
 -- Laws of the marks that are kept.
-use Prim.Native.Nat.{ℕ, zero, suc, ◌+◌, ◌-◌, ◌*◌, ◌/◌, ◌≤◌, ◌<◌}
+use Prim.Native.Nat.{ℕ, ◌+◌, ◌-◌, ◌*◌, ◌≤◌, ◌<◌}
 use mathlib.Core.Path.{◌≡◌, refl, ap, sym, subst, ◌∙◌}
-use mathlib.Core.Bool.{true, false, not, and-eq-true_iff, and-false}
-use mathlib.Core.List.{List, [], ◌∷◌, ◌++◌}
+use mathlib.Core.Bool.{true, false, not, and-false}
+use mathlib.Core.List.{List, ◌++◌}
 use native.Mathlib.Decide.{ℕ_discrete, dec_lt}
 use native.Mathlib.Omega.{arith}
 use lib.Dec.{leb, eqb}
-use lib.ListN.{length, get_or, set, take, drop, length-set, replicate, length-replicate, get_or-eq_default, take-append-drop}
+use lib.ListN.{length, get_or, set, take, drop, length-set, get_or-eq_default, take-append-drop}
 use lib.Seq.{slice, slice-cons, take-take, drop-drop, get_or-set_same, get_or-set_other}
 use borrow.Author.Tests.{lt-leb, eq-eqb, ne_eqb}
 use Rattle.text.specs.Utf8.{utf8, within}

@@ -1,7 +1,6 @@
 -- Bytes that are all ASCII, and texts that all lie within the text bytes.
 use Rattle.std.specs.Prelude.{ℕ, ◌+◌, ◌<◌, Bool, ◌&&◌, List, leb, ltb, get_or}
-use Rattle.words.specs.Count.{all_below}
-use Rattle.sheet.specs.Sections.{text_count, byte_count}
+use Rattle.sheet.specs.Sections.{byte_count}
 use Rattle.sheet.specs.Text.{text_start, text_length}
 
 -- the bytes below i are ASCII

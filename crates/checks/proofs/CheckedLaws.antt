@@ -11,7 +11,6 @@ use Rattle.check_depth.specs.Depth.{depth_ok}
 use Rattle.check_switches.specs.Switch.{entries_ok, cases_ok}
 use Rattle.check_support.specs.Support.{supported_ok}
 use Rattle.checks.specs.Checked.{in_order, checked_by, tree_checked, checked}
-use Rattle.checks.specs.declared.Verdict.{Verdict}
 use Rattle.checks.specs.declared.Verdict.TheVariants.{Accepted, Refused}
 use Rattle.refusals.specs.declared.Refusal.TheVariants.{Size, Shape, Text, Number, Depth, Arms, Twice, Unsupported}
 

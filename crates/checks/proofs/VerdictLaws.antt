@@ -1,5 +1,5 @@
 -- Laws of verdicts: 0 is no refusal, and what the check refuses is the sheet's own.
-use Prim.Native.Nat.{ℕ, ◌≤◌}
+use Prim.Native.Nat.{ℕ}
 use mathlib.Core.Path.{◌≡◌, refl, subst}
 use mathlib.Core.Bool.{Bool, true, false}
 use mathlib.Core.List.{List}

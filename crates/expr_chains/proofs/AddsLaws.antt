@@ -1,8 +1,8 @@
 -- The lowering of an expression only adds to the pools.
-use Prim.Native.Nat.{ℕ, ◌+◌, ◌≤◌}
-use mathlib.Core.Path.{◌≡◌, refl, sym, ap, ◌∙◌}
+use Prim.Native.Nat.{ℕ, ◌≤◌}
+use mathlib.Core.Path.{◌≡◌, refl}
 use mathlib.Core.Bool.{Bool, true, false}
-use mathlib.Core.List.{List, [], ◌∷◌, ◌++◌}
+use mathlib.Core.List.{List, [], ◌∷◌}
 use native.Mathlib.Omega.{arith}
 use lib.Dec.{eqb}
 use lib.ListN.{length}
@@ -14,7 +14,7 @@ use Rattle.lowering.specs.Expression.{expression}
 use Rattle.expr_chains.proofs.Grow.{Grows, grows-refl, grows-trans}
 use Rattle.expr_chains.proofs.FindLaws.{added-grows}
 use Rattle.expr_chains.proofs.WalkLaws.{NamesGrow}
-use Rattle.expr_chains.proofs.SteadyLaws.{Steady, Follows, expression-follows}
+use Rattle.expr_chains.proofs.SteadyLaws.{Steady, expression-follows}
 
 -- each pool has grown, and so has the count of instructions emitted
 pub record Adds (p q : Pools) : Type 0 where

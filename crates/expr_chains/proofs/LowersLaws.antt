@@ -1,23 +1,21 @@
 -- The lowering's walk along a chain comes to its end if each step lowers, and stops if not.
 use Prim.Native.Nat.{ℕ, ◌+◌}
-use mathlib.Core.Path.{◌≡◌, refl, sym, ap, subst, ◌∙◌}
+use mathlib.Core.Path.{◌≡◌, refl, sym, ap, subst}
 use mathlib.Core.Bool.{Bool, true, false, true≢false, false≢true}
 use mathlib.Core.List.{List, [], ◌∷◌}
 use lib.ListN.{length}
 use Rattle.lowering.proofs.LinkedChain.{method-lowers, method-fails, steps-go, steps-fail}
 use Rattle.laws.proofs.Bool.{lazy-true, lazy-of}
-use Rattle.sheet.specs.Limits.{max_depth}
-use Rattle.sheet.specs.Node.{count, child}
 use Rattle.bytecode.specs.declared.Step.{Step}
 use Rattle.lowering.specs.Code.{Code}
 use Rattle.lowering.specs.Pools.{Pools}
 use Rattle.lowering.specs.Out.{Rec}
 use Rattle.lowering.specs.Operands.{operands}
 use Rattle.lowering.specs.Flatten as flatten
-use Rattle.lowering.specs.Flatten.{operand_of, StepRule, index, property, method, step_rule, links, has_step, flattens}
+use Rattle.lowering.specs.Flatten.{operand_of, StepRule, index, property, method, step_rule, has_step, flattens}
 use Rattle.lowering.specs.Steps.{Stepped, stepped, failed, index_step, property_step, is_lowerable_method, method_after, method_step, step_by}
 use Rattle.lowering.specs.Steps.{Walked, walked, stopped, onto, steps}
-use Rattle.expr_chains.specs.Lowers.{lowers_by, step_lowers, all_lower, lowers}
+use Rattle.expr_chains.specs.Lowers.{lowers_by, step_lowers, all_lower}
 
 -- a step was made
 pub record Steps (o : Stepped) : Type 0 where

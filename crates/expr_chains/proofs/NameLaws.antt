@@ -1,16 +1,16 @@
 -- Laws of the places of names: a name that is pooled stands where it was looked for, and stays there; two names that stand in the pool
 -- stand at one place if and only if their bytes are the same.
-use Prim.Native.Nat.{ℕ, ◌<◌}
-use mathlib.Core.Path.{◌≡◌, refl, sym, ap, subst, ◌∙◌}
-use mathlib.Core.Bool.{Bool, true}
+use Prim.Native.Nat.{ℕ}
+use mathlib.Core.Path.{◌≡◌, sym, ap, ◌∙◌}
+use mathlib.Core.Bool.{true}
 use mathlib.Core.List.{List, append-nil}
-use lib.ListN.{length, get_or}
+use lib.ListN.{get_or}
 use Rattle.lowering.proofs.FirstLaws.{first_passes}
 use Rattle.text.specs.Same.{same}
 use Rattle.text.proofs.SameLaws.{same_refl, same_true}
 use Rattle.sheet.specs.Text.{text}
 use Rattle.lowering.specs.Pools.{Pools, Name, name, name_bytes, first_where, same_name, name_at, push_name}
-use Rattle.expr_chains.proofs.Grow.{Grows, grows-trans}
+use Rattle.expr_chains.proofs.Grow.{Grows}
 use Rattle.expr_chains.proofs.FindLaws.{grown-same, grown-within, added-grows, added-same, added-within}
 use Rattle.expr_chains.specs.Steps.{name_in}
 use Rattle.expr_chains.specs.Same.{same_text}

@@ -1,8 +1,8 @@
 -- The chains of two nodes are the same by the sheet if and only if their roots, steps and operands over the pool of names are.
 use Prim.Native.Nat.{ℕ, ◌+◌}
 use mathlib.Core.Path.{◌≡◌, refl, sym, ap, ap₂, subst, ◌∙◌}
-use mathlib.Core.Bool.{true, false, ◌&&◌, and-eq-true_iff, true≢false, false≢true}
-use mathlib.Core.Option.{Option, none, some}
+use mathlib.Core.Bool.{true, false, ◌&&◌, and-eq-true_iff, false≢true}
+use mathlib.Core.Option.{none}
 use mathlib.Core.List.{List, [], ◌∷◌, ◌++◌}
 use native.Mathlib.Omega.{arith}
 use lib.Dec.{eqb}
@@ -11,14 +11,13 @@ use lib.Seq.{take_at, drop_at}
 use borrow.Author.Tests.{eqb-true, eq-eqb}
 use Rattle.lowering.proofs.Widths.{step-width}
 use Rattle.laws.proofs.Bool.{lazy-true, lazy-of}
-use Rattle.sheet.specs.Node.{kind, count, field_a, field_b, field_c, position, child}
+use Rattle.sheet.specs.Node.{count, field_a, field_b, field_c, position}
 use Rattle.sheet.specs.Start.{start_of}
-use Rattle.bytecode.specs.declared.Step.{Step}
 use Rattle.bytecode.specs.Chain.{step_words}
 use Rattle.lowering.specs.Pools.{Name, steps_words}
 use Rattle.lowering.specs.Flatten as flatten
-use Rattle.lowering.specs.Flatten.{negated, operand_of, StepRule, index, property, method, step_rule, links}
-use Rattle.expr_chains.specs.Steps.{name_in, step_with, step_as, width_by, step_operands, steps_in, operands_of}
+use Rattle.lowering.specs.Flatten.{negated, operand_of, StepRule, index, property, method, step_rule}
+use Rattle.expr_chains.specs.Steps.{step_with, step_as, width_by, step_operands, steps_in, operands_of}
 use Rattle.expr_chains.specs.Same.{same_text, same_index, same_property, same_method, same_as, rule_number, same_by, same_step, same_steps}
 use Rattle.expr_chains.specs.Pooled.{All, StepStands, LinkStands}
 use Rattle.expr_chains.proofs.NameLaws.{names-one, names_apart}

@@ -1,20 +1,19 @@
 -- A chain whose names stand in the pool stays what it is when names are added.
 use Prim.Native.Nat.{ℕ, ◌+◌}
-use mathlib.Core.Path.{◌≡◌, refl, sym, ap, ap₂, ◌∙◌}
+use mathlib.Core.Path.{◌≡◌, refl, ap, ap₂}
 use mathlib.Core.Bool.{Bool, true, false}
 use mathlib.Core.List.{List, [], ◌∷◌, ◌++◌}
 use lib.Dec.{eqb}
 use Rattle.sheet.specs.Limits.{max_depth}
 use Rattle.sheet.specs.Node.{kind, field_a, field_b, field_c, child}
-use Rattle.bytecode.specs.declared.Chain.{Chain}
-use Rattle.lowering.specs.Kinds.{variable_kind, this_kind}
+use Rattle.lowering.specs.Kinds.{variable_kind}
 use Rattle.lowering.specs.Pools.{Name}
 use Rattle.lowering.specs.Flatten as flatten
 use Rattle.lowering.specs.Flatten.{operand_of, StepRule, index, property, method, step_rule, links}
 use Rattle.expr_chains.proofs.Grow.{Grows}
 use Rattle.expr_chains.specs.Steps.{name_in, root_with, root_in, step_with, step_as, step_operands, steps_in, chain_root, chain_steps, chain_in}
 use Rattle.expr_chains.specs.Steps.{chains_from, steps_from, link_count}
-use Rattle.expr_chains.specs.Pooled.{All, Stands, StepStands, LinkStands, RootStands, Pooled}
+use Rattle.expr_chains.specs.Pooled.{All, StepStands, LinkStands, RootStands, Pooled}
 use Rattle.expr_chains.proofs.NameLaws.{name-stays, stands-stays}
 
 -- only a variable's root has a name

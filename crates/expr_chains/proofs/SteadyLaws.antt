@@ -2,14 +2,14 @@
 -- shown of additions one by one is shown of the whole, as that pools only grow.
 use Prim.Native.Nat.{ℕ, zero, suc, ◌+◌, ◌-◌}
 use mathlib.Core.Path.{◌≡◌, refl}
-use mathlib.Core.Bool.{Bool, true, false, ◌&&◌}
+use mathlib.Core.Bool.{Bool, true, false}
 use mathlib.Core.Option.{Option, none, some}
 use mathlib.Core.List.{List, [], ◌∷◌}
 use lib.Dec.{eqb, leb}
 use lib.ListN.{length}
 use Rattle.lowering.proofs.LinkedChain.{method-lowers, method-fails, steps-go, steps-fail}
 use Rattle.sheet.specs.Limits.{max_depth}
-use Rattle.sheet.specs.Node.{kind, count, field_a, field_b, field_c, position, child, next}
+use Rattle.sheet.specs.Node.{kind, count, field_a, field_b, field_c, child, next}
 use Rattle.sheet.specs.Text.{text}
 use Rattle.sheet.specs.Walk.{skip}
 use Rattle.bytecode.specs.declared.Receiver.{Receiver}
@@ -19,8 +19,8 @@ use Rattle.bytecode.specs.declared.Op.{Op}
 use Rattle.bytecode.specs.declared.Step.{Step}
 use Rattle.lowering.specs.Limits.{max_elements}
 use Rattle.lowering.specs.Kinds.{variable_kind}
-use Rattle.lowering.specs.Code.{Code, ins}
-use Rattle.lowering.specs.Pools.{Pools, Const, Name, name, const_of, name_at, emits, defeat, push_const, push_name, push_token, push_residual}
+use Rattle.lowering.specs.Code.{Code}
+use Rattle.lowering.specs.Pools.{Pools, Const, Name, name, const_of, emits, defeat, push_const, push_name, push_token, push_residual}
 use Rattle.lowering.specs.Pools.{push_chain}
 use Rattle.lowering.specs.Out.{Out, out, Rec, and_then, emit_at, residual_expr}
 use Rattle.lowering.specs.Slots.{resolve}
@@ -32,7 +32,7 @@ use Rattle.lowering.specs.ShortCircuit.{fragments, short_circuit}
 use Rattle.lowering.specs.Coalesce.{coalesce}
 use Rattle.lowering.specs.Call as call
 use Rattle.lowering.specs.Call.{CallRule, First, call_rule, make_fn_ptr, call_fn_ptr, receiver, other_args, call_ref, call_local, call_this}
-use Rattle.lowering.specs.Call.{call_named, rotate, stores_token, call_as, call_token, call_values, lower_call_by, fn_call_by, fn_call}
+use Rattle.lowering.specs.Call.{call_named, stores_token, call_as, call_token, call_values, lower_call_by, fn_call_by, fn_call}
 use Rattle.lowering.specs.Flatten as flatten
 use Rattle.lowering.specs.Flatten.{StepRule, index, property, method, operand_of, step_rule, links, flattens}
 use Rattle.lowering.specs.Steps.{Stepped, stepped, failed, index_step, property_step, is_lowerable_method, method_after, method_step, step_by}
@@ -41,7 +41,7 @@ use Rattle.lowering.specs.Chain.{root_of, root_pools, root_code, chain_of, chain
 use Rattle.lowering.specs.Expression as expressions
 use Rattle.lowering.specs.Expression.{Rule, rule, by_rule, expression}
 use Rattle.expr_chains.proofs.WalkLaws.{root-pools-on, root-pools-off}
-use mathlib.Core.Path.{subst, sym}
+use mathlib.Core.Path.{subst}
 
 -- what each addition keeps
 pub record Steady (s : List ℕ) (R : Pools → Pools → Type 0) : Type 0 where

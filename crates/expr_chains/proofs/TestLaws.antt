@@ -1,13 +1,13 @@
 -- Laws of the tests of two steps, in the shapes of the code.
 use Prim.Native.Nat.{ℕ}
 use mathlib.Core.Path.{◌≡◌, refl}
-use mathlib.Core.Bool.{Bool, true, false, ◌&&◌}
+use mathlib.Core.Bool.{true, false, ◌&&◌}
 use mathlib.Core.List.{List}
 use lib.Dec.{eqb}
 use borrow.Author.Tests.{eq-eqb, ne_eqb}
 use Rattle.text.specs.Same.{same}
 use Rattle.text.proofs.SameLaws.{same_refl}
-use Rattle.sheet.specs.Node.{kind, count, field_a, field_b, field_c, position}
+use Rattle.sheet.specs.Node.{count, field_a, field_b, field_c, position}
 use Rattle.sheet.specs.Start.{start_of}
 use Rattle.sheet.specs.Text.{text}
 use Rattle.lowering.specs.Flatten.{negated, operand_of, step_rule}

@@ -1,24 +1,20 @@
 -- Laws of roots and of whole chains, in the shapes of the code: one for each way through.
 use Prim.Native.Nat.{ℕ}
-use mathlib.Core.Path.{◌≡◌, refl, sym, ap, ◌∙◌}
-use mathlib.Core.Bool.{Bool, true, false, ◌||◌}
-use mathlib.Core.Option.{Option, none, some}
+use mathlib.Core.Path.{◌≡◌, sym, ◌∙◌}
+use mathlib.Core.Bool.{true, false, ◌||◌}
 use mathlib.Core.List.{List}
 use lib.Dec.{eqb}
 use borrow.Author.Tests.{eq-eqb, ne_eqb}
 use Rattle.sheet.specs.Limits.{max_depth}
 use Rattle.sheet.specs.Node.{kind, field_a, position, child}
 use Rattle.sheet.specs.Text.{text}
-use Rattle.bytecode.specs.declared.Root.{Root}
 use Rattle.lowering.specs.Kinds.{variable_kind, this_kind}
 use Rattle.lowering.specs.Slots.{resolve}
-use Rattle.expr_slots.specs.declared.Found.{Found}
-use Rattle.expr_slots.specs.declared.Found.TheVariants.{At, Nothing}
 use Rattle.expr_slots.specs.Found.{found}
 use Rattle.expr_chains.specs.Variable.{variable_by}
 use Rattle.expr_chains.proofs.VariableLaws.{variable-by}
 use Rattle.expr_chains.specs.Steps.{root_with}
-use Rattle.expr_chains.specs.Same.{same_text, is_some, is_local, same_variable, root_kind, same_root_as, same_root, same_links, same_nodes}
+use Rattle.expr_chains.specs.Same.{same_text, is_local, same_variable, root_kind, same_root_as, same_root, same_links, same_nodes}
 
 -- the kind of a root
 pub kind-own : (k : ℕ) → (eqb k variable_kind || eqb k this_kind) ≡ true → root_kind k ≡ k

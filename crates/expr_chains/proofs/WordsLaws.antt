@@ -1,10 +1,9 @@
 -- A step and a chain have six words each.
-use Prim.Native.Nat.{ℕ, suc, ◌+◌}
+use Prim.Native.Nat.{ℕ, ◌+◌}
 use mathlib.Core.Path.{◌≡◌, refl, sym, ap, ◌∙◌}
 use mathlib.Core.List.{List, [], ◌∷◌, ◌++◌, append_assoc}
 use Rattle.bytecode.specs.declared.Step.{Step}
 use Rattle.bytecode.specs.Chain.{step_words}
-use Rattle.lowering.specs.Limits.{step_width, chain_width}
 use Rattle.lowering.specs.Pools.{steps_words}
 
 pub steps-append : (xs ys : List Step) → steps_words (xs ++ ys) ≡ steps_words xs ++ steps_words ys

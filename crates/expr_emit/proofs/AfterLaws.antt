@@ -4,7 +4,7 @@ use Rattle.scratch_store.proofs.GrowingLaws.{growing-emit}
 use Rattle.bytecode.specs.declared.Op.{Op}
 use Rattle.bytecode.specs.declared.Op.TheVariants.{CheckSize, InterpolateAppend, SkipIfNotUnit, Pop, JumpIfFalse, JumpIfTrue}
 use Rattle.lowering.specs.ShortCircuit.{jump_on}
-use Rattle.expr_model.specs.Made.{Made, emit}
+use Rattle.expr_model.specs.Made.{emit}
 use Rattle.scratch.specs.declared.Layout.{Layout}
 use Rattle.scratch_store.specs.declared.State.{State}
 use Rattle.scratch_store.specs.Does.{Does}

@@ -1,5 +1,5 @@
 -- A node by its rule: each arm of `expression` does what the definition says of the node.
-use Rattle.std.proofs.Common.{◌≡◌, ℕ, ◌+◌, ◌-◌, ◌*◌, ◌%◌, ◌^◌, ◌<◌, ◌≤◌, min, List, sym, refl, ap, ◌∙◌, subst, arith}
+use Rattle.std.proofs.Common.{◌≡◌, ℕ, ◌+◌, ◌-◌, ◌≤◌, List, sym, ap, ◌∙◌, arith}
 use Rattle.sheet.specs.Node.{kind, count, field_a, position}
 use Rattle.bytecode.specs.declared.Op.TheVariants as Ops
 use Rattle.lowering.specs.Expression.{rule}

@@ -1,5 +1,5 @@
 -- Calls, step by step: what comes before the arguments and behind them.
-use Rattle.std.proofs.Common.{◌≡◌, ℕ, suc, ◌+◌, ◌-◌, ◌*◌, ◌<◌, true, false, eqb, List, sym, refl, ap, ◌∙◌, subst, arith, eq-eqb, ne_eqb}
+use Rattle.std.proofs.Common.{◌≡◌, ℕ, suc, ◌+◌, ◌-◌, ◌<◌, true, false, eqb, List, sym, refl, ap, ◌∙◌, subst, arith, eq-eqb, ne_eqb}
 use Rattle.lowering.proofs.FirstLaws.{first-within}
 use Rattle.scratch_store.proofs.GrowingLaws.{growing-emit}
 use Rattle.sheet.specs.Node.{count, field_a, field_b, field_c, position, child}

@@ -1,29 +1,20 @@
 -- The members of the cycle whose targets, entries or code depend on what stood before: And, Or, Coalesce, FnCall,
 -- chains; and a node by its rule.
-use Rattle.std.proofs.Common.{◌≡◌, ℕ, zero, suc, ◌+◌, ◌-◌, ◌*◌, ◌<◌, ◌≤◌, Bool, true, false, eqb, List, ◌++◌, sym, ap, ◌∙◌, subst, arith}
+use Rattle.std.proofs.Common.{◌≡◌, ℕ, ◌-◌, ◌<◌, ◌≤◌, true, false, List, sym, ap, ◌∙◌, subst, arith}
 use Rattle.sheet.proofs.WalkLaws.{skip-none}
 use Rattle.sheet.specs.Limits.{max_depth}
-use Rattle.sheet.specs.Node.{kind, count, field_a, position, child, next}
+use Rattle.sheet.specs.Node.{kind, count, child}
 use Rattle.sheet.specs.Walk.{skip}
-use Rattle.bytecode.specs.declared.Op.TheVariants as Ops
-use Rattle.lowering.specs.Kinds.{variable_kind, this_kind}
-use Rattle.lowering.specs.Code.{Code}
-use Rattle.lowering.specs.Flatten.{links, flattens, goes_on, rest_of, operand_of, step_rule}
+use Rattle.lowering.specs.Flatten.{links, flattens}
 use Rattle.lowering.specs.Nodes.{Right, Valid, Row}
-use Rattle.lowering.proofs.NodesLaws.{children, child-valid, row-less, row-none}
+use Rattle.lowering.proofs.NodesLaws.{children, child-valid, row-less}
 use Rattle.scratch_keys.specs.Used.{ChainKey}
 use Rattle.expr_emit.specs.Linked.{Linked}
-use Rattle.expr_rules.specs.declared.kinds.Rule as Kinds
-use Rattle.expr_rules.specs.Answers.{rule_of}
-use Rattle.lowering.specs.Expression.{rule}
-use Rattle.expr_chains.proofs.Grow.{Grows}
 use Rattle.expr_chains.specs.Pooled.{Pooled}
-use Rattle.expr_chains.specs.Lowers.{lowers, step_lowers}
+use Rattle.expr_chains.specs.Lowers.{lowers}
 use Rattle.expr_count.specs.Link.{temporary}
-use Rattle.expr_count.specs.Count.{tally}
-use Rattle.expr_model.specs.Made.{Made, place, emit, residual, take_back, at_depth, lowered}
-use Rattle.expr_model.specs.Construct.{Low, short_circuit, coalesce, fn_call, operands, chain, close_chain, root_name, root_value, steps, step_by}
-use Rattle.expr_model.specs.Construct.{boolean, unit, this_of}
+use Rattle.expr_model.specs.Made.{Made, residual, take_back, lowered}
+use Rattle.expr_model.specs.Construct.{Low, short_circuit, coalesce, fn_call, operands, chain, close_chain, root_name, root_value, steps}
 use Rattle.expr_model.proofs.WayLaws.{chain-stays, chain-fails, chain-lowers}
 use Rattle.expr_model.proofs.LoweredLaws.{chain-behind, closed-pooled}
 use Rattle.expr_model.proofs.Rising.{lowered-rises}
@@ -35,9 +26,8 @@ use Rattle.scratch_store.proofs.HoldsLaws.{depth_is, depth_low}
 use Rattle.scratch_store.specs.States as states
 use Rattle.scratch_store.specs.States.{state_of, Full}
 use Rattle.scratch_store.proofs.ResidualLaws.{back-holds}
-use Rattle.scratch_store.specs.Does.{Fits, Growing, Does, Left}
-use Rattle.scratch_store.proofs.DoesLaws.{does-seq, does-same, growing-seq, left-start, left-by, left_end, held-full}
-use Rattle.expr_emit.specs.declared.after.After.{After}
+use Rattle.scratch_store.specs.Does.{Fits, Growing, Does}
+use Rattle.scratch_store.proofs.DoesLaws.{does-seq, does-same, held-full}
 use Rattle.expr_emit.specs.declared.after.After.TheVariants.{Nothing, Decide, Unless}
 use Rattle.expr_emit.specs.declared.calls.Way.{Way}
 use Rattle.expr_emit.specs.Ways.{way_of, arg_count, first_arg, opened, opened_at, closed}

@@ -1,5 +1,5 @@
 -- Calls one after another, where what is emitted depends on where an entry was found.
-use Rattle.std.proofs.Common.{◌≡◌, ℕ, ◌≤◌, List, sym, subst, arith}
+use Rattle.std.proofs.Common.{◌≡◌, ℕ, List, sym, subst, arith}
 use Rattle.expr_model.specs.Made.{Made}
 use Rattle.scratch.specs.declared.Layout.{Layout}
 use Rattle.scratch_store.specs.declared.State.{State}

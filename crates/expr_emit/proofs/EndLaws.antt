@@ -1,5 +1,5 @@
 -- Where a node's code ends, by the locals of the Variables in the scratch.
-use Rattle.std.proofs.Common.{◌≡◌, ℕ, ◌+◌, ◌-◌, ◌*◌, ◌%◌, ◌^◌, ◌<◌, ◌≤◌, min, Bool, true, false, not, eqb, ltb, List, length, get_or, take, drop, sym, refl, ap, ◌∙◌, subst, arith, length-drop, get_or-drop, take_all, ltb-false, ltb-true, ne_eqb}
+use Rattle.std.proofs.Common.{◌≡◌, ℕ, ◌+◌, ◌-◌, ◌*◌, ◌<◌, ◌≤◌, min, Bool, true, false, not, eqb, ltb, List, length, get_or, take, drop, sym, refl, ap, ◌∙◌, subst, arith, length-drop, get_or-drop, take_all, ltb-false, ltb-true, ne_eqb}
 use mathlib.Core.Option.{Option, none, some}
 use Rattle.sheet.specs.Sections.{node_count, local_count}
 use Rattle.sheet.specs.Node.{kind, field_a}

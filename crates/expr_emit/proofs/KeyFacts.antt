@@ -1,5 +1,5 @@
 -- The keys of entries, from what is known where they are added: the rule of a node, and the kind of a call, of a property and of a link.
-use Rattle.std.proofs.Common.{◌≡◌, ℕ, zero, suc, ◌+◌, ◌*◌, ◌/◌, ◌%◌, ◌<◌, ◌≤◌, Bool, true, false, not, eqb, List, get_or, sym, refl, ap, ◌∙◌, subst, arith, eqb-true}
+use Rattle.std.proofs.Common.{◌≡◌, ℕ, zero, suc, ◌<◌, ◌≤◌, Bool, true, false, not, eqb, List, get_or, sym, refl, ap, ◌∙◌, subst, arith, eqb-true}
 use mathlib.Core.Bool.{and-eq-true_iff}
 use Rattle.sheet.specs.Node.{kind}
 use Rattle.lowering.specs.Limits.{names_per_node}

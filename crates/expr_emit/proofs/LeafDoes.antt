@@ -1,5 +1,5 @@
 -- Leaves: an entry is found or added, and one instruction names it.
-use Rattle.std.proofs.Common.{◌≡◌, ℕ, ◌+◌, ◌*◌, List, sym, refl, ap, ◌∙◌, subst}
+use Rattle.std.proofs.Common.{◌≡◌, ℕ, List, sym, refl, ap, ◌∙◌, subst}
 use mathlib.Core.Option.{Option, none, some}
 use Rattle.scratch_store.proofs.GrowingLaws.{growing-emit}
 use Rattle.sheet.specs.Node.{field_a, position}

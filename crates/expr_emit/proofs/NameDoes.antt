@@ -1,5 +1,5 @@
 -- A name by its field: the key is the one that the pool keeps.
-use Rattle.std.proofs.Common.{◌≡◌, ℕ, ◌+◌, ◌*◌, ◌<◌, List, sym, ap, ◌∙◌, subst, arith}
+use Rattle.std.proofs.Common.{◌≡◌, ℕ, ◌<◌, List, sym, ap, ◌∙◌, subst, arith}
 use Rattle.sheet.specs.Limits.{max_nodes}
 use Rattle.lowering.specs.Limits.{names_per_node}
 use Rattle.lowering.specs.Pools.{name_at}

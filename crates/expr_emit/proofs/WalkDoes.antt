@@ -1,28 +1,25 @@
 -- The walk along a chain's links, step by step.
-use Rattle.std.proofs.Common.{◌≡◌, ℕ, ◌-◌, ◌<◌, ◌≤◌, Bool, true, false, List, sym, refl, ap, ◌∙◌, subst}
+use Rattle.std.proofs.Common.{◌≡◌, ℕ, ◌-◌, ◌<◌, ◌≤◌, true, false, List, sym, ◌∙◌, subst}
 use Rattle.sheet.specs.Limits.{max_depth}
 use Rattle.lowering.specs.Flatten.{links, goes_on, rest_of, operand_of, step_rule}
 use Rattle.lowering.specs.Nodes.{Right, Valid, Row}
 use Rattle.expr_chains.specs.Lowers.{step_lowers}
 use Rattle.expr_count.specs.declared.links.Link.TheVariants.{Lowers}
 use Rattle.expr_count.specs.Link.{link}
-use Rattle.expr_model.specs.Made.{Made, lowered}
-use Rattle.expr_model.specs.Construct.{operands, steps, step_by}
+use Rattle.expr_model.specs.Made.{lowered}
+use Rattle.expr_model.specs.Construct.{steps, step_by}
 use Rattle.expr_model.proofs.LoopLaws.{steps-more, steps-last, steps-fails, steps-done}
 use Rattle.expr_model.proofs.NodeLaws.{link-node, link-next}
 use Rattle.scratch.specs.declared.Layout.{Layout}
 use Rattle.scratch_store.specs.declared.State.{State}
-use Rattle.scratch_store.specs.Holds.{Holds}
-use Rattle.scratch_store.specs.Does.{Growing, Does, Left}
-use Rattle.scratch_store.proofs.DoesLaws.{growing-none, does-same, does-seq, left-start, left-by, left_end}
+use Rattle.scratch_store.specs.Does.{Does, Left}
+use Rattle.scratch_store.proofs.DoesLaws.{growing-none, left-start, left-by, left_end}
 use Rattle.expr_emit.specs.declared.after.After.TheVariants.{Nothing}
 use Rattle.scratch_keys.specs.Used.{ChainKey}
 use Rattle.expr_emit.specs.ChainParts.{step_names}
 use Rattle.expr_emit.specs.Linked.{Linked}
 use Rattle.expr_emit.proofs.KeyFacts.{next-key}
-use Rattle.expr_emit.proofs.Doing.{does_at}
 use Rattle.expr_emit.specs.Siblings.{rows}
-use Rattle.expr_emit.proofs.SiblingsLaws.{rows-operands}
 use Rattle.expr_emit.proofs.StepDoes.{link-lowers, link_row, step-does}
 use Rattle.expr_emit.proofs.CycleMore.{steps-grows}
 use Rattle.expr_emit.specs.Walking.{Walking}

@@ -14,7 +14,7 @@ use Rattle.expr_rules.specs.Answers.{call_rule_of, receiver_kind}
 use Rattle.expr_rules.proofs.InverseLaws.{call_rule_from, call-is}
 use Rattle.expr_rules.proofs.ReceiverLaws.{receiver-variable, receiver-this, receiver-value}
 use Rattle.expr_emit.specs.declared.calls.Way.{Way}
-use Rattle.expr_emit.specs.declared.calls.Way.TheVariants.{FnPtr, FnPtrCall, Local, Named, This, Value, Eval, Kept}
+use Rattle.expr_emit.specs.declared.calls.Way.TheVariants.{FnPtr, FnPtrCall, This, Value, Eval, Kept}
 use Rattle.expr_emit.specs.Ways.{way_first, way_found, way_by, way_of, arg_count, first_arg}
 
 found_first : (o : Option ℕ) → way_found (found o) ≡ way_first (elim o [ some slot ↦ Call.local slot | none ↦ Call.named ])

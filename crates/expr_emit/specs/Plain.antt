@@ -1,5 +1,5 @@
 -- A node whose name, field a, is pooled without a mark.
-use Rattle.std.specs.Prelude.{◌≡◌, ℕ, ◌+◌, ◌*◌, List}
+use Rattle.std.specs.Prelude.{◌≡◌, ℕ, List}
 use Rattle.sheet.specs.Node.{field_a}
 use Rattle.lowering.specs.Pools.{name}
 use Rattle.scratch_keys.specs.Keys.{key_of, name_of}

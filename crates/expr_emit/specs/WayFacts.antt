@@ -1,5 +1,5 @@
 -- What is known of a call that goes a way: counts, captures and keys.
-use Rattle.std.specs.Prelude.{◌≡◌, ℕ, ◌+◌, ◌*◌, ◌<◌, ◌≤◌, true, false, List}
+use Rattle.std.specs.Prelude.{◌≡◌, ℕ, ◌<◌, true, false, List}
 use Rattle.sheet.specs.Node.{count, field_a, field_b, child}
 use Rattle.lowering.specs.Pools.{name}
 use Rattle.lowering.specs.Call.{stores_token}

@@ -1,5 +1,5 @@
 -- A call in three parts: what comes before its arguments, the arguments, and what comes behind them. Which parts, its way says.
-use Rattle.std.specs.Prelude.{ℕ, suc, ◌+◌, ◌-◌, List}
+use Rattle.std.specs.Prelude.{ℕ, ◌-◌, List}
 use Rattle.sheet.specs.Node.{count, field_a, field_b, position, child, next}
 use Rattle.bytecode.specs.declared.Receiver.TheVariants as Receivers
 use Rattle.bytecode.specs.declared.Op.TheVariants.{LoadNamed, LoadThis, MakeFnPtr, CallFnPtr}

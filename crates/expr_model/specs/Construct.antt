@@ -1,12 +1,12 @@
 -- Each construct as a change of what has been made so far. `low` lowers a node. Siblings are taken one by one from the first.
-use Rattle.std.specs.Prelude.{ℕ, zero, suc, ◌+◌, ◌-◌, true, false, List, [], ◌∷◌, eqb, leb, length}
+use Rattle.std.specs.Prelude.{ℕ, zero, suc, ◌+◌, ◌-◌, true, false, List, [], ◌∷◌, eqb, leb}
 use Rattle.std.proofs.Math.Option.{none, some}
 use Rattle.sheet.specs.Limits.{max_depth}
 use Rattle.sheet.specs.Node.{kind, count, field_a, field_b, field_c, position, child, next}
 use Rattle.sheet.specs.Text.{text}
 use Rattle.sheet.specs.Walk.{skip}
 use Rattle.bytecode.specs.declared.Op.{Op}
-use Rattle.bytecode.specs.declared.Op.TheVariants.{Const, Unit, Bool, LoadLocal, LoadNamed, LoadThis, Pop, Jump, JumpIfTrue, JumpIfFalse}
+use Rattle.bytecode.specs.declared.Op.TheVariants.{Const, Unit, Bool, LoadLocal, LoadNamed, LoadThis, Pop, Jump}
 use Rattle.bytecode.specs.declared.Op.TheVariants.{SkipIfNotUnit, Call, CallRef, Rotate, MakeFnPtr, CallFnPtr, InterpolateStart}
 use Rattle.bytecode.specs.declared.Op.TheVariants.{InterpolateAppend, InterpolateEnd, MakeArray, CheckSize, Chain}
 use Rattle.bytecode.specs.declared.Receiver.{Receiver}
@@ -21,14 +21,12 @@ use Rattle.lowering.specs.Call.{First, local, named, this, value, receiver, stor
 use Rattle.lowering.specs.Call.{residual, call_rule}
 use Rattle.lowering.specs.Flatten.{StepRule, step_rule, operand_of, links, flattens}
 use Rattle.lowering.specs.Flatten as Flatten
-use Rattle.lowering.specs.Steps.{is_lowerable_method}
-use Rattle.lowering.specs.Chain.{on_stack}
-use Rattle.lowering.specs.Expression.{Rule, rule}
+use Rattle.lowering.specs.Expression.{Rule}
 use Rattle.lowering.specs.Expression as Expression
 use Rattle.expr_chains.specs.Steps.{chain_root, chain_steps, chain_operands}
 use Rattle.expr_chains.specs.Lowers.{step_lowers, lowers}
 use Rattle.expr_count.specs.Link.{temporary}
-use Rattle.expr_model.specs.Made.{Made, place, with, emit, add_const, add_name, add_token, defeated, at_depth, take_back}
+use Rattle.expr_model.specs.Made.{Made, with, emit, add_const, add_name, add_token, defeated, at_depth, take_back}
 use Rattle.expr_model.specs.Made as Made
 
 -- the lowering of a node

@@ -1,6 +1,5 @@
 -- The lowering step by step: what has been made so far, and what emitting an instruction or adding to a pool changes of it.
-use Rattle.std.specs.Prelude.{ℕ, zero, suc, ◌+◌, ◌-◌, List, [], ◌∷◌, ◌++◌, length, get_or}
-use Rattle.sheet.specs.Node.{field_c}
+use Rattle.std.specs.Prelude.{ℕ, suc, ◌+◌, ◌-◌, List, [], ◌∷◌, ◌++◌, length, get_or}
 use Rattle.bytecode.specs.declared.Op.{Op}
 use Rattle.bytecode.specs.declared.Op.TheVariants.{EvalAst}
 use Rattle.bytecode.specs.Op.{op_words}

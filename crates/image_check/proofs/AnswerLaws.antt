@@ -5,7 +5,6 @@ use mathlib.Core.Bool.{Bool, true, false}
 use mathlib.Core.List.{List}
 use native.Mathlib.Omega.{arith}
 use borrow.Author.Tests.{lt-ltb, le-ltb}
-use lib.Dec.{ltb}
 use lib.ListN.{length, length-replicate}
 use Rattle.zeros.specs.Zeros.{zeros, Zeroed}
 use Rattle.refusals.specs.declared.Refusal.{Refusal}

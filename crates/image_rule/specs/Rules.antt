@@ -1,9 +1,9 @@
 -- What each word of an image may be: a rule for each word of each record, by the record's kind.
-use Rattle.std.specs.Prelude.{ℕ, zero, suc, ◌+◌, ◌*◌, ◌/◌, ◌%◌, ◌≤◌, ◌<◌, ◌≡◌, true, false, List, [], ◌∷◌, ◌++◌, eqb, length, get_or}
+use Rattle.std.specs.Prelude.{ℕ, ◌+◌, ◌*◌, ◌/◌, ◌%◌, ◌≤◌, ◌<◌, ◌≡◌, true, false, List, [], ◌∷◌, ◌++◌, eqb, length, get_or}
 use Rattle.sheet.specs.Sections.{node_count, text_count, local_count}
 use Rattle.check_shape.specs.Kinds as Kinds
 use Rattle.lowering.specs.Limits.{max_args, max_elements, const_width, name_width, chain_width, step_width, range_width}
-use Rattle.lowering.specs.Words.{word, instructions, code_at, consts_at, chains_at, switches_at, cases_at, ranges_at, kind_at, b_at, const_word}
+use Rattle.lowering.specs.Words.{word, instructions, consts_at, chains_at, ranges_at, kind_at, b_at, const_word}
 use Rattle.lowering.specs.Words.{chain_word, switch_word}
 
 -- the counts of the pools

@@ -1,6 +1,6 @@
 -- The test for a well made image. It goes over each section once, and over the code twice: to mark the depths,
 -- and to see that the marks agree.
-use Rattle.std.specs.Prelude.{ℕ, zero, suc, ◌+◌, ◌*◌, ◌/◌, ◌%◌, min, Bool, true, false, ◌&&◌, List, leb, ltb, eqb, length, get_or}
+use Rattle.std.specs.Prelude.{ℕ, zero, suc, ◌+◌, ◌*◌, ◌/◌, ◌%◌, min, Bool, true, ◌&&◌, List, leb, ltb, eqb, length, get_or}
 use Rattle.words.specs.Count.{all_below}
 use Rattle.check_shape.specs.Kinds as Kinds
 use Rattle.bytecode.specs.Effect.{Flow, on, jump, branch, table}

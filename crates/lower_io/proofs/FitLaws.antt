@@ -1,12 +1,12 @@
 -- An image that was lowered fits into its buffer.
 use Prim.Native.Nat.{ℕ, ◌≤◌}
 use mathlib.Core.Path.{◌≡◌, sym, ap, ◌∙◌}
-use mathlib.Core.List.{List, ◌++◌}
+use mathlib.Core.List.{List}
 use native.Mathlib.Omega.{arith}
 use lib.ListN.{length, drop, length-append}
 use Rattle.lowering.specs.Outcome.{Outcome, refused, image, outcome}
 use Rattle.to_image.specs.declared.Answer.{Answer}
-use Rattle.to_image.specs.declared.Answer.TheVariants.{Lowered, Refused}
+use Rattle.to_image.specs.declared.Answer.TheVariants.{Lowered}
 use Rattle.to_image.specs.Answer.{words_of, answer, image_after, Answers}
 
 fit : (o : Outcome) (xs : List ℕ) → words_of (answer o) ≤ length (image_after o xs)

@@ -1,6 +1,6 @@
 -- Demand 3, put together: what is shown of expressions and of switches, for every sheet whose outcome is an image.
 use Prim.Native.Nat.{ℕ}
-use mathlib.Core.Path.{◌≡◌, refl, sym, ap, subst}
+use mathlib.Core.Path.{◌≡◌, refl, sym, subst}
 use mathlib.Core.Bool.{Bool, true, false}
 use mathlib.Core.List.{List}
 use native.Mathlib.Omega.{arith}
@@ -13,7 +13,7 @@ use Rattle.checks.specs.declared.Verdict.TheVariants.{Accepted, Refused}
 use Rattle.lowering.specs.Limits.{max_levels}
 use Rattle.lowering.specs.Kinds.{switch_kind}
 use Rattle.lowering.specs.Expression.{expression}
-use Rattle.lowering.specs.Outcome.{Outcome, refused, image, lower, outcome_after, outcome}
+use Rattle.lowering.specs.Outcome.{image, lower, outcome_after, outcome}
 use Rattle.lowering.specs.Demand3.{Statement}
 use Rattle.lowering.proofs.Whole.{WellTyped, AllReached}
 use Rattle.lowering.proofs.NodesLaws.{accepted-sizes, accepted-shape}

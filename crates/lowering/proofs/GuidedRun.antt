@@ -6,7 +6,7 @@ use mathlib.Core.List.{List, ◌++◌}
 use Rattle.lowering.specs.Marks.{mark_at}
 use Rattle.lowering.specs.Words.{instructions}
 use Rattle.lowering.specs.Run.{State, step_on, run}
-use Rattle.lowering.specs.Guided.{Fed, Guided, guided_step, guided, guided_ways, Event, event_of, events_from, events, events_of}
+use Rattle.lowering.specs.Guided.{Fed, guided_step, guided, guided_ways, Event, event_of, events_from, events, events_of}
 use Rattle.lowering.specs.Demand3.{RunsRight, Demand3}
 
 pub guided-is-run : (f : Fed) (n : ℕ) → (guided f n).state ≡ run f.image (guided_ways f) n

@@ -26,15 +26,14 @@ use Rattle.lowering.specs.Flatten.{is_chain, rest_of, goes_on, operand_of, links
 use Rattle.lowering.specs.Expression as Expr
 use Rattle.lowering.specs.Expression.{Rule, rule, by_rule, expression}
 use Rattle.lowering.specs.Program.{plain}
-use Rattle.lowering.specs.SwitchSheet.{block_count, subject, guard_of, body_of}
+use Rattle.lowering.specs.SwitchSheet.{guard_of, body_of}
 use Rattle.lowering.specs.Switch.{switch}
 use Rattle.lowering.specs.Outcome.{lower, lower_with}
 use Rattle.lowering.specs.All.{All}
 use Rattle.lowering.specs.Nodes.{Valid, Right}
 use Rattle.lowering.proofs.NodesLaws.{node-bounds, children, child-is, child-valid, root-valid, switch-count}
-use Rattle.lowering.specs.ChainNodes.{Link}
 use Rattle.lowering.proofs.ChainNodesLaws.{goes-chain, operand_on, operand-last, links-zero, links-on, links-stop, chain_link}
-use Rattle.lowering.specs.Levels.{InTree, root, below, Levelless, Statement}
+use Rattle.lowering.specs.Levels.{InTree, root, below, Statement}
 use Rattle.lowering.proofs.LinkedCall.{rule-takes}
 use Rattle.lowering.proofs.LinkedExpression.{least, rule-count}
 use Rattle.lowering.proofs.LowerFits.{with-switch, with-plain, lower_switch, lower-plain}

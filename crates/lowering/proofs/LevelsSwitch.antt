@@ -15,7 +15,7 @@ use Rattle.lowering.specs.SwitchSheet.{block_count, default_block, subject, guar
 use Rattle.lowering.specs.Arms.{Guard, never, always, tried, guard_kind, Tries, try_at, taken, tries_of, entry_from, entry_extent}
 use Rattle.lowering.specs.Arms.{end_emits, Arm, Arms, arm_chains, arms_extent, distinct}
 use Rattle.lowering.specs.Bodies.{Bodies, wanted, lay_bodies}
-use Rattle.lowering.specs.SwitchLaid.{SwitchLaid, lay_cases, case_arms_of, lay_ranges, ranges_extent, layout}
+use Rattle.lowering.specs.SwitchLaid.{lay_cases, case_arms_of, lay_ranges, ranges_extent, layout}
 use Rattle.lowering.specs.Switch.{switch_of, switch}
 use Rattle.lowering.proofs.SwitchEntries.{distinct-only}
 use Rattle.lowering.proofs.SwitchBlocks.{Blocks, split-blocks}

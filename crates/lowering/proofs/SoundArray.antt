@@ -1,8 +1,8 @@
 -- Array: n elements take depth d to d + n, and MakeArray takes them off again.
-use Prim.Native.Nat.{ℕ, zero, suc, ◌+◌, ◌≤◌}
-use mathlib.Core.Path.{◌≡◌, refl, sym, ap, ◌∙◌, subst}
+use Prim.Native.Nat.{ℕ, zero, suc, ◌+◌}
+use mathlib.Core.Path.{◌≡◌, refl, sym, ◌∙◌, subst}
 use mathlib.Core.Bool.{Bool, true, false}
-use mathlib.Core.List.{List, [], ◌++◌}
+use mathlib.Core.List.{List, []}
 use native.Mathlib.Omega.{arith}
 use native.Mathlib.Nat.{add-zero, suc-add, add-suc}
 use lib.Dec.{leb}
@@ -11,9 +11,9 @@ use Rattle.lowering.proofs.LinkedArray.{array-lowers, array-stays}
 use Rattle.sheet.specs.Node.{count, position, child, next}
 use Rattle.bytecode.specs.declared.Op.TheVariants.{CheckSize, MakeArray, EvalAst}
 use Rattle.lowering.specs.Limits.{max_elements}
-use Rattle.lowering.specs.Code.{Code, ins, no_pos}
+use Rattle.lowering.specs.Code.{ins, no_pos}
 use Rattle.lowering.specs.Pools.{Pools, emits, push_residual}
-use Rattle.lowering.specs.Out.{Out, out, Rec, and_then, emit_at, residual_expr}
+use Rattle.lowering.specs.Out.{Rec, and_then, emit_at, residual_expr}
 use Rattle.lowering.specs.Array.{elements, array}
 use Rattle.lowering.proofs.Effect.{Context}
 use Rattle.lowering.proofs.Typed.{Nothing, Sound, seq, none, one}

@@ -14,7 +14,7 @@ use Rattle.sheet.specs.Node.{kind, span, count, field_a, field_b, field_c, child
 use Rattle.sheet.specs.Walk.{skip}
 use Rattle.sheet.proofs.WalkLaws.{skip-add}
 use Rattle.check_shape.specs.Kinds.{switch_child, case_child, child_kind, case_value}
-use Rattle.check_shape.specs.Shape.{child_words, child_ok, tiles_by, tiles}
+use Rattle.check_shape.specs.Shape.{child_words, child_ok, tiles}
 use Rattle.check_shape.proofs.ShapeLaws.{self-end, node-self}
 use Rattle.check_numbers.specs.Numbers.{exist, number_by, number_ok, node_numbers_by, numbers_by, numbers_ok}
 use Rattle.switch_split.specs.Range.{Range}

@@ -10,7 +10,6 @@ use native.Mathlib.Numerals.{add-one}
 use lib.ListN.{length}
 use Rattle.bytecode.specs.declared.Op.TheVariants.{Unit, Jump, JumpIfTrue}
 use Rattle.bytecode.specs.declared.Chain.{Chain}
-use Rattle.switch_split.specs.Split as Split
 use Rattle.lowering.specs.Code.{Code, ins, no_pos}
 use Rattle.lowering.specs.Pools.{Pools}
 use Rattle.lowering.specs.Out.{Rec}

@@ -6,7 +6,6 @@ use mathlib.Core.List.{List, [], ◌∷◌}
 use native.Mathlib.Omega.{arith}
 use lib.ListN.{length}
 use Rattle.bytecode.specs.declared.Op.TheVariants.{Unit, Jump, JumpIfTrue, Rotate, Pop}
-use Rattle.switch_split.specs.Split as Split
 use Rattle.lowering.specs.Code.{Code, ins, no_pos}
 use Rattle.lowering.specs.Out.{Rec}
 use Rattle.lowering.specs.Arms.{Try, End, taken, declined, idle, Entry, to_body, to_chain, to_fallback, Arm, tries_extent, end_extent}

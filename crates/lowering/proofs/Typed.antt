@@ -1,10 +1,10 @@
 -- Code whose depths are right. `Typed` is local: each instruction finds what it needs, and each place that it can go to lies behind it,
 -- not past the end, and has the depth after it. `Sound` is what composes: code from place b on that takes depth d to depth e.
-use Prim.Native.Nat.{ℕ, zero, suc, ◌+◌, ◌≤◌, ◌<◌}
+use Prim.Native.Nat.{ℕ, suc, ◌+◌, ◌≤◌, ◌<◌}
 use mathlib.Core.Path.{◌≡◌, refl, sym, ap, ◌∙◌, subst}
-use mathlib.Core.List.{List, [], ◌∷◌, ◌++◌}
+use mathlib.Core.List.{[], ◌∷◌, ◌++◌}
 use native.Mathlib.Omega.{arith}
-use native.Mathlib.Nat.{add-zero, add-suc, suc-add, zero-add, add_assoc}
+use native.Mathlib.Nat.{add-zero, add-suc, suc-add, add_assoc}
 use lib.ListN.{length, length-append}
 use Rattle.lowering.specs.Code.{Ins, Code}
 use Rattle.lowering.specs.All.{All}

@@ -1,7 +1,6 @@
 -- A whole program whose depths are right, and of which every place is reached: what the lowering is shown to give, and what runs of the
 -- image's words are shown right from.
 use Prim.Native.Nat.{ℕ, zero, suc}
-use mathlib.Core.Path.{◌≡◌}
 use mathlib.Core.Bool.{true, false}
 use mathlib.Core.List.{List, [], ◌∷◌, ◌++◌, map}
 use lib.Dec.{eqb}
@@ -9,7 +8,7 @@ use lib.ListN.{length, get_or, take, drop}
 use Rattle.bytecode.specs.declared.Switch.{Switch}
 use Rattle.bytecode.specs.declared.SwitchCase.{SwitchCase}
 use Rattle.bytecode.specs.declared.SwitchRange.{SwitchRange}
-use Rattle.lowering.specs.Code.{Ins, Code}
+use Rattle.lowering.specs.Code.{Code}
 use Rattle.lowering.specs.Program.{Program}
 use Rattle.lowering.proofs.Effect.{Context}
 use Rattle.lowering.proofs.Typed.{Typed, Starts}

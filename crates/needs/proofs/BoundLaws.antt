@@ -11,9 +11,9 @@ use Rattle.expr_count.specs.declared.tallies.Tally.{Tally}
 use Rattle.expr_count.specs.Tally.{instructions, nothing, plus}
 use Rattle.expr_count.specs.Count.{Rec}
 use Rattle.expr_count.proofs.BoundLaws.{Below, below-refl, below-plus, Under}
-use Rattle.switch_count.specs.Arms.{tries_tally, has_try, end_tally, arm_tally, arms_tally, falls_tally}
+use Rattle.switch_count.specs.Arms.{tries_tally, has_try, end_tally, arm_tally, arms_tally}
 use Rattle.switch_count.proofs.ArmsAdd.{falls-emitted, falls-defeated}
-use Rattle.switch_count.specs.Bodies.{bodies_tally, fall_tally, default_tally}
+use Rattle.switch_count.specs.Bodies.{bodies_tally, default_tally}
 use Rattle.switch_count.proofs.BodiesAdd.{fall-emitted, fall-defeated}
 use Rattle.switch_count.specs.Total.{case_lists, split_lists, cases_tally, ranges_tally, bodies_of, switch_tally}
 

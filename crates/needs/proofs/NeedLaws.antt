@@ -13,7 +13,7 @@ use Rattle.checks.specs.declared.Verdict.{Verdict}
 use Rattle.checks.specs.declared.Verdict.TheVariants as Verdicts
 use Rattle.checks.proofs.VerdictLaws.{accepted-is, refused-own}
 use Rattle.refusals.specs.declared.Refusal.{Refusal}
-use Rattle.refusals.specs.declared.Refusal.TheVariants.{Eval, Emitted, ScratchShort, ImageLong}
+use Rattle.refusals.specs.declared.Refusal.TheVariants.{Eval, Emitted, ImageLong}
 use Rattle.refusals.proofs.RefusalLaws.{number-some}
 use Rattle.expr_count.specs.declared.tallies.Tally.{Tally}
 use Rattle.expr_count.specs.Limits.{cap}

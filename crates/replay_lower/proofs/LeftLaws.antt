@@ -1,9 +1,7 @@
 -- Laws of what a lowering must answer and leave: one for each way through the code.
 use Prim.Native.Nat.{ℕ, ◌<◌, ◌≤◌}
 use mathlib.Core.Path.{◌≡◌}
-use mathlib.Core.Bool.{true, false}
 use mathlib.Core.List.{List}
-use lib.Dec.{ltb}
 use borrow.Author.Tests.{lt-ltb, le-ltb}
 use Rattle.words.specs.Word.{word}
 use Rattle.replay_records.specs.Left.{noise}

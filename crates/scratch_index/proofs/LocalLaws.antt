@@ -1,5 +1,5 @@
 -- The locals in the slots of the Variables and the kept folds stay where other words are written, and where a pool has one entry more.
-use Rattle.std.proofs.Common.{◌≡◌, ℕ, ◌+◌, ◌*◌, ◌<◌, ◌≤◌, List, set, ◌∙◌, arith, get_or-set_other}
+use Rattle.std.proofs.Common.{◌≡◌, ℕ, ◌+◌, ◌<◌, ◌≤◌, List, set, ◌∙◌, arith, get_or-set_other}
 use Rattle.sheet.specs.Node.{kind}
 use Rattle.lowering.specs.Kinds.{variable_kind}
 use Rattle.scratch.specs.declared.Layout.{Layout}

@@ -1,5 +1,5 @@
 -- Slots: keys in use have different slots, within a pool and across pools, by the kinds of their nodes.
-use Rattle.std.proofs.Common.{◌≡◌, ℕ, ◌+◌, ◌*◌, ◌/◌, ◌%◌, ◌<◌, List, sym, ap, ◌∙◌, arith}
+use Rattle.std.proofs.Common.{◌≡◌, ℕ, ◌+◌, ◌*◌, ◌%◌, ◌<◌, List, sym, ap, ◌∙◌, arith}
 use native.Mathlib.Decide.{dec_lt}
 use Rattle.sheet.specs.Node.{kind}
 use Rattle.lowering.specs.Limits.{names_per_node}

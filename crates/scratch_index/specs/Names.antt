@@ -1,5 +1,5 @@
 -- Names by their keys: when two are the same, their hashes, and the slots of their links.
-use Rattle.std.specs.Prelude.{ℕ, ◌+◌, ◌*◌, ◌/◌, ◌%◌, Bool, List}
+use Rattle.std.specs.Prelude.{ℕ, ◌+◌, ◌*◌, ◌%◌, Bool, List}
 use Rattle.lowering.specs.Pools.{Name, name, same_name, name_bytes}
 use Rattle.scratch_keys.specs.Keys.{key_node, key_field, name_of, mark_by}
 use Rattle.scratch_folds.specs.Hash.{bytes_hash}

@@ -2,11 +2,11 @@
 use Rattle.std.proofs.Common.{◌≡◌, ℕ, suc, ◌+◌, ◌-◌, ◌<◌, ◌≤◌, List, length, get_or, set, sym, refl, ap, ◌∙◌, subst, add-one, arith, length-set, get_or-set_other, get_or-set_same}
 use mathlib.Core.Option.{Option, none, some}
 use native.Mathlib.Decide.{dec_lt}
-use Rattle.sheet.specs.Sections.{node_count, local_count}
+use Rattle.sheet.specs.Sections.{local_count}
 use Rattle.sheet.specs.Node.{kind, field_a}
 use Rattle.sheet.specs.Text.{text}
 use Rattle.lowering.specs.Kinds.{variable_kind}
-use Rattle.lowering.specs.Slots.{resolve_below, resolve}
+use Rattle.lowering.specs.Slots.{resolve}
 use Rattle.expr_slots.specs.declared.Found.{Found}
 use Rattle.expr_slots.specs.declared.Found.TheVariants.{At, Nothing}
 use Rattle.expr_slots.specs.Found.{found}

@@ -1,16 +1,15 @@
 -- The second part of the pass: each local is told to the name that it has, so that the last one wins.
-use Rattle.std.proofs.Common.{◌≡◌, ℕ, suc, ◌+◌, ◌%◌, ◌<◌, ◌≤◌, Bool, true, false, eqb, List, length, get_or, set, sym, refl, ap, ◌∙◌, subst, add-one, arith, get_or-set_other, get_or-set_same, eqb-true}
+use Rattle.std.proofs.Common.{◌≡◌, ℕ, suc, ◌+◌, ◌%◌, ◌<◌, ◌≤◌, Bool, true, false, eqb, List, length, set, sym, refl, ap, ◌∙◌, subst, add-one, arith, get_or-set_other, get_or-set_same, eqb-true}
 use mathlib.Core.Option.{some}
-use native.Mathlib.Decide.{dec_lt}
 use borrow.Author.Tests.{eqb-false}
 use Rattle.text.specs.Same.{same}
 use Rattle.text.proofs.SameLaws.{same_refl}
-use Rattle.sheet.specs.Node.{kind, field_a, local_text}
+use Rattle.sheet.specs.Node.{field_a, local_text}
 use Rattle.sheet.specs.Text.{text}
 use Rattle.lowering.specs.Slots.{resolve_below}
 use Rattle.scratch.specs.declared.Layout.{Layout}
 use Rattle.scratch.specs.declared.Index.{Index}
-use Rattle.scratch.specs.Places.{Small, tokens_at, chains_at, names_at, sums_from, name_index}
+use Rattle.scratch.specs.Places.{tokens_at, chains_at, names_at, sums_from, name_index}
 use Rattle.scratch.proofs.PlaceLaws.{name-lies}
 use Rattle.scratch_folds.specs.Hash.{bytes_hash}
 use Rattle.scratch_folds.specs.Sums.{BySums}

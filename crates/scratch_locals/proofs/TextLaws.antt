@@ -1,5 +1,5 @@
 -- The names of Variables as a pool: the same texts have the same hash, where the pool lies, and what a search for a text tells.
-use Rattle.std.proofs.Common.{◌≡◌, ℕ, ◌+◌, ◌<◌, ◌≤◌, true, false, List, length, get_or, sym, refl, ap, ◌∙◌, subst, arith}
+use Rattle.std.proofs.Common.{◌≡◌, ℕ, ◌+◌, ◌<◌, ◌≤◌, true, false, List, get_or, sym, refl, ap, ◌∙◌, subst, arith}
 use Rattle.lowering.proofs.FirstLaws.{first-within, first_passes}
 use Rattle.text.specs.Same.{same}
 use Rattle.text.proofs.SameLaws.{same_refl, same_true, same_false}

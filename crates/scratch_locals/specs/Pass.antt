@@ -3,7 +3,7 @@
 -- of a rank among the keys of tokens its local. What is kept for long texts stays.
 use Rattle.std.specs.Prelude.{◌≡◌, ℕ, zero, suc, ◌+◌, ◌<◌, ◌≤◌, Bool, true, false, List, length, slice_index}
 use Rattle.text.specs.Same.{same}
-use Rattle.sheet.specs.Sections.{node_count, local_count}
+use Rattle.sheet.specs.Sections.{node_count}
 use Rattle.sheet.specs.Node.{kind, field_a}
 use Rattle.sheet.specs.Text.{text}
 use Rattle.lowering.specs.Kinds.{variable_kind}

@@ -1,5 +1,5 @@
 -- An entry added to a pool as the code does it: sought among the keys, and its key written where it is not found.
-use Rattle.std.proofs.Common.{◌≡◌, ℕ, ◌+◌, ◌<◌, ◌≤◌, Bool, eqb, List, map, length, set, sym, refl, ap, ◌∙◌, arith}
+use Rattle.std.proofs.Common.{◌≡◌, ℕ, ◌+◌, ◌<◌, ◌≤◌, Bool, eqb, List, map, length, set, sym, ap, ◌∙◌, arith}
 use lib.ListN.{length-map}
 use Rattle.lowering.proofs.FirstLaws.{first-within}
 use Rattle.sheet.specs.Node.{field_c, child}
@@ -25,26 +25,12 @@ use Rattle.scratch_index.specs.Chains.{chain_hash, ByNames, FindsChain}
 use Rattle.scratch_index.specs.Indexes.{const_added, token_added, chain_added, name_added}
 use Rattle.scratch_index.proofs.HeldLaws.{name-searched, name-same}
 use Rattle.scratch_index.proofs.IndexesLaws.{const-found, token-found, chain-found, name-found, indexes-names}
-use Rattle.scratch_store.specs.Holds.{Keys, Holds}
+use Rattle.scratch_store.specs.Holds.{Holds}
 use Rattle.scratch_store.specs.States as states
 use Rattle.scratch_store.specs.States.{state_of, Full}
-use Rattle.scratch_store.specs.Does.{Does, Adds, AddsChain}
+use Rattle.scratch_store.specs.Does.{Adds, AddsChain}
 use Rattle.scratch_store.proofs.DoesLaws.{held-full}
-use Rattle.scratch_store.proofs.AddLaws.{
-  keys-few,
-  const-place,
-  const-old,
-  const-new,
-  token-place,
-  token-old,
-  token-new,
-  name-place,
-  name-old,
-  name_new,
-  chain-place,
-  chain-old,
-  chain-new,
-}
+use Rattle.scratch_store.proofs.AddLaws.{const-place, const-old, const-new, token-place, token-old, token-new, name-place, name-old, name_new, chain-place, chain-old, chain-new}
 
 -- what is not found before the end is found at the end
 at-end : {A : Type 0} (test : A → Bool) (f : ℕ → A) (ks : List ℕ) (n : ℕ) → length ks ≡ n → n ≤ first_where test (map f ks)

@@ -1,5 +1,5 @@
 -- The words and the depth that the code computes are those of the definition.
-use Rattle.std.proofs.Common.{◌≡◌, ℕ, ◌+◌, ◌*◌, ◌<◌, List, [], ◌∷◌, sym, refl, ap, ◌∙◌, subst, arith}
+use Rattle.std.proofs.Common.{◌≡◌, ℕ, ◌+◌, ◌*◌, ◌<◌, List, sym, refl, ap, ◌∙◌, subst, arith}
 use Rattle.bytecode.specs.declared.Receiver.{Receiver}
 use Rattle.bytecode.specs.declared.Receiver.TheVariants.{Local, Named, This}
 use Rattle.bytecode.specs.declared.Op.{Op}
@@ -7,9 +7,8 @@ use Rattle.bytecode.specs.declared.Op.TheVariants.{Const, Unit, Bool, LoadLocal,
 use Rattle.bytecode.specs.declared.Op.TheVariants.{SkipIfNotUnit, Call, CallRef, Rotate, Switch, MakeFnPtr, CallFnPtr, InterpolateStart}
 use Rattle.bytecode.specs.declared.Op.TheVariants.{InterpolateAppend, InterpolateEnd, MakeArray, CheckSize, Chain, EvalAst}
 use Rattle.bytecode.specs.Op.{four, receiver_kind, receiver_word, op_words}
-use Rattle.bytecode.specs.Effect.{effect, ref_argc, popped}
+use Rattle.bytecode.specs.Effect.{effect, popped}
 use Rattle.bytecode.specs.Table.{count_number, numbers_of, entry, counted}
-use Rattle.lowering.specs.Limits.{op_width}
 use Rattle.expr_model.specs.Made.{after}
 use Rattle.scratch_store.specs.Effects.{Narrow, joined, call_ref_words, after_words}
 

@@ -1,5 +1,5 @@
 -- What stays held where words outside a list change.
-use Rattle.std.proofs.Common.{◌≡◌, ℕ, ◌+◌, ◌*◌, ◌<◌, ◌≤◌, List, [], ◌∷◌, ◌++◌, map, length, set, sym, refl, ap, ◌∙◌, subst, arith, length-set}
+use Rattle.std.proofs.Common.{◌≡◌, ℕ, ◌*◌, ◌<◌, ◌≤◌, List, map, length, set, sym, ap, ◌∙◌, subst, arith}
 use Rattle.sheet.specs.Node.{field_c}
 use Rattle.lowering.specs.Limits.{names_per_node}
 use Rattle.lowering.specs.Pools.{const_of}
@@ -8,10 +8,10 @@ use Rattle.scratch_keys.specs.Keys.{name_of}
 use Rattle.expr_model.specs.Made.{Made}
 use Rattle.scratch.specs.declared.Layout.{Layout}
 use Rattle.scratch_store.specs.declared.State.{State}
-use Rattle.scratch.specs.Places.{positions_at, residuals_at, consts_at, tokens_at, chains_at, names_at, words_of, region}
+use Rattle.scratch.specs.Places.{consts_at, tokens_at, chains_at, names_at, region}
 use Rattle.scratch_store.specs.Distinct.{Distinct, Below}
-use Rattle.scratch.proofs.RegionLaws.{region-before, region-behind}
-use Rattle.scratch_store.specs.Holds.{Keys, Fit, Counts, Laid, CodeHeld, PoolsHeld, Holds}
+use Rattle.scratch.proofs.RegionLaws.{region-before}
+use Rattle.scratch_store.specs.Holds.{Keys, Fit, Laid, PoolsHeld}
 
 pub fit_same : {s : List ℕ} {l : Layout} {xs ys : List ℕ} → length ys ≡ length xs → Fit s l xs → Fit s l ys
 fit_same e h = let k = h.space in record { space = omega arith; few = h.few; nodes = h.nodes; small = h.small }

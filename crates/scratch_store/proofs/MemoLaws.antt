@@ -1,7 +1,7 @@
 -- Memos of names: a name that a memo knows stands already, and one that has been found or added may be remembered.
-use Rattle.std.proofs.Common.{◌≡◌, ℕ, ◌+◌, ◌/◌, ◌%◌, ◌<◌, ◌≤◌, Bool, true, false, eqb, List, map, length, get_or, sym, refl, ap, ◌∙◌, subst, arith, length-set, eqb-true}
+use Rattle.std.proofs.Common.{◌≡◌, ℕ, ◌+◌, ◌<◌, ◌≤◌, Bool, true, false, eqb, List, map, length, get_or, sym, ap, ◌∙◌, subst, arith, length-set, eqb-true}
 use Rattle.expr_chains.proofs.NameLaws.{name-self}
-use Rattle.lowering.specs.Pools.{Name, name, first_where, added, same_name, name_at, push_name}
+use Rattle.lowering.specs.Pools.{Name, first_where, same_name, name_at, push_name}
 use Rattle.expr_chains.proofs.FindLaws.{added-same, added-within}
 use Rattle.scratch_keys.specs.Keys.{key_node, key_field, is_marked, name_of}
 use Rattle.scratch_keys.specs.Used.{NameKey}
@@ -18,9 +18,8 @@ use Rattle.scratch_index.proofs.HeldLaws.{name-recalled, name-same, held-length}
 use Rattle.scratch_index.proofs.IndexesLaws.{name-found, indexes-names, indexes-remember}
 use Rattle.expr_model.specs.Made.{Made, add_name}
 use Rattle.scratch_store.specs.declared.State.{State}
-use Rattle.scratch_store.specs.States.{state_of}
-use Rattle.scratch_store.specs.Holds.{Holds, Lists}
-use Rattle.scratch_store.specs.Does.{Does, Adds}
+use Rattle.scratch_store.specs.Holds.{Holds}
+use Rattle.scratch_store.specs.Does.{Adds}
 use Rattle.scratch_store.proofs.AddLaws.{lists-same, lists_of, holds_by, small_of, name-place, name-old}
 
 -- a memo knows it

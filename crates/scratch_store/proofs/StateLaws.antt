@@ -1,5 +1,5 @@
 -- The counts in an array of twelve, after some of them are written.
-use Rattle.std.proofs.Common.{◌≡◌, ℕ, suc, ◌+◌, ◌%◌, ◌<◌, ◌≤◌, max, List, [], ◌∷◌, length, get_or, set, sym, refl, ap, ◌∙◌, subst, arith}
+use Rattle.std.proofs.Common.{◌≡◌, ℕ, ◌+◌, ◌%◌, ◌≤◌, max, List, [], ◌∷◌, get_or, set, sym, refl, subst, arith}
 use Rattle.lowering.specs.Code.{Code, greatest}
 use Rattle.scratch_store.specs.declared.State.{State}
 use Rattle.scratch_store.specs.States as states

@@ -1,5 +1,5 @@
 -- Numbers that differ from each other: there are no more of them below n than n.
-use Rattle.std.specs.Prelude.{◌≡◌, ℕ, ◌<◌, List, [], ◌∷◌, ◌≢◌}
+use Rattle.std.specs.Prelude.{ℕ, ◌<◌, List, [], ◌∷◌, ◌≢◌}
 use Rattle.expr_chains.specs.Pooled.{All}
 
 -- no number of xs is x

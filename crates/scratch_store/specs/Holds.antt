@@ -1,5 +1,5 @@
 -- What the scratch and the counts beside it stand for: the code, the pools and the depth that have been made.
-use Rattle.std.specs.Prelude.{◌≡◌, ℕ, ◌+◌, ◌*◌, ◌≤◌, List, map, length}
+use Rattle.std.specs.Prelude.{◌≡◌, ℕ, ◌*◌, ◌≤◌, List, map, length}
 use Rattle.sheet.specs.Limits.{max_nodes, max_depth}
 use Rattle.sheet.specs.Sections.{node_count}
 use Rattle.sheet.specs.Node.{field_c}

@@ -1,5 +1,5 @@
 -- Laws of the start position, in the shapes of the code.
-use Rattle.std.proofs.Common.{◌≡◌, ℕ, zero, suc, ◌-◌, Bool, true, false, List, sym, refl, sub-one, arith}
+use Rattle.std.proofs.Common.{◌≡◌, ℕ, zero, suc, ◌-◌, true, false, List, refl, sub-one, arith}
 use Rattle.sheet.specs.Node.{kind, position, child}
 use Rattle.sheet.specs.Start.{starts_inside, start_within}
 

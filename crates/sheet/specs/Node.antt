@@ -1,6 +1,6 @@
 -- The nodes of a sheet. A node is kind, span (the nodes of its subtree), count (its children), a, b, c; its children follow it in order.
 -- Node numbers are 32-bit words, so the next sibling's number is taken modulo 2 ^ 32; in a sheet of the right shape nothing wraps.
-use Rattle.std.specs.Prelude.{ℕ, suc, ◌+◌, ◌*◌, ◌%◌, List}
+use Rattle.std.specs.Prelude.{ℕ, ◌+◌, ◌*◌, ◌%◌, List}
 use Rattle.words.specs.Word.{word}
 use Rattle.sheet.specs.Limits.{header_words, node_words, word_range}
 use Rattle.sheet.specs.Sections.{Words, positions_at, locals_at_by}

@@ -1,5 +1,5 @@
 -- The start position of a node: for Dot, Index, And, Or and Coalesce that of the first child, for any other kind its own.
-use Rattle.std.specs.Prelude.{ℕ, zero, suc, ◌+◌, Bool, true, false, ◌&&◌, List, nat_le}
+use Rattle.std.specs.Prelude.{ℕ, zero, suc, Bool, true, false, ◌&&◌, List, nat_le}
 use Rattle.sheet.specs.Kinds.{dot_kind, coalesce_kind}
 use Rattle.sheet.specs.Sections.{node_count}
 use Rattle.sheet.specs.Node.{kind, position, child}

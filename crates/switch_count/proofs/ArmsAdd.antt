@@ -16,7 +16,6 @@ use Rattle.lowering.specs.Arms.{drop_idle_jump}
 use Rattle.lowering.specs.Bodies.{try_wants, end_wants, wanted}
 use Rattle.expr_count.specs.declared.tallies.Tally.{Tally}
 use Rattle.expr_count.specs.Tally.{instructions, nothing, plus, taken_back}
-use Rattle.expr_count.proofs.TallyLaws.{plus-nothing}
 use Rattle.expr_count.specs.Count as Count
 use Rattle.expr_count.proofs.Adds.{Adds, Counts, adds_none, adds-emits, adds-seq, adds-length, adds-tally}
 use Rattle.switch_count.specs.Arms.{tries_tally, end_of, has_try, wants, any_wants, end_tally, arm_tally, arms_tally, idle_tally, last_tally}

@@ -1,6 +1,6 @@
 -- The bodies of a switch, laid out, are those of the blocks that are reached, and add what their tallies say.
 use Prim.Native.Nat.{ℕ, zero, suc, ◌+◌}
-use mathlib.Core.Path.{◌≡◌, refl, sym, ap, ◌∙◌}
+use mathlib.Core.Path.{◌≡◌, refl, sym, ap}
 use mathlib.Core.Bool.{Bool, true, false, ◌||◌, or-false}
 use mathlib.Core.List.{List, [], ◌∷◌}
 use native.Mathlib.Omega.{arith}
@@ -10,13 +10,12 @@ use Rattle.lowering.specs.Pools.{Pools, emits}
 use Rattle.lowering.specs.Out.{Rec}
 use Rattle.lowering.specs.SwitchSheet.{body_of}
 use Rattle.lowering.specs.Arms.{Arm}
-use Rattle.lowering.specs.Bodies.{Body, Bodies, wanted, lay_bodies, bodies_extent, fall_extent, body_at}
-use Rattle.expr_count.specs.declared.tallies.Tally.{Tally}
+use Rattle.lowering.specs.Bodies.{Body, Bodies, wanted, lay_bodies, bodies_extent, fall_extent}
 use Rattle.expr_count.specs.Tally.{instructions, nothing, plus, taken_back}
 use Rattle.expr_count.specs.Count as Count
 use Rattle.expr_count.proofs.Adds.{Adds, Counts, adds_none, adds-emits, adds-seq}
 use Rattle.switch_count.specs.Arms.{any_wants}
-use Rattle.switch_count.specs.Bodies.{bodies_from, body_tally, bodies_tally, fall_tally}
+use Rattle.switch_count.specs.Bodies.{bodies_from, bodies_tally, fall_tally}
 
 -- the bodies xs, from place b on, are those of the blocks ks
 pub data Placed (s : List ℕ) (t : Count.Rec) : ℕ → List ℕ → List Body → Type 0 where

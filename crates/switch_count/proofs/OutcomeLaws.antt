@@ -1,6 +1,6 @@
 -- The outcome by the total of a sheet: the refusals 9 to 11 need no lowering.
-use Prim.Native.Nat.{ℕ, zero, ◌+◌, ◌*◌, ◌<◌, ◌≤◌}
-use mathlib.Core.Path.{◌≡◌, refl, sym, ap, ◌∙◌}
+use Prim.Native.Nat.{ℕ, ◌+◌, ◌*◌, ◌<◌, ◌≤◌}
+use mathlib.Core.Path.{◌≡◌, ap, ◌∙◌}
 use mathlib.Core.Bool.{Bool, true, false}
 use mathlib.Core.List.{List}
 use lib.Dec.{ltb}
@@ -11,8 +11,6 @@ use Rattle.refusals.specs.declared.Refusal.TheVariants.{Eval, Emitted, ScratchSh
 use Rattle.checks.specs.Checked.{verdict_number, checked}
 use Rattle.checks.proofs.VerdictLaws.{accepted-is}
 use Rattle.lowering.specs.Limits.{max_emitted, scratch_per_emitted, scratch_per_node, scratch_besides}
-use Rattle.lowering.specs.Pools.{Pools}
-use Rattle.lowering.specs.Program.{Program}
 use Rattle.lowering.specs.Image.{words}
 use Rattle.lowering.specs.Outcome.{Outcome, refused, image, lower, scratch_needed, lowered, outcome_after, outcome}
 use Rattle.switch_count.specs.Total.{total}

@@ -1,6 +1,6 @@
 -- The places by tallies are those of the layout and of the code.
 use Prim.Native.Nat.{ℕ, zero, suc, ◌+◌}
-use mathlib.Core.Path.{◌≡◌, refl, sym, ap, ◌∙◌}
+use mathlib.Core.Path.{◌≡◌, refl, ap, ◌∙◌}
 use mathlib.Core.Bool.{Bool, true, false}
 use mathlib.Core.List.{List, [], ◌∷◌, ◌++◌, map}
 use native.Mathlib.Omega.{arith}
@@ -12,20 +12,19 @@ use Rattle.switch_split.specs.Split.{split}
 use Rattle.switch_split.specs.Split as Split
 use Rattle.lowering.specs.Pools.{Pools, no_pools, emits}
 use Rattle.lowering.specs.Out.{Rec}
-use Rattle.lowering.specs.SwitchSheet.{block_count, default_block, subject, body_of, cases_of, case_blocks, ranges_of}
+use Rattle.lowering.specs.SwitchSheet.{block_count, default_block, subject, ranges_of}
 use Rattle.lowering.specs.Arms.{Try, End, taken, declined, idle, tries_of, entry_from, entry_extent, end_emits, Arm, arms_extent, arm_chains}
-use Rattle.lowering.specs.Arms.{distinct, distinct_from, drop_end, drop_idle_jump}
-use Rattle.lowering.specs.Bodies.{Body, Bodies, lay_bodies, bodies_extent, fall_extent, body_at}
+use Rattle.lowering.specs.Arms.{distinct, distinct_from, drop_idle_jump}
+use Rattle.lowering.specs.Bodies.{Body, body_at}
 use Rattle.lowering.specs.SwitchLaid.{SwitchLaid, lay_cases, case_arms_of, lay_ranges, ranges_extent, layout}
 use Rattle.lowering.specs.SwitchCode.{default_at, end_at, fallback_at}
 use Rattle.lowering.specs.SwitchTables.{entry_of, target}
-use Rattle.expr_count.specs.declared.tallies.Tally.{Tally}
-use Rattle.expr_count.specs.Tally.{instructions, nothing, plus}
+use Rattle.expr_count.specs.Tally.{instructions, plus}
 use Rattle.expr_count.specs.Count as Count
-use Rattle.expr_count.proofs.Adds.{Adds, Counts}
-use Rattle.switch_count.specs.Arms.{end_of, has_try, arm_tally}
-use Rattle.switch_count.specs.Bodies.{bodies_tally, fall_tally, default_tally}
-use Rattle.switch_count.specs.Total.{case_lists, split_lists, cases_tally, ranges_tally, bodies_of}
+use Rattle.expr_count.proofs.Adds.{Counts}
+use Rattle.switch_count.specs.Arms.{has_try}
+use Rattle.switch_count.specs.Bodies.{default_tally}
+use Rattle.switch_count.specs.Total.{case_lists, split_lists, bodies_of}
 use Rattle.switch_count.specs.Place.{cases_place, dispatch_place, bodies_place, body_from, body_place, default_place, end_place}
 use Rattle.switch_count.specs.Place.{fallback_place, end_target, list_target, target_from, case_target, range_target}
 use Rattle.switch_count.proofs.ArmsAdd.{some, tries-sum, arm-adds, entry_at}

@@ -11,32 +11,32 @@ use Rattle.lowering.proofs.SwitchPlaces.{arms-length, ranges-length, bodies-leng
 use Rattle.lowering.proofs.SwitchPlaces as Parts
 use Rattle.sheet.specs.Limits.{max_depth}
 use Rattle.sheet.specs.Node.{kind, child}
-use Rattle.bytecode.specs.declared.Op.TheVariants.{Unit, Rotate, Pop, Switch}
+use Rattle.bytecode.specs.declared.Op.TheVariants.{Unit}
 use Rattle.switch_split.specs.Split.{split}
 use Rattle.switch_split.specs.Split as Split
 use Rattle.lowering.specs.Kinds.{switch_kind}
-use Rattle.lowering.specs.Code.{Code, ins, no_pos}
+use Rattle.lowering.specs.Code.{ins, no_pos}
 use Rattle.lowering.specs.Pools.{Pools, no_pools, emits, const_of, push_const}
 use Rattle.lowering.specs.Out.{Rec}
 use Rattle.lowering.specs.Expression.{expression}
-use Rattle.lowering.specs.SwitchSheet.{block_count, default_block, subject, cases_of, case_blocks, ranges_of}
-use Rattle.lowering.specs.Arms.{arms_extent, arm_chains, distinct_from, distinct, drop_idle_jump}
-use Rattle.lowering.specs.Bodies.{Body, wanted, lay_bodies, bodies_extent, fall_extent}
+use Rattle.lowering.specs.SwitchSheet.{block_count, default_block, subject, cases_of, ranges_of}
+use Rattle.lowering.specs.Arms.{arms_extent, arm_chains, distinct_from, distinct}
+use Rattle.lowering.specs.Bodies.{Body, wanted, bodies_extent, fall_extent}
 use Rattle.lowering.specs.SwitchLaid.{SwitchLaid, lay_cases, case_arms_of, lay_ranges, ranges_extent, layout}
 use Rattle.lowering.specs.SwitchCode.{over_subject, default_at, end_at, fallback_at, bodies_code, default_code, last_emits, switch_code}
 use Rattle.lowering.specs.SwitchTables.{case_pools}
-use Rattle.lowering.specs.Program.{Program, plain}
+use Rattle.lowering.specs.Program.{plain}
 use Rattle.lowering.specs.Switch.{switch_of, switch}
 use Rattle.lowering.specs.Outcome.{lower, lower_with}
 use Rattle.expr_count.specs.declared.tallies.Tally.{Tally}
-use Rattle.expr_count.specs.Tally.{instructions, nothing, plus, taken_back}
+use Rattle.expr_count.specs.Tally.{instructions, plus}
 use Rattle.expr_count.proofs.TallyLaws.{plus_assoc}
 use Rattle.expr_count.specs.Count.{tally}
 use Rattle.expr_count.specs.Count as Count
 use Rattle.expr_count.proofs.Adds.{Adds, Counts, Alike, adds_none, adds-emits, adds-seq, adds-length, adds-tally, adds-into}
 use Rattle.expr_count.proofs.CountLaws.{tally-counts}
-use Rattle.switch_count.specs.Arms.{any_wants, arms_tally, falls_tally}
-use Rattle.switch_count.specs.Bodies.{bodies_from, bodies_tally, fall_tally, default_tally}
+use Rattle.switch_count.specs.Arms.{any_wants}
+use Rattle.switch_count.specs.Bodies.{bodies_tally, default_tally}
 use Rattle.switch_count.specs.Total.{case_lists, split_lists, cases_tally, ranges_tally, bodies_of, switch_tally, switch_total, total}
 use Rattle.switch_count.proofs.ArmsAdd.{any_append, falls-emitted, falls-defeated, arms-add, arms-want, falls-length}
 use Rattle.switch_count.proofs.BodiesAdd.{Placed, bodies-sum, fall-length, fall-emitted, fall-defeated}

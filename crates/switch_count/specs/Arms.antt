@@ -1,7 +1,7 @@
 -- What the guard chains of a switch give and emit, by the lists of blocks that they serve; t is the tally of a node.
 use Rattle.std.specs.Prelude.{ℕ, Bool, true, false, ◌||◌, List, [], ◌∷◌, eqb}
 use Rattle.lowering.specs.SwitchSheet.{guard_of}
-use Rattle.lowering.specs.Arms.{End, taken, declined, idle, Guard, never, always, tried, guard_kind}
+use Rattle.lowering.specs.Arms.{End, taken, declined, idle, never, always, tried, guard_kind}
 use Rattle.expr_count.specs.declared.tallies.Tally.{Tally}
 use Rattle.expr_count.specs.Tally.{instructions, nothing, plus, taken_back}
 use Rattle.expr_count.specs.Count.{Rec}

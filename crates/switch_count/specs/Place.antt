@@ -1,10 +1,9 @@
 -- Where the parts of a switch stand, by tallies: nothing has to be lowered to know the target of a jump or of a table's row.
-use Rattle.std.specs.Prelude.{ℕ, zero, suc, ◌+◌, Bool, true, false, List, [], ◌∷◌, eqb}
+use Rattle.std.specs.Prelude.{ℕ, zero, suc, ◌+◌, true, false, List, [], ◌∷◌, eqb}
 use Rattle.text.specs.Same.{same}
 use Rattle.switch_split.specs.Split as Split
 use Rattle.lowering.specs.SwitchSheet.{default_block, subject, body_of}
 use Rattle.lowering.specs.Arms.{End, taken, declined, idle}
-use Rattle.expr_count.specs.declared.tallies.Tally.{Tally}
 use Rattle.expr_count.specs.Count.{Rec}
 use Rattle.switch_count.specs.Arms.{end_of, has_try, arm_tally}
 use Rattle.switch_count.specs.Bodies.{bodies_tally, default_tally}

@@ -1,7 +1,7 @@
 -- What the passes of the count leave, put together: the total, and the places of the parts.
 use Prim.Native.Nat.{ℕ, zero, suc, ◌+◌, ◌-◌, ◌<◌, ◌≤◌, min}
 use mathlib.Core.Path.{◌≡◌, sym, ap, ◌∙◌}
-use mathlib.Core.Bool.{Bool, false, ◌||◌, and-eq-true_iff, or_assoc}
+use mathlib.Core.Bool.{Bool, false, and-eq-true_iff, or_assoc}
 use mathlib.Core.List.{List, ◌++◌}
 use native.Mathlib.Omega.{arith}
 use lib.Dec.{eqb}
@@ -41,7 +41,7 @@ use Rattle.switch_tables.specs.Planned.{TablesBy, PlacedBy, entries, want_in, wa
 use Rattle.switch_tables.proofs.ColumnLaws.{within-put}
 use Rattle.switch_places.specs.Counted.{Counted}
 use Rattle.switch_places.specs.Finished.{if_none, default_in, last_ones, Finished}
-use Rattle.switch_places.specs.Idle.{idles_from, Exits, second_at, second_tally, Second}
+use Rattle.switch_places.specs.Idle.{idles_from, Exits, second_at, Second}
 use Rattle.switch_places.specs.Laid.{Laid, BodiesLaid}
 use Rattle.switch_places.proofs.KeptLaws.{tables-kept, case_count, band-count}
 use Rattle.switch_places.proofs.SumLaws.{some_band, second-least, second-len, one-band, back-plus, second_back, cases-back}

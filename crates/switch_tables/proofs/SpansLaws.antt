@@ -15,7 +15,7 @@ use Rattle.switch_split.specs.Range.{Range, inside, blocks_where}
 use Rattle.switch_split.specs.Points.{cuts}
 use Rattle.switch_split.specs.Points.{Strict}
 use Rattle.switch_split.proofs.PointsLaws.{cuts-strict, cuts-have, from-point, to-point}
-use Rattle.switch_split.specs.Split.{point, between, covers, pieces}
+use Rattle.switch_split.specs.Split.{covers, pieces}
 use Rattle.switch_split.specs.Piece.{cut_at, atom_at}
 use Rattle.switch_split.proofs.PieceLaws.{at-even, at-odd, pieces-count}
 use Rattle.switch_tables.specs.Place.{place}

@@ -17,7 +17,7 @@ use Rattle.switch_tables.specs.Columns.{case_heads_at, case_number_at, spans_at,
 use Rattle.switch_tables.specs.Columns.{band_number_at}
 use Rattle.switch_tables.specs.Columns.{band_place_at, band_exit_at, wanted_at, case_place_at, case_exit_at, body_at, dispatch_at, default_at}
 use Rattle.switch_tables.specs.Columns.{end_at}
-use Rattle.switch_tables.specs.Columns.{fallback_at, cell, column}
+use Rattle.switch_tables.specs.Columns.{fallback_at, cell}
 use Rattle.switch_tables.specs.Numbers.{number_in}
 use Rattle.switch_tables.specs.Bands.{bands_in, entry_of}
 use Rattle.switch_tables.specs.Table.{GuardsBy, CutWords, ranges_read, head_keys, band_head_keys}

@@ -1,6 +1,6 @@
 -- Demand 3 computed on a row with an image: all its runs, and, for a Switch, runs on sample integers with sample answers against the
 -- source rule. The samples are the least integer, the Int cases, and the ends of the ranges with what lies next to them.
-use Rattle.std.specs.Prelude.{ℕ, zero, suc, ◌+◌, ◌-◌, ◌/◌, ◌%◌, ◌^◌, Bool, true, false, ◌&&◌, List, [], ◌∷◌, ◌++◌, eqb}
+use Rattle.std.specs.Prelude.{ℕ, ◌+◌, ◌-◌, ◌/◌, ◌%◌, ◌^◌, Bool, true, false, ◌&&◌, List, [], ◌∷◌, ◌++◌, eqb}
 use Rattle.words.specs.Count.{all_below}
 use Rattle.sheet.specs.Node.{kind, child}
 use Rattle.switch_split.specs.Range.{Range}
@@ -20,7 +20,7 @@ use Rattle.lowering.specs.Demand3.{marks_of}
 use Rattle.lowering.specs.Sweep.{all_runs_right}
 use Rattle.lowering.specs.Sweep as Sweep
 use Rattle.bytecode.specs.Effect as Effect
-use Rattle.test_agreement.specs.Agree.{Row, digits, agrees, all_agree}
+use Rattle.test_agreement.specs.Agree.{Row, digits, all_agree}
 
 unfoldable pub same_event : Event → Event → Bool
 same_event (tried j) (tried k) = eqb j k

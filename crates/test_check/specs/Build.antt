@@ -1,5 +1,5 @@
 -- Sheets built from trees, for the rows: a tree becomes nodes, and nodes, texts and locals become the sheet's bytes. Positions are 0.
-use Rattle.std.specs.Prelude.{ℕ, zero, suc, ◌+◌, ◌*◌, ◌-◌, ◌/◌, ◌%◌, List, [], ◌∷◌, ◌++◌, map, length, replicate}
+use Rattle.std.specs.Prelude.{ℕ, zero, suc, ◌+◌, ◌*◌, ◌-◌, ◌/◌, ◌%◌, List, [], ◌∷◌, ◌++◌, length, replicate}
 
 -- the words of a node
 abbrev pub NodeWords : Type 0

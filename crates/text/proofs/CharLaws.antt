@@ -1,16 +1,16 @@
 -- Laws of the character at an index of a string, in the shapes of a loop over its tail bytes.
-use Prim.Native.Nat.{ℕ, zero, suc, ◌+◌, ◌-◌, ◌≤◌, ◌<◌}
-use mathlib.Core.Path.{◌≡◌, refl, ap, sym, ◌∙◌, subst}
-use mathlib.Core.Bool.{Bool, true, false, ◌&&◌, false≢true}
-use mathlib.Core.List.{List, [], ◌∷◌}
+use Prim.Native.Nat.{ℕ, suc, ◌+◌, ◌-◌, ◌≤◌, ◌<◌}
+use mathlib.Core.Path.{◌≡◌, refl, sym, ◌∙◌}
+use mathlib.Core.Bool.{Bool, true, false, ◌&&◌}
+use mathlib.Core.List.{List, ◌∷◌}
 use native.Mathlib.Numerals.{add-one}
 use native.Mathlib.Omega.{arith}
 use lib.Dec.{leb}
 use lib.ListN.{length, get_or, drop, length-drop, drop_of_length-le}
-use lib.Seq.{drop-cons, drop-drop}
+use lib.Seq.{drop-cons}
 use borrow.Author.Tests.{le-leb, lt-leb}
 use Rattle.laws.proofs.Bool.{right-fails}
-use Rattle.text.specs.Utf8.{within, Row, row, row_of, utf8}
+use Rattle.text.specs.Utf8.{within, row_of}
 use Rattle.text.specs.Leads.{Leads}
 use Rattle.text.specs.Char.{tails_ok, or_zero, char_length}
 use Rattle.text.proofs.Utf8Laws.{tails-cons, tails-fit}

@@ -1,13 +1,13 @@
 -- Laws of reading a string from an index on, character by character.
 use Prim.Native.Nat.{ℕ, suc, ◌+◌, ◌≤◌, ◌<◌}
-use mathlib.Core.Path.{◌≡◌, refl, ap, sym, ◌∙◌}
+use mathlib.Core.Path.{◌≡◌, ap, sym, ◌∙◌}
 use mathlib.Core.Bool.{true, false}
-use mathlib.Core.List.{List, [], ◌∷◌}
+use mathlib.Core.List.{List, ◌∷◌}
 use native.Mathlib.Numerals.{add-one}
 use native.Mathlib.Omega.{arith}
 use lib.ListN.{length, get_or, drop, length-drop, drop_of_length-le}
 use lib.Seq.{drop-cons}
-use Rattle.text.specs.Utf8.{row_of, utf8_rest, utf8}
+use Rattle.text.specs.Utf8.{utf8_rest, utf8}
 use Rattle.text.proofs.RowLaws.{row-7F}
 use Rattle.text.specs.Char.{char_length}
 use Rattle.text.proofs.Utf8Laws.{utf8-stuck, char-fits}

@@ -1,7 +1,7 @@
 -- `same` is equality of byte strings.
 use Prim.Native.Nat.{ℕ, ◌<◌}
-use mathlib.Core.Path.{◌≡◌, refl, ap, ap₂, sym}
-use mathlib.Core.Bool.{true, false, ◌&&◌, true≢false, false≢true, and-eq-true_iff}
+use mathlib.Core.Path.{◌≡◌, refl, ap, ap₂}
+use mathlib.Core.Bool.{true, false, ◌&&◌, false≢true, and-eq-true_iff}
 use mathlib.Core.List.{List, [], ◌∷◌}
 use lib.Dec.{eqb}
 use lib.ListN.{length, get_or}

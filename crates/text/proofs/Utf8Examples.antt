@@ -1,7 +1,7 @@
 -- The examples of RFC 3629, section 7, and strings that its sections 3 and 10 rule out, as antt computes them.
 use Prim.Native.Nat.{ℕ}
 use mathlib.Core.Path.{◌≡◌, refl}
-use mathlib.Core.Bool.{Bool, true, false}
+use mathlib.Core.Bool.{true, false}
 use mathlib.Core.List.{List, [], ◌∷◌, map}
 use Rattle.text.specs.Utf8.{row_in, row_of, utf8_rest, utf8}
 

@@ -1,6 +1,6 @@
 -- What the contract of `lower` tells of its answer in 01's numbers, and demand 3 of the image that it leaves.
-use Prim.Native.Nat.{ℕ, ◌≤◌}
-use mathlib.Core.Path.{◌≡◌, refl, sym, ap, ◌∙◌, subst}
+use Prim.Native.Nat.{ℕ}
+use mathlib.Core.Path.{◌≡◌, refl, sym, ap, ◌∙◌}
 use mathlib.Core.List.{List}
 use native.Mathlib.Omega.{arith}
 use lib.ListN.{length, take, drop}
@@ -12,7 +12,7 @@ use Rattle.lowering.proofs.Demand3Holds as Holds
 use Rattle.to_image.specs.declared.Answer.{Answer}
 use Rattle.to_image.specs.declared.Answer.TheVariants.{Lowered, Refused}
 use Rattle.to_image.specs.Answer.{answer_number, words_of, answer, image_after, Answers}
-use Rattle.to_image.specs.Told.{outcome_number, outcome_words, Told, Statement}
+use Rattle.to_image.specs.Told.{outcome_number, outcome_words, Statement}
 
 number_of : (o : Outcome) → answer_number (answer o) ≡ outcome_number o
 unfolding answer

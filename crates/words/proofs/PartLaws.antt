@@ -4,7 +4,7 @@ use mathlib.Core.Path.{◌≡◌, ap, sym, ◌∙◌}
 use mathlib.Core.List.{List, []}
 use native.Mathlib.Omega.{arith}
 use lib.ListN.{length, take, drop, length-drop, drop_of_length-le}
-use lib.Seq.{take_all, take-nil, drop-length}
+use lib.Seq.{take_all, take-nil}
 
 -- a part that starts at the end or past it is empty
 part-past : (s : List ℕ) (at n : ℕ) → length s ≤ at → take n (drop at s) ≡ []

@@ -4,7 +4,7 @@ use mathlib.Core.Path.{◌≡◌, refl, ◌∙◌}
 use mathlib.Core.List.{List, [], ◌∷◌}
 use native.Mathlib.Omega.{arith}
 use native.Mathlib.Nat.{add-zero}
-use lib.ListN.{length, get_or, drop, length-drop, get_or-eq_default}
+use lib.ListN.{length, drop, length-drop, get_or-eq_default}
 use lib.Seq.{get_or-drop}
 use Rattle.words.specs.Word.{byte_of, from_bytes, front, word}
 

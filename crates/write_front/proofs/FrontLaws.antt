@@ -13,7 +13,7 @@ use Rattle.lowering.specs.Pools.{const_of, steps_words}
 use Rattle.lowering.specs.Image.{section, const_words, name_words, max_stack}
 use Rattle.expr_chains.specs.Steps.{chains_from, steps_from}
 use Rattle.expr_chains.specs.Kept.{step_count}
-use Rattle.expr_chains.proofs.KeptLaws.{chains-length, all-steps-length}
+use Rattle.expr_chains.proofs.KeptLaws.{all-steps-length}
 use Rattle.scratch_keys.specs.Keys.{name_of}
 use Rattle.expr_model.specs.Made.{Made}
 use Rattle.scratch.specs.declared.Layout.{Layout}

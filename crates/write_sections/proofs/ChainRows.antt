@@ -1,7 +1,6 @@
 -- Laws of the section of chains, and of how many steps they have.
-use Prim.Native.Nat.{ℕ, zero, suc, ◌+◌, ◌-◌, ◌*◌, ◌≤◌, ◌<◌}
-use mathlib.Core.Path.{◌≡◌, refl, sym, ap, subst, ◌∙◌}
-use mathlib.Core.Bool.{Bool, true, false}
+use Prim.Native.Nat.{ℕ, ◌+◌, ◌-◌, ◌*◌, ◌≤◌, ◌<◌}
+use mathlib.Core.Path.{◌≡◌, sym, ap, ◌∙◌}
 use mathlib.Core.List.{List, [], ◌∷◌, ◌++◌}
 use native.Mathlib.Omega.{arith}
 use lib.ListN.{length, take, drop, get_or, take-append-drop}
@@ -16,7 +15,6 @@ use Rattle.bytecode.specs.declared.Chain.{Chain}
 use Rattle.bytecode.specs.Chain.{chain_words}
 use Rattle.lowering.specs.Limits.{chain_width}
 use Rattle.lowering.specs.Kinds.{variable_kind}
-use Rattle.lowering.specs.Flatten.{goes_on, rest_of, links}
 use Rattle.lowering.specs.Pools.{Name, name}
 use Rattle.lowering.specs.Image.{section}
 use Rattle.expr_chains.proofs.LinkLaws.{links-most}

@@ -20,9 +20,9 @@ sheet c =
     c.args.sheet.now
 
 given : (c : After-limits-table)
-    → 
+    →
     4 + 6 * c.node_count-total.result ≤ length (sheet c) / 4
-    → 
+    →
     Sizes (sheet c) c.node_count-total.result c.field_a-blocks.result c.field_b-cases.result c.limits-table.result
 given c room =
     let t = c.text_count in

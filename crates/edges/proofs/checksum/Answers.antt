@@ -11,13 +11,12 @@ pub loop-i-init : goal.loop-i-init
 loop-i-init c = (omega arith, sum-start c.args.words.now)
 
 pub loop-i-preserved : goal.loop-i-preserved
-loop-i-preserved c =
-    (
-      omega arith,
-      ap (λ z. mixed_all z (drop (c.loop-i.i + 1) c.args.words.now)) c.mixed-sum.ensures
-          ∙ sum-next c.args.words.now c.loop-i.i c.loop-i.sum (mixed_all 0 c.args.words.now)
-          c.loop-i-test.true c.loop-i.invariant.1,
-    )
+loop-i-preserved c = (
+  omega arith,
+  ap (λ z. mixed_all z (drop (c.loop-i.i + 1) c.args.words.now)) c.mixed-sum.ensures
+      ∙ sum-next c.args.words.now c.loop-i.i c.loop-i.sum (mixed_all 0 c.args.words.now)
+      c.loop-i-test.true c.loop-i.invariant.1,
+)
 
 pub returns : goal.returns
 returns c =

@@ -150,31 +150,43 @@ walk-returns-else-goes_on t c =
     let a = c.args in
     let test = c.loop-left-test.true in
     let told = c.in-Lowers.is in
-    let on = c.goes_on.ensures in record { sum_value = walk-stops a.sheet.now (counts.tally_by (answer a.told.now a.sheet.now) a.levels a.sheet.now) a.j l.sum
+    let on = c.goes_on.ensures in record {
+      sum_value = walk-stops a.sheet.now (counts.tally_by (answer a.told.now a.sheet.now) a.levels a.sheet.now) a.j l.sum
           l.left l.c
           l.invariant.0 test c.link_of-l.ensures told
-          c.siblings.ensures c.plus-sum.ensures on c.if-goes_on.false; far_value = reach-stops a.sheet.now a.j 2 l.left l.c l.invariant.1 test c.link_of-l.ensures (lowers-two told) refl on
-          c.if-goes_on.false }
+          c.siblings.ensures c.plus-sum.ensures on c.if-goes_on.false;
+      far_value = reach-stops a.sheet.now a.j 2 l.left l.c l.invariant.1 test c.link_of-l.ensures (lowers-two told) refl on
+          c.if-goes_on.false;
+    }
 
 pub walk-returns-in-Fails : goal.walk-returns-in-Fails
 walk-returns-in-Fails t c =
     let l = c.loop-left in
-    let a = c.args in record { sum_value = walk-failed a.sheet.now (counts.tally_by (answer a.told.now a.sheet.now) a.levels a.sheet.now) a.j l.sum
+    let a = c.args in record {
+      sum_value = walk-failed a.sheet.now (counts.tally_by (answer a.told.now a.sheet.now) a.levels a.sheet.now) a.j l.sum
           l.left
           l.c l.invariant.0 c.loop-left-test.true
-          c.link_of-l.ensures c.in-Fails.is; far_value = c.reach-far.ensures }
+          c.link_of-l.ensures c.in-Fails.is;
+      far_value = c.reach-far.ensures;
+    }
 
 pub walk-returns-in-Nowhere : goal.walk-returns-in-Nowhere
 walk-returns-in-Nowhere t c =
     let l = c.loop-left in
     let a = c.args in
-    let test = c.loop-left-test.true in record { sum_value = walk-lost a.sheet.now (counts.tally_by (answer a.told.now a.sheet.now) a.levels a.sheet.now) a.j l.sum
+    let test = c.loop-left-test.true in record {
+      sum_value = walk-lost a.sheet.now (counts.tally_by (answer a.told.now a.sheet.now) a.levels a.sheet.now) a.j l.sum
           l.left l.c
-          l.invariant.0 test c.link_of-l.ensures c.in-Nowhere.is; far_value = reach-lost a.sheet.now a.j 2 l.left l.c l.invariant.1 test c.link_of-l.ensures c.in-Nowhere.is }
+          l.invariant.0 test c.link_of-l.ensures c.in-Nowhere.is;
+      far_value = reach-lost a.sheet.now a.j 2 l.left l.c l.invariant.1 test c.link_of-l.ensures c.in-Nowhere.is;
+    }
 
 pub walk-returns : goal.walk-returns
 walk-returns t c =
     let l = c.loop-left in
-    let a = c.args in record { sum_value = walk_ends a.sheet.now (counts.tally_by (answer a.told.now a.sheet.now) a.levels a.sheet.now) a.j l.sum
+    let a = c.args in record {
+      sum_value = walk_ends a.sheet.now (counts.tally_by (answer a.told.now a.sheet.now) a.levels a.sheet.now) a.j l.sum
           l.left l.c
-          l.invariant.0 c.loop-left-test.false; far_value = reach-ends a.sheet.now a.j 2 l.left l.c l.invariant.1 c.loop-left-test.false }
+          l.invariant.0 c.loop-left-test.false;
+      far_value = reach-ends a.sheet.now a.j 2 l.left l.c l.invariant.1 c.loop-left-test.false;
+    }

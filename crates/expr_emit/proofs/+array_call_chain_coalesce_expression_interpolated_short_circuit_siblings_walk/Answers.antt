@@ -244,15 +244,14 @@ siblings-expression-requires t c =
     (one-falls _ c.decreases, tt)
 
 pub siblings-loop-i-preserved : goal.siblings-loop-i-preserved
-siblings-loop-i-preserved t c =
-    (
-      omega arith,
-      c.after_one.auto.scratch ∙ c.expression.auto.scratch ∙ c.loop-i.invariant.1,
-      skip_step _ _ _ c.loop-i.invariant.2 c.next-j.ensures,
-      λ l table C R. rows_more _ _ _ _ _ _ _ c.loop-i-test.true c.loop-i.invariant.2 c.position.ensures R
-          (c.loop-i.invariant.3 l table C R) (λ u. c.expression.ensures l table C u)
-          (c.after_one.ensures l table _),
-    )
+siblings-loop-i-preserved t c = (
+  omega arith,
+  c.after_one.auto.scratch ∙ c.expression.auto.scratch ∙ c.loop-i.invariant.1,
+  skip_step _ _ _ c.loop-i.invariant.2 c.next-j.ensures,
+  λ l table C R. rows_more _ _ _ _ _ _ _ c.loop-i-test.true c.loop-i.invariant.2 c.position.ensures R
+      (c.loop-i.invariant.3 l table C R) (λ u. c.expression.ensures l table C u)
+      (c.after_one.ensures l table _),
+)
 
 pub siblings-returns : goal.siblings-returns
 siblings-returns t c =

@@ -8,11 +8,10 @@ pub loop-i-init : goal.loop-i-init
 loop-i-init c = (omega arith, most-none _ _ c.mark_of-x.ensures)
 
 pub loop-i-preserved : goal.loop-i-preserved
-loop-i-preserved c =
-    (
-      omega (arith, c.loop-i-test.true),
-      most-more _ _ _ _ _ c.loop-i.invariant.1 c.mark_of.ensures c.larger-x.ensures,
-    )
+loop-i-preserved c = (
+  omega (arith, c.loop-i-test.true),
+  most-more _ _ _ _ _ c.loop-i.invariant.1 c.mark_of.ensures c.larger-x.ensures,
+)
 
 pub returns : goal.returns
 returns c = most-done _ _ _ _ c.loop-i.invariant.0 c.loop-i-test.false c.loop-i.invariant.1

@@ -8,8 +8,11 @@ use Rattle.image_depths.proofs.on_top.Goals as goal
 
 pub returns-then-which-eq5 : goal.returns-then-which-eq5
 returns-then-which-eq5 c =
-    let a = c.args in record { value = λ P. c.chain_takes.ensures.value P
-          ∙ counted-chain a.which a.a a.b (chain_takes a.image.now a.a) c.if-which-eq5.true; small = c.chain_takes.ensures.small }
+    let a = c.args in record {
+      value = λ P. c.chain_takes.ensures.value P
+          ∙ counted-chain a.which a.a a.b (chain_takes a.image.now a.a) c.if-which-eq5.true;
+      small = c.chain_takes.ensures.small;
+    }
 
 pub returns : goal.returns
 returns c =

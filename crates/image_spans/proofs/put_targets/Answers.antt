@@ -17,8 +17,7 @@ loop-j-init c = (omega arith, refl, at_first _ _ _ c.targets_at-from.ensures.at 
 
 pub loop-j-preserved : goal.loop-j-preserved
 loop-j-preserved c =
-    let loop = c.loop-j in
-    (
+    let loop = c.loop-j in (
       omega arith,
       simp length-set loop.invariant.1,
       at_next _ c.apart-next.ensures.value c.apart-next.ensures.small loop.invariant.2,

@@ -11,19 +11,17 @@ use Rattle.replay_records.proofs.LeftLaws.{same_more, same-fails, same-done}
 use Rattle.replay_lower.proofs.image_same.Goals as goal
 
 pub loop-i-init : goal.loop-i-init
-loop-i-init c =
-    (
-      omega arith,
-      all_none (λ i. eqb (get_or c.args.image.now i 0) (image_word c.args.wanted.now c.args.count i)),
-    )
+loop-i-init c = (
+  omega arith,
+  all_none (λ i. eqb (get_or c.args.image.now i 0) (image_word c.args.wanted.now c.args.count i)),
+)
 
 pub loop-i-preserved : goal.loop-i-preserved
-loop-i-preserved c =
-    (
-      omega arith,
-      same_more (λ i. get_or c.args.image.now i 0) (image_word c.args.wanted.now c.args.count)
-          c.loop-i.i c.loop-i.invariant.1 (c.if-image-i.true ∙ c.image_word.ensures),
-    )
+loop-i-preserved c = (
+  omega arith,
+  same_more (λ i. get_or c.args.image.now i 0) (image_word c.args.wanted.now c.args.count)
+      c.loop-i.i c.loop-i.invariant.1 (c.if-image-i.true ∙ c.image_word.ensures),
+)
 
 pub returns-else-image-i : goal.returns-else-image-i
 returns-else-image-i c =

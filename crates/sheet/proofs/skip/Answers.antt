@@ -8,11 +8,10 @@ pub loop-i-init : goal.loop-i-init
 loop-i-init c = (omega arith, cc (sub-zero c.args.m))
 
 pub loop-i-preserved : goal.loop-i-preserved
-loop-i-preserved c =
-    (
-      omega arith,
-      cc (skip-more c.args.sheet.now c.args.m c.loop-i.i c.loop-i.at c.loop-i-test.true),
-    )
+loop-i-preserved c = (
+  omega arith,
+  cc (skip-more c.args.sheet.now c.args.m c.loop-i.i c.loop-i.at c.loop-i-test.true),
+)
 
 pub returns : goal.returns
 returns c =

@@ -12,7 +12,6 @@ pub returns-then-same_piece : goal.returns-then-same_piece
 returns-then-same_piece c =
     let a = c.args in
     let made = c.list_of_piece-n in
-
     let both = looks-found _ a.flat.now _ _ _ (piece_in a.flat.now a.p) _ _ _ c.loop-q.invariant
     c.loop-q-test.true _
     c.get-then-get-h.ensures _

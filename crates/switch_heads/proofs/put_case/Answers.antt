@@ -9,7 +9,6 @@ returns-then-q-heads c =
     let s = c.args in
     let made = c.list_of_case-n.ensures in
     let listed = made.listed (omega arith) in
-
     let both = put-old s.sheet.now s.flat.now s.heads s.c _ _ _ _ (c.case_number-q.ensures.upper_bound, c.case_number-q.ensures.fact) (omega arith)
     listed (c.hash-h.ensures made.upper_bound (omega arith)) c.if-q-heads.true in
     record { upper_bound = both.0; fact = both.1.0; flat_unchanged = both.1.1.0; fact_2 = both.1.1.1 }
@@ -19,7 +18,6 @@ returns c =
     let s = c.args in
     let made = c.list_of_case-n.ensures in
     let listed = made.listed (omega arith) in
-
     let both = put-new s.sheet.now s.flat.now s.heads s.c _ _ _ _ (c.case_number-q.ensures.upper_bound, c.case_number-q.ensures.fact)
     (omega arith) listed
     (c.hash-h.ensures made.upper_bound (omega arith)) _ _ c.if-q-heads.false c.put.ensures

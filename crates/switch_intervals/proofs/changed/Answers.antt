@@ -9,7 +9,6 @@ returns-then-band-i c =
     let known =
     looks _ _ _ _ _ _ _ _ _ (search rules) (search rules)
     (c.list_of_piece-m.ensures.upper_bound, c.list_of_piece-m.ensures.listed) c.hash-h.ensures c.goes_on.ensures in
-
     let both = changed-stayed _ _ _ _ _ _ _ _ known c.if-band-i.true in
     record { bands_bound = both.0; band_bound = both.1.0; fact = both.1.1 }
 
@@ -18,7 +17,6 @@ returns-then-m-eq0 c =
     let known =
     looks _ _ _ _ _ _ _ _ _ (search rules) (search rules)
     (c.list_of_piece-m.ensures.upper_bound, c.list_of_piece-m.ensures.listed) c.hash-h.ensures c.goes_on.ensures in
-
     let both = changed-ended _ _ _ _ _ _ _ _ known _ _ c.if-band-i.false (c.closed-k.ensures.value, c.closed-k.ensures.flat_after) c.if-m-eq0.true in
     record { bands_bound = both.0; band_bound = both.1.0; fact = both.1.1 }
 
@@ -31,7 +29,6 @@ returns c =
     let known =
     looks _ _ _ _ _ _ _ _ _ (search rules) (search rules)
     (c.list_of_piece-m.ensures.upper_bound, c.list_of_piece-m.ensures.listed) c.hash-h.ensures c.goes_on.ensures in
-
     let both = changed-opened _ _ _ _ _ _ _ _ known _ _ c.if-band-i.false (c.closed-k.ensures.value, c.closed-k.ensures.flat_after) _
     c.if-m-eq0.false c.put.ensures in
     record { bands_bound = both.0; band_bound = both.1.0; fact = both.1.1 }

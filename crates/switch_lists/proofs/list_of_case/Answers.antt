@@ -26,7 +26,6 @@ shape_of-out c = c.loop-i.invariant.size
 pub returns : goal.returns
 returns c =
     let a = c.args in
-
     let both = reading-end _ _ _ _ _ _ _ _ c.loop-i.invariant (count a.sheet.now a.c - 1) (case_blocks a.sheet.now a.c)
     c.loop-i-test.false c.ref_count-m.ensures
     (blocks_from a.sheet.now a.c c.child.ensures c.next-j.ensures) in

@@ -50,8 +50,11 @@ pub chains-requires : goal.chains-requires
 chains-requires c =
     let a = c.args in
     let p = c.chains_at-b in
-    let within = c.beyond.ensures.within c.if-beyond.false in record { out_len = rows-length a.scratch.now a.image.now a.at p.result 6 a.state.chains _
-          (c.beyond-2.ensures.within c.if-beyond-2.false) within refl; js_bound = few-steps a.sheet.now a.scratch.now p.result a.state.chains within c.if-k-gt-MAX_CHAINS.false }
+    let within = c.beyond.ensures.within c.if-beyond.false in record {
+      out_len = rows-length a.scratch.now a.image.now a.at p.result 6 a.state.chains _
+          (c.beyond-2.ensures.within c.if-beyond-2.false) within refl;
+      js_bound = few-steps a.sheet.now a.scratch.now p.result a.state.chains within c.if-k-gt-MAX_CHAINS.false;
+    }
 
 pub returns : goal.returns
 returns c =

@@ -4,8 +4,7 @@ use Rattle.expr_emit.proofs.names.add_name.Goals as goal
 
 pub returns : goal.returns
 returns c =
-    λ l.
-    (
+    λ l. (
       name-does _ _ _ c.key_of.ensures (c.add_name.ensures l),
       name-place _ _ _ c.key_of.ensures (c.add_name.ensures l),
     )

@@ -7,14 +7,13 @@ pub loop-i-init : goal.loop-i-init
 loop-i-init c = (omega arith, refl, λ l table C G N. arm-begins _ _ _ _)
 
 pub loop-i-preserved-then-g-eq0 : goal.loop-i-preserved-then-g-eq0
-loop-i-preserved-then-g-eq0 c =
-    (
-      omega arith,
-      c.loop-i.invariant.1,
-      λ l table C G N.
-          arm-pass (c.loop-i.invariant.2 l table C G N) _ _ C G N c.loop-i-test.true
-          c.get-k.ensures c.get-g.ensures c.if-g-eq0.true,
-    )
+loop-i-preserved-then-g-eq0 c = (
+  omega arith,
+  c.loop-i.invariant.1,
+  λ l table C G N.
+      arm-pass (c.loop-i.invariant.2 l table C G N) _ _ C G N c.loop-i-test.true
+      c.get-k.ensures c.get-g.ensures c.if-g-eq0.true,
+)
 
 pub shape_of-scratch-then-g-eq1 : goal.shape_of-scratch-then-g-eq1
 shape_of-scratch-then-g-eq1 c =
@@ -28,16 +27,15 @@ returns-then-g-eq1 c =
     c.get-to.ensures c.if-g-eq1.true (c.end_arm.ensures l table _)
 
 pub loop-i-preserved : goal.loop-i-preserved
-loop-i-preserved c =
-    (
-      omega arith,
-      c.try_one.auto.scratch ∙ c.loop-i.invariant.1,
-      λ l table C G N.
-          arm-on (c.loop-i.invariant.2 l table C G N) _ _ C G N c.loop-i-test.true
-          c.get-k.ensures c.get-g.ensures _
-          c.get-to.ensures _ c.if-g-eq0.false c.if-g-eq1.false c.get.ensures
-          (c.try_one.ensures l table),
-    )
+loop-i-preserved c = (
+  omega arith,
+  c.try_one.auto.scratch ∙ c.loop-i.invariant.1,
+  λ l table C G N.
+      arm-on (c.loop-i.invariant.2 l table C G N) _ _ C G N c.loop-i-test.true
+      c.get-k.ensures c.get-g.ensures _
+      c.get-to.ensures _ c.if-g-eq0.false c.if-g-eq1.false c.get.ensures
+      (c.try_one.ensures l table),
+)
 
 pub shape_of-scratch : goal.shape_of-scratch
 shape_of-scratch c =

@@ -8,17 +8,16 @@ pub loop-k-init : goal.loop-k-init
 loop-k-init c = (omega arith, refl, λ l table C T. bodies-begin _ _ _)
 
 pub loop-k-preserved : goal.loop-k-preserved
-loop-k-preserved c =
-    (
-      omega arith,
-      c.body.auto.scratch ∙ c.loop-k.invariant.1,
-      λ l table C T.
-          bodies-on (c.loop-k.invariant.2 l table C T) _ c.last_wanted-last.ensures
-          c.loop-k-test.true
-          (c.body.ensures l table C T.guards
-          (capped-below _ _ _ _ c.capped-n.ensures c.field_a.ensures
-          c.loop-k-test.true)),
-    )
+loop-k-preserved c = (
+  omega arith,
+  c.body.auto.scratch ∙ c.loop-k.invariant.1,
+  λ l table C T.
+      bodies-on (c.loop-k.invariant.2 l table C T) _ c.last_wanted-last.ensures
+      c.loop-k-test.true
+      (c.body.ensures l table C T.guards
+      (capped-below _ _ _ _ c.capped-n.ensures c.field_a.ensures
+      c.loop-k-test.true)),
+)
 
 pub shape_of-scratch : goal.shape_of-scratch
 shape_of-scratch c = c.loop-k.invariant.1
