@@ -10,7 +10,6 @@ use Rattle.bytecode.specs.declared.Step.{Step}
 use Rattle.lowering.specs.Code.{Code}
 use Rattle.lowering.specs.Pools.{Pools}
 use Rattle.lowering.specs.Out.{Rec}
-use Rattle.lowering.specs.Operands.{operands}
 use Rattle.lowering.specs.Flatten as flatten
 use Rattle.lowering.specs.Flatten.{operand_of, StepRule, index, property, method, step_rule, has_step, flattens}
 use Rattle.lowering.specs.Steps.{Stepped, stepped, failed, index_step, property_step, is_lowerable_method, method_after, method_step, step_by}

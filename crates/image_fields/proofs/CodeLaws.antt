@@ -81,9 +81,9 @@ module _ (s w : List ℕ) (b : ℕ) where
   unfolding fits
   below_row k n o = only_row (below n) n o (λ a h. refl)
 
-  upTo-row : (k n : ℕ) → Only (up_to n) (suc n) k → Row k
+  up_to-row : (k n : ℕ) → Only (up_to n) (suc n) k → Row k
   unfolding fits
-  upTo-row k n o = only_row (up_to n) (suc n) o (λ a h. leb-suc-suc a n)
+  up_to-row k n o = only_row (up_to n) (suc n) o (λ a h. leb-suc-suc a n)
 
   -- Call, CallRef and CallFnPtr
   call-row : Row 12
@@ -140,7 +140,7 @@ module _ (s w : List ℕ) (b : ℕ) where
       -- Const, Unit, Bool, LoadLocal, LoadNamed, LoadThis
       below_row 1 (constants w) (refl, λ a c. refl)
       ▸ unused-row 2 (refl, λ a c. refl)
-      ▸ upTo-row 3 1 (refl, λ a c. refl)
+      ▸ up_to-row 3 1 (refl, λ a c. refl)
       ▸ below_row 4 (local_count s) (refl, λ a c. refl)
       ▸ below_row 5 (names w) (refl, λ a c. refl)
       ▸ unused-row 6 (refl, λ a c. refl)
@@ -153,7 +153,7 @@ module _ (s w : List ℕ) (b : ℕ) where
       -- Call, CallRef, Rotate, Switch
       ▸ call-row
       ▸ ref-row
-      ▸ upTo-row 14 max_args (refl, λ a c. refl)
+      ▸ up_to-row 14 max_args (refl, λ a c. refl)
       ▸ below_row 15 (tables w) (refl, λ a c. refl)
       -- MakeFnPtr, CallFnPtr
       ▸ unused-row 16 (refl, λ a c. refl)
@@ -163,8 +163,8 @@ module _ (s w : List ℕ) (b : ℕ) where
       ▸ unused-row 19 (refl, λ a c. refl)
       ▸ unused-row 20 (refl, λ a c. refl)
       -- MakeArray, CheckSize, Chain, EvalAst
-      ▸ upTo-row 21 max_elements (refl, λ a c. refl)
-      ▸ upTo-row 22 max_elements (refl, λ a c. refl)
+      ▸ up_to-row 21 max_elements (refl, λ a c. refl)
+      ▸ up_to-row 22 max_elements (refl, λ a c. refl)
       ▸ below_row 23 (chains w) (refl, λ a c. refl)
       ▸ below_row 24 (residuals w) (refl, λ a c. refl)
       ▸ end

@@ -129,10 +129,10 @@ module _ (s : List ℕ) (T : ℕ) (rec : Rec) (L : GivesAll s T rec) where
         codes = (code-more s T (emits gap o.pools) q.pools t.more o.code g.code, t.codes);
       }
 
-  pub shortCircuit-gives : (stop j b d : ℕ) (p : Pools) → stop ≤ 1 → Row s (count s j) (child j) → PoolsOk s p
+  pub short_circuit-gives : (stop j b d : ℕ) (p : Pools) → stop ≤ 1 → Row s (count s j) (child j) → PoolsOk s p
       → GivesOut s T p (short_circuit stop s rec j b d p)
   unfolding short_circuit decision
-  shortCircuit-gives stop j b d p z r G =
+  short_circuit-gives stop j b d p z r G =
       let q = fragments s rec 1 (count s j) (child j) b d p in
       let t = fragments-give 1 (count s j) (child j) b d p r G in
       let e = b + extent 1 q.parts in

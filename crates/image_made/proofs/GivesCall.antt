@@ -91,9 +91,9 @@ module _ (s : List ℕ) (j : ℕ) where
   unfolding Call.is_fn_ptr
   ptr-count h = eqb-true (count s j) 1 ((and-eq-true_iff (is_fn (Call.callee s j)) (eqb (count s j) 1)).0 h).1
 
-  ptrCall-count : Call.is_fn_ptr_call s j ≡ true → count s j ≤ max_args + 1
+  ptr_call-count : Call.is_fn_ptr_call s j ≡ true → count s j ≤ max_args + 1
   unfolding Call.is_fn_ptr_call
-  ptrCall-count h =
+  ptr_call-count h =
       let both = (and-eq-true_iff (is_call (Call.callee s j) && leb 1 (count s j)) (leb (count s j) (max_args + 1))).0 h in
       leb-true (count s j) (max_args + 1) both.1
 
@@ -105,7 +105,7 @@ module _ (s : List ℕ) (j : ℕ) where
       by : (a c l e : Truth.Bool) → Call.is_fn_ptr s j ≡ a → Call.is_fn_ptr_call s j ≡ c → Call.is_lowerable_call s j ≡ l
           → is_eval (Call.callee s j) ≡ e → RuleOk (Call.call_rule s j)
       by true c l e g h k m = rw (g, Call.call_rule) (ptr-count g)
-      by false true l e g h k m = rw (g, h, Call.call_rule) (ptrCall-count h)
+      by false true l e g h k m = rw (g, h, Call.call_rule) (ptr_call-count h)
       by false false true e g h k m = rw (g, h, k, Call.call_rule) (lowerable-count s j k)
       by false false false true g h k m = rw (g, h, k, m, Call.call_rule) tt
       by false false false false g h k m = rw (g, h, k, m, Call.call_rule) tt
@@ -151,10 +151,10 @@ module _ (s : List ℕ) (j : ℕ) where
 
 module _ (s : List ℕ) (T : ℕ) (rec : Rec) (L : GivesAll s T rec) (j : ℕ) (F : CallFacts s j) (few : count s j < 256) where
   -- the name, then the call, behind code that is right
-  callRef-gives : (r : Receiver) (d : ℕ) (p : Pools) (o : Out) → 1 ≤ count s j → ReceiverOk (counts_for s T o.pools) r → GivesOut s T p o
+  call_ref-gives : (r : Receiver) (d : ℕ) (p : Pools) (o : Out) → 1 ≤ count s j → ReceiverOk (counts_for s T o.pools) r → GivesOut s T p o
       → GivesOut s T p (Call.call_ref s j r d o)
   unfolding Call.call_ref
-  callRef-gives r d p o a h g =
+  call_ref-gives r d p o a h g =
       let n = name (field_a s j) 0 in
       let q = push_name s n o.pools in
       let pushed = name-pushed s T o.pools g.good n (F.named, omega arith) in
@@ -163,10 +163,10 @@ module _ (s : List ℕ) (T : ℕ) (rec : Rec) (L : GivesAll s T rec) (j : ℕ) (
       (gives-behind g pushed)
       (there, a, few, receiver-more s T o.pools q pushed.more r h)
 
-  callAs-gives : (op capture d : ℕ) (p : Pools) (o : Out) → capture ≤ 1 → op ≤ length o.pools.tokens → GivesOut s T p o
+  call_as-gives : (op capture d : ℕ) (p : Pools) (o : Out) → capture ≤ 1 → op ≤ length o.pools.tokens → GivesOut s T p o
       → GivesOut s T p (Call.call_as s j op capture d o)
   unfolding Call.call_as
-  callAs-gives op capture d p o k h g =
+  call_as-gives op capture d p o k h g =
       let n = name (field_a s j) capture in
       let i = name_at s n o.pools in
       let pushed = name-pushed s T o.pools g.good n (F.named, k) in
@@ -180,25 +180,25 @@ module _ (s : List ℕ) (T : ℕ) (rec : Rec) (L : GivesAll s T rec) (j : ℕ) (
   others-give b d p G = operands-give s T rec L (count s j - 1) (next s (child j)) b d p (row-others s (count s j) (child j) F.args) G
 
   -- a receiver in a local, by this, by name
-  callLocal-gives : (slot b d : ℕ) (p : Pools) → slot < local_count s → 1 ≤ count s j → PoolsOk s p
+  call_local-gives : (slot b d : ℕ) (p : Pools) → slot < local_count s → 1 ≤ count s j → PoolsOk s p
       → GivesOut s T p (Call.call_local s rec slot j b d p)
   unfolding Call.call_local
-  callLocal-gives slot b d p h a G =
-      callRef-gives (Receivers.Local slot) (d + (count s j - 1)) p (Call.other_args s rec j b d p) a h (others-give b d p G)
+  call_local-gives slot b d p h a G =
+      call_ref-gives (Receivers.Local slot) (d + (count s j - 1)) p (Call.other_args s rec j b d p) a h (others-give b d p G)
 
-  callThis-gives : (b d : ℕ) (p : Pools) → 1 ≤ count s j → PoolsOk s p → GivesOut s T p (Call.call_this s rec j b d p)
+  call_this-gives : (b d : ℕ) (p : Pools) → 1 ≤ count s j → PoolsOk s p → GivesOut s T p (Call.call_this s rec j b d p)
   unfolding Call.call_this
-  callThis-gives b d p a G =
+  call_this-gives b d p a G =
       let load = ins Ops.LoadThis d (position s (child j)) in
       let h = gives-ins {T = T} load G tt in
       let o = Call.other_args s rec j (b + 1) (suc d) (emits 1 p) in
-      callRef-gives Receivers.This (d + count s j) p (out (load ∷ o.code) o.pools) a tt
+      call_ref-gives Receivers.This (d + count s j) p (out (load ∷ o.code) o.pools) a tt
       (gives-seq h (others-give (b + 1) (suc d) (emits 1 p) h.good))
 
-  callNamed-gives : (b d : ℕ) (p : Pools) → field_a s (child j) < text_count s → 1 ≤ count s j → PoolsOk s p
+  call_named-gives : (b d : ℕ) (p : Pools) → field_a s (child j) < text_count s → 1 ≤ count s j → PoolsOk s p
       → GivesOut s T p (Call.call_named s rec j b d p)
   unfolding Call.call_named and_then
-  callNamed-gives b d p h a G =
+  call_named-gives b d p h a G =
       let v = name (field_a s (child j)) 0 in
       let i = name_at s v p in
       let others = count s j - 1 in
@@ -210,23 +210,23 @@ module _ (s : List ℕ) (T : ℕ) (rec : Rec) (L : GivesAll s T rec) (j : ℕ) (
       let low : others ≤ max_args = omega arith in
       let last = ins (Ops.LoadNamed i) (d + others) (position s (child j)) ∷ Call.rotate others (d + count s j) in
       let rest = gives-code {T = T} {c' = last} (gives_none g.good) (λ z. (there, rotate-ok s T q others (d + count s j) low)) in
-      callRef-gives (Receivers.Named i) (d + count s j) p (and_then o last) a (named-emits i q (length last) there)
+      call_ref-gives (Receivers.Named i) (d + count s j) p (and_then o last) a (named-emits i q (length last) there)
       (gives-emits (length last) (gives-seq pushed (gives-seq g rest)))
 
   -- a call by token, where there is one
-  callToken-gives : (d : ℕ) (p : Pools) (o : Out) → (field_c s j ≡ 0 → ⊥) → GivesOut s T p o → GivesOut s T p (Call.call_token s j d o)
+  call_token-gives : (d : ℕ) (p : Pools) (o : Out) → (field_c s j ≡ 0 → ⊥) → GivesOut s T p o → GivesOut s T p (Call.call_token s j d o)
   unfolding Call.call_token
-  callToken-gives d p o z g =
+  call_token-gives d p o z g =
       let t = field_c s j in
       let low : 1 ≤ field_c s j = omega (arith, z) in
       let pushed = token-pushed s T o.pools g.good t (low, F.operator) in
       let there = token-there s T o.pools g.good t (low, F.operator) in
-      callAs-gives (suc (token_at t o.pools)) 0 d p (out o.code (push_token t o.pools)) (omega arith) there (gives-behind g pushed)
+      call_as-gives (suc (token_at t o.pools)) 0 d p (out o.code (push_token t o.pools)) (omega arith) there (gives-behind g pushed)
 
   -- all arguments as values
-  callValues-gives : (b d : ℕ) (p : Pools) → PoolsOk s p → GivesOut s T p (Call.call_values s rec j b d p)
+  call_values-gives : (b d : ℕ) (p : Pools) → PoolsOk s p → GivesOut s T p (Call.call_values s rec j b d p)
   unfolding Call.call_values Call.stores_token
-  callValues-gives b d p G =
+  call_values-gives b d p G =
       let g = operands-give s T rec L (count s j) (child j) b d p F.args G in
       by (operands s rec (count s j) (child j) b d p) refl g (Call.stores_token s j) refl
     where
@@ -234,38 +234,38 @@ module _ (s : List ℕ) (T : ℕ) (rec : Rec) (L : GivesAll s T rec) (j : ℕ) (
           → GivesOut s T p (Call.call_values s rec j b d p)
       by o q g true e =
           let z = not-true (eqb (field_c s j) 0) ((and-eq-true_iff (not (eqb (field_c s j) 0)) _).0 e).0 in
-          rw (e, Call.call_values, q) (callToken-gives d p o (eqb-false (field_c s j) 0 z) g)
-      by o q g false e = rw (e, Call.call_values, q) (callAs-gives 0 (field_b s j) d p o F.capture (omega arith) g)
+          rw (e, Call.call_values, q) (call_token-gives d p o (eqb-false (field_c s j) 0 z) g)
+      by o q g false e = rw (e, Call.call_values, q) (call_as-gives 0 (field_b s j) d p o F.capture (omega arith) g)
 
   -- by the first argument
-  lowerCall-gives : (f : First) (b d : ℕ) (p : Pools) → FirstOk s j f → PoolsOk s p → GivesOut s T p (Call.lower_call_by f s rec j b d p)
+  lower_call-gives : (f : First) (b d : ℕ) (p : Pools) → FirstOk s j f → PoolsOk s p → GivesOut s T p (Call.lower_call_by f s rec j b d p)
   unfolding Call.lower_call_by
-  lowerCall-gives (First.local slot) b d p h G = callLocal-gives slot b d p h.1 h.0 G
-  lowerCall-gives First.named b d p h G = callNamed-gives b d p h.1 h.0 G
-  lowerCall-gives First.this b d p h G = callThis-gives b d p h G
-  lowerCall-gives First.value b d p h G = callValues-gives b d p G
+  lower_call-gives (First.local slot) b d p h G = call_local-gives slot b d p h.1 h.0 G
+  lower_call-gives First.named b d p h G = call_named-gives b d p h.1 h.0 G
+  lower_call-gives First.this b d p h G = call_this-gives b d p h G
+  lower_call-gives First.value b d p h G = call_values-gives b d p G
 
 -- ---- any call
 
 module _ (s : List ℕ) (T : ℕ) (rec : Rec) (L : GivesAll s T rec) (j : ℕ) (F : CallFacts s j) where
   -- by the rule
-  fnCallBy-gives : (r : CallRule) (b d : ℕ) (p : Pools) → RuleOk s j r → PoolsOk s p → GivesOut s T p (Call.fn_call_by r s rec j b d p)
+  fn_call_by-gives : (r : CallRule) (b d : ℕ) (p : Pools) → RuleOk s j r → PoolsOk s p → GivesOut s T p (Call.fn_call_by r s rec j b d p)
   unfolding Call.fn_call_by Call.make_fn_ptr Call.call_fn_ptr
-  fnCallBy-gives CallRule.fn_ptr b d p h G =
+  fn_call_by-gives CallRule.fn_ptr b d p h G =
       let v = row_first (subst (λ (n : ℕ). Row s n (child j)) h F.args) in
       gives_then (rec (child j) b d p) (ins Ops.MakeFnPtr (suc d) (position s (child j))) (L.gives (child j) b d p v G) tt
-  fnCallBy-gives CallRule.fn_ptr_call b d p h G =
+  fn_call_by-gives CallRule.fn_ptr_call b d p h G =
       let few : count s j - 1 ≤ max_args = omega arith in
       let call = ins (Ops.CallFnPtr (count s j - 1) (field_b s j)) (d + count s j) (position s j) in
       gives_then (operands s rec (count s j) (child j) b d p) call
       (operands-give s T rec L (count s j) (child j) b d p F.args G) (few, F.capture)
-  fnCallBy-gives CallRule.lowerable b d p h G = lowerCall-gives s T rec L j F h (Call.receiver s j) b d p (receiver-ok s j F) G
-  fnCallBy-gives CallRule.eval b d p h G =
+  fn_call_by-gives CallRule.lowerable b d p h G = lower_call-gives s T rec L j F h (Call.receiver s j) b d p (receiver-ok s j F) G
+  fn_call_by-gives CallRule.eval b d p h G =
       let g = defeat-gives s T p G in
       gives-seq g (residual-gives s T (defeat p) g.good j d F.valid)
-  fnCallBy-gives CallRule.residual b d p h G = residual-gives s T p G j d F.valid
+  fn_call_by-gives CallRule.residual b d p h G = residual-gives s T p G j d F.valid
 
   -- the node
-  pub fnCall-gives : (b d : ℕ) (p : Pools) → PoolsOk s p → GivesOut s T p (Call.fn_call s rec j b d p)
+  pub fn_call-gives : (b d : ℕ) (p : Pools) → PoolsOk s p → GivesOut s T p (Call.fn_call s rec j b d p)
   unfolding Call.fn_call
-  fnCall-gives b d p G = fnCallBy-gives (Call.call_rule s j) b d p (rule-ok s j) G
+  fn_call-gives b d p G = fn_call_by-gives (Call.call_rule s j) b d p (rule-ok s j) G

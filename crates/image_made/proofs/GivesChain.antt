@@ -226,10 +226,10 @@ module _ (s : List ℕ) (T : ℕ) (rec : Rec) (L : GivesAll s T rec) (j : ℕ) (
   root-code Roots.Temporary b d p G = L.gives (child j) b d p F.base G
 
   -- behind the steps, if none failed: at most 255 operands a link fit 16 bits
-  chainOf-gives : (root : Root) (b d left : ℕ) (p : Pools) (v : Walked) → left ≤ max_depth → RootOk s (length p.names) root
+  chain_of-gives : (root : Root) (b d left : ℕ) (p : Pools) (v : Walked) → left ≤ max_depth → RootOk s (length p.names) root
       → WalkedOk s T p 0 left v → GivesOut s T p (chain_of s rec root j b d v)
   unfolding chain_of
-  chainOf-gives root b d left p (walked code xs n q) few R W =
+  chain_of-gives root b d left p (walked code xs n q) few R W =
       let o = root_code rec root (child j) (b + length code) (d + n) q in
       let g = root-code root (b + length code) (d + n) q W.gives.good in
       let m = length o.pools.names in
@@ -238,7 +238,7 @@ module _ (s : List ℕ) (T : ℕ) (rec : Rec) (L : GivesAll s T rec) (j : ℕ) (
       let c = chain-pushed s T o.pools g.good root xs n R' X W.inside (omega (arith, W.few)) in
       let last = ins (Ops.Chain (chain_at root xs n o.pools)) (d + n + on_stack root) (position s j) in
       gives-seq (gives-seq W.gives g) (gives-seq c (gives-ins last c.good (chain-holds root xs n o.pools).within))
-  chainOf-gives root b d left p (stopped q) few R W =
+  chain_of-gives root b d left p (stopped q) few R W =
       gives-seq W (residual-gives s T q W.good j d F.valid)
 
   -- the node
@@ -253,5 +253,5 @@ module _ (s : List ℕ) (T : ℕ) (rec : Rec) (L : GivesAll s T rec) (j : ℕ) (
           let walk = steps-ok s T rec L ls 0 b d q F.links ready.0.good in
           rw (chain-flat s rec j b d p e)
           (gives-seq ready.0
-          (chainOf-gives (root_of s (child j) p) b d (length ls) q (steps s rec ls 0 b d q) (links-few max_depth s j) ready.1 walk))
+          (chain_of-gives (root_of s (child j) p) b d (length ls) q (steps s rec ls 0 b d q) (links-few max_depth s j) ready.1 walk))
       by false e = rw (chain-stays s rec j b d p e) (residual-gives s T p G j d F.valid)

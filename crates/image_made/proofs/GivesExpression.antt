@@ -14,8 +14,8 @@ use Rattle.lowering.specs.Expression.{residual, rule, by_rule, expression}
 use Rattle.image_made.proofs.Listed.{ConstOk, PoolsOk}
 use Rattle.image_made.proofs.Gives.{GivesOut, GivesAll}
 use Rattle.image_made.proofs.GivesLeaf.{residual-gives, boolean-gives, unit-gives, this-gives, constant-gives, variable-gives}
-use Rattle.image_made.proofs.GivesBranch.{array-gives, interpolated-gives, shortCircuit-gives, coalesce-gives}
-use Rattle.image_made.proofs.GivesCall.{CallFacts, fnCall-gives}
+use Rattle.image_made.proofs.GivesBranch.{array-gives, interpolated-gives, short_circuit-gives, coalesce-gives}
+use Rattle.image_made.proofs.GivesCall.{CallFacts, fn_call-gives}
 use Rattle.image_made.proofs.GivesChain.{ChainFacts, chain-gives}
 
 -- what is wanted of a node that is lowered by this rule
@@ -51,10 +51,10 @@ module _ (s : List ℕ) (T : ℕ) (N : (j : ℕ) → Valid s j → NodeFacts s j
   by-rule rec L j b d p v G array F = array-gives s T rec L j b d p v (N j v).row G
   by-rule rec L j b d p v G variable F = variable-gives s T p G j d F
   by-rule rec L j b d p v G this F = this-gives s T p G j d
-  by-rule rec L j b d p v G fn_call F = fnCall-gives s T rec L j F b d p G
+  by-rule rec L j b d p v G fn_call F = fn_call-gives s T rec L j F b d p G
   by-rule rec L j b d p v G chain F = chain-gives s T rec L j F b d p G
-  by-rule rec L j b d p v G and F = shortCircuit-gives s T rec L 0 j b d p (omega arith) (N j v).row G
-  by-rule rec L j b d p v G or F = shortCircuit-gives s T rec L 1 j b d p (omega arith) (N j v).row G
+  by-rule rec L j b d p v G and F = short_circuit-gives s T rec L 0 j b d p (omega arith) (N j v).row G
+  by-rule rec L j b d p v G or F = short_circuit-gives s T rec L 1 j b d p (omega arith) (N j v).row G
   by-rule rec L j b d p v G coalesce F = coalesce-gives s T rec L j b d p (row-less (omega arith) (N j v).row) F G
   by-rule rec L j b d p v G residual F = residual-gives s T p G j d v
 

@@ -12,7 +12,7 @@ use Rattle.lowering.proofs.FirstLaws.{first-within, first_passes, added_new, add
 use Rattle.laws.proofs.Bool.{both, and_left, and_right}
 use Rattle.text.specs.Same.{same}
 use Rattle.text.proofs.SameLaws.{same_refl}
-use Rattle.sheet.specs.Node.{kind, child}
+use Rattle.sheet.specs.Node.{child}
 use Rattle.sheet.specs.Text.{text}
 use Rattle.switch_split.specs.Excess.{excess}
 use Rattle.bytecode.specs.declared.SwitchCase.{SwitchCase}

@@ -26,15 +26,15 @@ use Rattle.lowering.proofs.Meets.{Grows, grows-refl}
 words_on_stack : List ℕ → ℕ
 words_on_stack w = elim (eqb (get_or w 0 0) 3) [ true ↦ 1 | false ↦ 0 ]
 
-onStack-words : (r : Root) → on_stack r ≡ words_on_stack (root_words r)
+on_stack-words : (r : Root) → on_stack r ≡ words_on_stack (root_words r)
 unfolding on_stack words_on_stack root_words
-onStack-words (Local slot i) = refl
-onStack-words (Named i pos) = refl
-onStack-words (This pos) = refl
-onStack-words Temporary = refl
+on_stack-words (Local slot i) = refl
+on_stack-words (Named i pos) = refl
+on_stack-words (This pos) = refl
+on_stack-words Temporary = refl
 
-same-onStack : (r r' : Root) → same (root_words r) (root_words r') ≡ true → on_stack r' ≡ on_stack r
-same-onStack r r' h = onStack-words r' ∙ ap words_on_stack (sym (same_true (root_words r) (root_words r') h)) ∙ sym (onStack-words r)
+same-on_stack : (r r' : Root) → same (root_words r) (root_words r') ≡ true → on_stack r' ≡ on_stack r
+same-on_stack r r' h = on_stack-words r' ∙ ap words_on_stack (sym (same_true (root_words r) (root_words r') h)) ∙ sym (on_stack-words r)
 
 -- entry i of these chains is one that takes this many operands and, by its root, this much more
 pub record Holds (cs : List Chain) (i n stack : ℕ) : Type 0 where
@@ -51,7 +51,7 @@ module _ (root : Root) (xs : List Step) (n : ℕ) (p : Pools) where
       let all = (and-eq-true_iff (same (root_words root) (root_words c.root) && eqb n c.operands)
       (same (steps_words xs) (steps_words (steps_of p c)))).0 k in
       let both = (and-eq-true_iff (same (root_words root) (root_words c.root)) (eqb n c.operands)).0 all.0 in
-      record { within = h; operands = sym (eqb-true n c.operands both.1); root = same-onStack root c.root both.0 }
+      record { within = h; operands = sym (eqb-true n c.operands both.1); root = same-on_stack root c.root both.0 }
 
   new-holds : (i : ℕ) → i ≡ length p.chains → Holds (new_chain root xs n p).chains i n (on_stack root)
   unfolding new_chain

@@ -9,7 +9,7 @@ use native.Mathlib.Nat.{zero-add}
 use lib.Dec.{eqb}
 use lib.ListN.{length, get_or, get_or-map}
 use Rattle.lowering.proofs.FirstLaws.{first-here, first-later}
-use Rattle.sheet.specs.Node.{kind, child}
+use Rattle.sheet.specs.Node.{child}
 use Rattle.switch_split.specs.Excess.{shifted, excess, low_word, high_word}
 use Rattle.switch_split.proofs.ExcessLaws.{excess-below, excess-words}
 use Rattle.switch_split.specs.Range.{Range}

@@ -1,5 +1,5 @@
 -- What is shown of the lowering of a child and used by each construct: its code takes depth d to d + 1, and chains are only added.
-use Prim.Native.Nat.{ℕ, suc, ◌+◌, ◌<◌}
+use Prim.Native.Nat.{ℕ, suc, ◌<◌}
 use mathlib.Core.Path.{◌≡◌, sym, ap, ◌∙◌}
 use mathlib.Core.List.{List, [], ◌++◌, append_assoc, append-nil}
 use lib.ListN.{length, get_or, get_or-append}

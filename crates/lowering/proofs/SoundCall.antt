@@ -44,9 +44,9 @@ Takes this n = 1 ≤ n
 Takes value n = Prim.Unit {0}
 
 module _ (s : List ℕ) (j : ℕ) where
-  fnPtrCall-count : is_fn_ptr_call s j ≡ true → 1 ≤ count s j
+  fn_ptr_call-count : is_fn_ptr_call s j ≡ true → 1 ≤ count s j
   unfolding is_fn_ptr_call
-  fnPtrCall-count h =
+  fn_ptr_call-count h =
       let both = (and-eq-true_iff (is_call (callee s j) && leb 1 (count s j)) (leb (count s j) (max_args + 1))).0 h in
       leb-true 1 (count s j) ((and-eq-true_iff (is_call (callee s j)) (leb 1 (count s j))).0 both.0).1
 
@@ -63,7 +63,7 @@ module _ (s : List ℕ) (j : ℕ) where
       by : (a c l e : Bool) → is_fn_ptr s j ≡ a → is_fn_ptr_call s j ≡ c → is_lowerable_call s j ≡ l → is_eval (callee s j) ≡ e
           → Allows (call_rule s j) (count s j)
       by true c l e g h k m = rw (g, call_rule) tt
-      by false true l e g h k m = rw (g, h, call_rule) (fnPtrCall-count h)
+      by false true l e g h k m = rw (g, h, call_rule) (fn_ptr_call-count h)
       by false false true e g h k m = rw (g, h, k, call_rule) (lowerable-count k)
       by false false false true g h k m = rw (g, h, k, m, call_rule) tt
       by false false false false g h k m = rw (g, h, k, m, call_rule) tt
@@ -84,9 +84,9 @@ module _ (s : List ℕ) (j : ℕ) where
           (leb-true 1 (count s j) ((and-eq-true_iff (eqb (field_c s j) 0 && eqb (field_b s j) 0) (leb 1 (count s j))).0 h).1))
       by false h = rw (h, receiver) tt
 
-otherArgs-done : (s : List ℕ) (rec : Rec) → Meets rec → (j b d : ℕ) (p : Pools) → Done p b d (d + (count s j - 1)) (other_args s rec j b d p)
+other_args-done : (s : List ℕ) (rec : Rec) → Meets rec → (j b d : ℕ) (p : Pools) → Done p b d (d + (count s j - 1)) (other_args s rec j b d p)
 unfolding other_args
-otherArgs-done s rec M j b d p = operands-done s rec M (count s j - 1) (next s (child j)) b d p
+other_args-done s rec M j b d p = operands-done s rec M (count s j - 1) (next s (child j)) b d p
 
 -- the other arguments stay below
 rotate-lowers : {x : List Chain} {b : ℕ} (others e : ℕ) → others + 1 ≤ e → Lowers Nothing x b e e (rotate others e) x
@@ -98,15 +98,15 @@ rotate-lowers {x} {b} others e h = by (eqb others 0) refl
     by false k = rw (k, rotate) (lowers-one (ins (Rotate others) e no_pos) refl (λ X A N q g end le. omega arith))
 
 module _ (s : List ℕ) (rec : Rec) (M : Meets rec) (j b d : ℕ) (p : Pools) where
-  makeFnPtr-done : Done p b d (suc d) (make_fn_ptr s rec j b d p)
+  make_fn_ptr-done : Done p b d (suc d) (make_fn_ptr s rec j b d p)
   unfolding make_fn_ptr
-  makeFnPtr-done =
+  make_fn_ptr-done =
       done-then (rec (child j) b d p) (ins MakeFnPtr (suc d) (position s (child j))) refl (λ X A N q g end le. omega arith)
       (meets_at M (child j) b d p)
 
-  callFnPtr-done : 1 ≤ count s j → Done p b d (suc d) (call_fn_ptr s rec j b d p)
+  call_fn_ptr-done : 1 ≤ count s j → Done p b d (suc d) (call_fn_ptr s rec j b d p)
   unfolding call_fn_ptr
-  callFnPtr-done h =
+  call_fn_ptr-done h =
       done-then (operands s rec (count s j) (child j) b d p)
       (ins (CallFnPtr (count s j - 1) (field_b s j)) (d + count s j) (position s j))
       refl
@@ -114,10 +114,10 @@ module _ (s : List ℕ) (rec : Rec) (M : Meets rec) (j b d : ℕ) (p : Pools) wh
       (operands-done s rec M (count s j) (child j) b d p)
 
   -- CallRef behind code that ends at depth e, where it finds its arguments
-  callRef-done : (r : Receiver) (e f : ℕ) (o : Out) → count s j < 256 → ref_pops (count s j) r + f ≡ e → Done p b d e o
+  call_ref-done : (r : Receiver) (e f : ℕ) (o : Out) → count s j < 256 → ref_pops (count s j) r + f ≡ e → Done p b d e o
       → Done p b d (suc f) (call_ref s j r e o)
   unfolding call_ref push_name
-  callRef-done r e f o h k g =
+  call_ref-done r e f o h k g =
       let n = name (field_a s j) 0 in
       done-then (out o.code (push_name s n o.pools))
       (ins (CallRef (name_at s n o.pools) (count s j) r) e (position s j))
@@ -125,40 +125,40 @@ module _ (s : List ℕ) (rec : Rec) (M : Meets rec) (j b d : ℕ) (p : Pools) wh
       (λ X A N q u end le. omega arith)
       g
 
-  callLocal-done : (slot : ℕ) → count s j < 256 → Done p b d (suc d) (call_local s rec slot j b d p)
+  call_local-done : (slot : ℕ) → count s j < 256 → Done p b d (suc d) (call_local s rec slot j b d p)
   unfolding call_local
-  callLocal-done slot h =
-      callRef-done (Local slot) (d + (count s j - 1)) d (other_args s rec j b d p) h (omega arith) (otherArgs-done s rec M j b d p)
+  call_local-done slot h =
+      call_ref-done (Local slot) (d + (count s j - 1)) d (other_args s rec j b d p) h (omega arith) (other_args-done s rec M j b d p)
 
-  callThis-done : 1 ≤ count s j → count s j < 256 → Done p b d (suc d) (call_this s rec j b d p)
+  call_this-done : 1 ≤ count s j → count s j < 256 → Done p b d (suc d) (call_this s rec j b d p)
   unfolding call_this emits
-  callThis-done h k =
+  call_this-done h k =
       let o = other_args s rec j (b + 1) (suc d) (emits 1 p) in
       let load = ins LoadThis d (position s (child j)) in
-      callRef-done This (d + count s j) d (out (load ∷ o.code) o.pools) k (omega arith)
+      call_ref-done This (d + count s j) d (out (load ∷ o.code) o.pools) k (omega arith)
       (lowers-seq
       (lowers-one {e = suc d} load refl (λ X A N q g end le. omega arith))
-      (lowers-to (omega arith) (otherArgs-done s rec M j (b + 1) (suc d) (emits 1 p))))
+      (lowers-to (omega arith) (other_args-done s rec M j (b + 1) (suc d) (emits 1 p))))
 
-  callNamed-done : 1 ≤ count s j → count s j < 256 → Done p b d (suc d) (call_named s rec j b d p)
+  call_named-done : 1 ≤ count s j → count s j < 256 → Done p b d (suc d) (call_named s rec j b d p)
   unfolding call_named and_then emits push_name
-  callNamed-done h k =
+  call_named-done h k =
       let v = name (field_a s (child j)) 0 in
       let i = name_at s v p in
       let n = count s j - 1 in
       let o = other_args s rec j b d (push_name s v p) in
       let load = ins (LoadNamed i) (d + n) (position s (child j)) in
-      callRef-done (Named i) (d + count s j) d (and_then o (load ∷ rotate n (d + count s j))) k (omega arith)
+      call_ref-done (Named i) (d + count s j) d (and_then o (load ∷ rotate n (d + count s j))) k (omega arith)
       (lowers-seq
-      (otherArgs-done s rec M j b d (push_name s v p))
+      (other_args-done s rec M j b d (push_name s v p))
       (lowers-seq
       (lowers-one load refl (λ X A N q g end le. omega arith))
       (rotate-lowers n (d + count s j) (omega arith))))
 
   -- Call behind all arguments
-  callAs-done : (op capture : ℕ) (o : Out) → count s j < 256 → Done p b d (d + count s j) o → Done p b d (suc d) (call_as s j op capture d o)
+  call_as-done : (op capture : ℕ) (o : Out) → count s j < 256 → Done p b d (d + count s j) o → Done p b d (suc d) (call_as s j op capture d o)
   unfolding call_as push_name
-  callAs-done op capture o h g =
+  call_as-done op capture o h g =
       let n = name (field_a s j) capture in
       done-then (out o.code (push_name s n o.pools))
       (ins (Call (name_at s n o.pools) (count s j) op capture) (d + count s j) (position s j))
@@ -166,37 +166,37 @@ module _ (s : List ℕ) (rec : Rec) (M : Meets rec) (j b d : ℕ) (p : Pools) wh
       (λ X A N q u end le. omega arith)
       g
 
-  callToken-done : (o : Out) → count s j < 256 → Done p b d (d + count s j) o → Done p b d (suc d) (call_token s j d o)
+  call_token-done : (o : Out) → count s j < 256 → Done p b d (d + count s j) o → Done p b d (suc d) (call_token s j d o)
   unfolding call_token push_token
-  callToken-done o h g = callAs-done (suc (token_at (field_c s j) o.pools)) 0 (out o.code (push_token (field_c s j) o.pools)) h g
+  call_token-done o h g = call_as-done (suc (token_at (field_c s j) o.pools)) 0 (out o.code (push_token (field_c s j) o.pools)) h g
 
-  callValues-done : count s j < 256 → Done p b d (suc d) (call_values s rec j b d p)
+  call_values-done : count s j < 256 → Done p b d (suc d) (call_values s rec j b d p)
   unfolding call_values
-  callValues-done h = by (stores_token s j) refl
+  call_values-done h = by (stores_token s j) refl
     where
       by : (t : Bool) → stores_token s j ≡ t → Done p b d (suc d) (call_values s rec j b d p)
       by true k =
           rw (k, call_values)
-          (callToken-done (operands s rec (count s j) (child j) b d p) h (operands-done s rec M (count s j) (child j) b d p))
+          (call_token-done (operands s rec (count s j) (child j) b d p) h (operands-done s rec M (count s j) (child j) b d p))
       by false k =
-          rw (k, call_values) (callAs-done 0 (field_b s j) (operands s rec (count s j) (child j) b d p) h
+          rw (k, call_values) (call_as-done 0 (field_b s j) (operands s rec (count s j) (child j) b d p) h
           (operands-done s rec M (count s j) (child j) b d p))
 
-  lowerCall-done : (f : First) → Takes f (count s j) → count s j < 256 → Done p b d (suc d) (lower_call_by f s rec j b d p)
+  lower_call-done : (f : First) → Takes f (count s j) → count s j < 256 → Done p b d (suc d) (lower_call_by f s rec j b d p)
   unfolding lower_call_by
-  lowerCall-done (local slot) t h = callLocal-done slot h
-  lowerCall-done named t h = callNamed-done t h
-  lowerCall-done this t h = callThis-done t h
-  lowerCall-done value t h = callValues-done h
+  lower_call-done (local slot) t h = call_local-done slot h
+  lower_call-done named t h = call_named-done t h
+  lower_call-done this t h = call_this-done t h
+  lower_call-done value t h = call_values-done h
 
-  fnCallBy-done : (r : CallRule) → Allows r (count s j) → Done p b d (suc d) (fn_call_by r s rec j b d p)
+  fn_call_by-done : (r : CallRule) → Allows r (count s j) → Done p b d (suc d) (fn_call_by r s rec j b d p)
   unfolding fn_call_by defeat
-  fnCallBy-done fn_ptr a = makeFnPtr-done
-  fnCallBy-done fn_ptr_call a = callFnPtr-done a
-  fnCallBy-done lowerable a = lowerCall-done (receiver s j) (receiver-takes s j) a
-  fnCallBy-done eval a = residual-done j b d (defeat p)
-  fnCallBy-done residual a = residual-done j b d p
+  fn_call_by-done fn_ptr a = make_fn_ptr-done
+  fn_call_by-done fn_ptr_call a = call_fn_ptr-done a
+  fn_call_by-done lowerable a = lower_call-done (receiver s j) (receiver-takes s j) a
+  fn_call_by-done eval a = residual-done j b d (defeat p)
+  fn_call_by-done residual a = residual-done j b d p
 
-  pub fnCall-done : Done p b d (suc d) (fn_call s rec j b d p)
+  pub fn_call-done : Done p b d (suc d) (fn_call s rec j b d p)
   unfolding fn_call
-  fnCall-done = fnCallBy-done (call_rule s j) (rule-allows s j)
+  fn_call-done = fn_call_by-done (call_rule s j) (rule-allows s j)

@@ -18,7 +18,6 @@ use Rattle.lowering.specs.Kinds.{variable_kind}
 use Rattle.lowering.specs.Code.{Code, ins}
 use Rattle.lowering.specs.Pools.{Pools, emits, push_name, chain_at, push_chain}
 use Rattle.lowering.specs.Out.{Rec}
-use Rattle.lowering.specs.Operands.{operands}
 use Rattle.lowering.specs.Flatten.{operand_of, StepRule, index, property, method, none, step_rule, links, flattens}
 use Rattle.lowering.specs.Steps.{Stepped, stepped, failed, index_step, property_step, is_lowerable_method, method_after, method_step}
 use Rattle.lowering.specs.Steps.{step_by, Walked, walked, stopped, onto, steps}
@@ -89,12 +88,12 @@ module _ (s : List ℕ) (rec : Rec) (M : Meets rec) where
           (r k (b + length code) q))
       by (failed q) e g r = rw (e, steps) (rw e at g)
 
-  rootCode-done : (root : Root) (v b d : ℕ) (p : Pools) → Done p b d (d + on_stack root) (root_code rec root v b d p)
+  root_code-done : (root : Root) (v b d : ℕ) (p : Pools) → Done p b d (d + on_stack root) (root_code rec root v b d p)
   unfolding root_code on_stack
-  rootCode-done (Local slot i) v b d p = lowers-to (sym (add-zero d)) lowers-none
-  rootCode-done (Named i pos) v b d p = lowers-to (sym (add-zero d)) lowers-none
-  rootCode-done (This pos) v b d p = lowers-to (sym (add-zero d)) lowers-none
-  rootCode-done Temporary v b d p = lowers-to (omega arith) (meets_at M v b d p)
+  root_code-done (Local slot i) v b d p = lowers-to (sym (add-zero d)) lowers-none
+  root_code-done (Named i pos) v b d p = lowers-to (sym (add-zero d)) lowers-none
+  root_code-done (This pos) v b d p = lowers-to (sym (add-zero d)) lowers-none
+  root_code-done Temporary v b d p = lowers-to (omega arith) (meets_at M v b d p)
 
 -- a longer list of chains holds the chain too
 holds-grows : {xs ys : List ChainRecord.Chain} {i n stack : ℕ} → Grows xs ys → Holds xs i n stack → Holds ys i n stack
@@ -115,24 +114,24 @@ chain-straight y i n stack d pos h X A N q g end le =
     omega arith
 
 module _ (s : List ℕ) (rec : Rec) (M : Meets rec) where
-  chainOf-done : (x : List ChainRecord.Chain) (root : Root) (j b d : ℕ) (w : Walked) → StepsRight x d b d w
+  chain_of-done : (x : List ChainRecord.Chain) (root : Root) (j b d : ℕ) (w : Walked) → StepsRight x d b d w
       → Lowers Nothing x b d (suc d) (chain_of s rec root j b d w).code (chain_of s rec root j b d w).pools.chains
   unfolding chain_of emits
-  chainOf-done x root j b d (walked code xs n p) h =
+  chain_of-done x root j b d (walked code xs n p) h =
       let o = root_code rec root (child j) (b + length code) (d + n) p in
       let i = chain_at root xs n o.pools in
       let y = (push_chain root xs n o.pools).chains in
       let last = ins (Chain i) (d + n + on_stack root) (position s j) in
-      let all = lowers-more (lowers-seq h (rootCode-done s rec M root (child j) (b + length code) (d + n) p))
+      let all = lowers-more (lowers-seq h (root_code-done s rec M root (child j) (b + length code) (d + n) p))
       (chain-grows root xs n o.pools) in
       lowers-seq all (lowers-one last refl (chain-straight y i n (on_stack root) d (position s j) (chain-holds root xs n o.pools)))
-  chainOf-done x root j b d (stopped p) h =
+  chain_of-done x root j b d (stopped p) h =
       let r = residual-done j b d p in
       record { sound = r.sound; grows = grows-trans h r.grows }
 
-  rootPools-chains : (v : ℕ) (p : Pools) → (root_pools s v p).chains ≡ p.chains
+  root_pools-chains : (v : ℕ) (p : Pools) → (root_pools s v p).chains ≡ p.chains
   unfolding root_pools push_name
-  rootPools-chains v p = by (eqb (kind s v) variable_kind) refl
+  root_pools-chains v p = by (eqb (kind s v) variable_kind) refl
     where
       by : (t : Bool) → eqb (kind s v) variable_kind ≡ t → (root_pools s v p).chains ≡ p.chains
       by true h = rw (h, root_pools)
@@ -141,9 +140,9 @@ module _ (s : List ℕ) (rec : Rec) (M : Meets rec) where
   flat-done : (j b d : ℕ) (p : Pools) (ls : List ℕ)
       → Done p b d (suc d) (chain_of s rec (root_of s (child j) p) j b d (steps s rec ls 0 b d (root_pools s (child j) p)))
   flat-done j b d p ls =
-      chainOf-done p.chains (root_of s (child j) p) j b d (steps s rec ls 0 b d (root_pools s (child j) p))
+      chain_of-done p.chains (root_of s (child j) p) j b d (steps s rec ls 0 b d (root_pools s (child j) p))
       (subst (λ (x : List ChainRecord.Chain). StepsRight x d b d (steps s rec ls 0 b d (root_pools s (child j) p)))
-      (rootPools-chains (child j) p) (steps-right s rec M d ls 0 b d (root_pools s (child j) p) (add-zero d)))
+      (root_pools-chains (child j) p) (steps-right s rec M d ls 0 b d (root_pools s (child j) p) (add-zero d)))
 
   pub chain-done : (j b d : ℕ) (p : Pools) → Done p b d (suc d) (chain s rec j b d p)
   unfolding chain

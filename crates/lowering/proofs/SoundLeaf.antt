@@ -37,18 +37,18 @@ module _ (s : List ℕ) (j b d : ℕ) (p : Pools) where
   unfolding this emit_at emits
   this-done = lowers-one (ins LoadThis d (position s j)) refl (λ X A N q g end le. omega arith)
 
-  loadNamed-done : Done p b d (suc d) (load_named s j d p)
+  load_named-done : Done p b d (suc d) (load_named s j d p)
   unfolding load_named emit_at emits push_name
-  loadNamed-done = lowers-one (ins (LoadNamed (name_at s (name (field_a s j) 0) p)) d (position s j)) refl (λ X A N q g end le. omega arith)
+  load_named-done = lowers-one (ins (LoadNamed (name_at s (name (field_a s j) 0) p)) d (position s j)) refl (λ X A N q g end le. omega arith)
 
-  loadLocal-done : (slot : ℕ) → Done p b d (suc d) (emit_at (LoadLocal slot) no_pos d p)
+  load_local-done : (slot : ℕ) → Done p b d (suc d) (emit_at (LoadLocal slot) no_pos d p)
   unfolding emit_at emits
-  loadLocal-done slot = lowers-one (ins (LoadLocal slot) d no_pos) refl (λ X A N q g end le. omega arith)
+  load_local-done slot = lowers-one (ins (LoadLocal slot) d no_pos) refl (λ X A N q g end le. omega arith)
 
   pub variable-done : Done p b d (suc d) (variable s j d p)
   unfolding variable
   variable-done = by (resolve s (text s (field_a s j))) refl
     where
       by : (r : Option ℕ) → resolve s (text s (field_a s j)) ≡ r → Done p b d (suc d) (variable s j d p)
-      by none h = rw (h, variable) loadNamed-done
-      by (some slot) h = rw (h, variable) (loadLocal-done slot)
+      by none h = rw (h, variable) load_named-done
+      by (some slot) h = rw (h, variable) (load_local-done slot)

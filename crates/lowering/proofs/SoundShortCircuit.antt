@@ -87,9 +87,9 @@ module _ (X : Context) where
       (close {t = e + 3} (rw (length-append, length-append) (omega arith)) (seq open-end last))
 
 module _ (s : List ℕ) (rec : Rec) (M : Meets rec) where
-  pub shortCircuit-done : (stop j b d : ℕ) (p : Pools) → Done p b d (suc d) (short_circuit stop s rec j b d p)
+  pub short_circuit-done : (stop j b d : ℕ) (p : Pools) → Done p b d (suc d) (short_circuit stop s rec j b d p)
   unfolding short_circuit emits
-  shortCircuit-done stop j b d p =
+  short_circuit-done stop j b d p =
       let r = fragments s rec 1 (count s j) (child j) b d p in
       record {
         sound =

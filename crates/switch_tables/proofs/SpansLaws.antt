@@ -1,7 +1,7 @@
 -- The interval law. Shown: for cuts that ascend strictly and have both ends of a range, the range covers piece j iff j lies in its span;
 -- so the list of a piece is made from spans alone, and is that of the piece before where nothing starts or ends. Empty ranges (9..=3,
 -- 5..5) are no special case. Assumed: nothing but `Strict`, membership of the ends, and j below the number of pieces.
-use Prim.Native.Nat.{ℕ, suc, ◌+◌, ◌*◌, ◌-◌, ◌/◌, ◌%◌, ◌≤◌, ◌<◌}
+use Prim.Native.Nat.{ℕ, suc, ◌+◌, ◌*◌, ◌/◌, ◌%◌, ◌≤◌, ◌<◌}
 use mathlib.Core.Path.{◌≡◌, refl, sym, ◌∙◌, ap, ap₂}
 use mathlib.Core.Bool.{Bool, true, false, ◌&&◌, ◌||◌}
 use mathlib.Core.List.{List, [], ◌∷◌, map, Memᴰ}

@@ -2,9 +2,7 @@
 use Rattle.check_numbers.specs.Numbers.{local_ok, locals_by}
 use Rattle.laws.proofs.Numbers.{one_more, left_less}
 use Rattle.words.proofs.CountLaws.{all_none, all_more}
-use mathlib.Core.Bool.{true}
 use mathlib.Core.Path.{sym, ◌∙◌}
-use Prim.Native.Nat.{◌-◌}
 use native.Mathlib.Omega.{arith}
 use Rattle.check_numbers.proofs.ReadLaws.{one-fits, below_fails, below_all}
 use Rattle.check_numbers.proofs.locals_ok.Goals as goal

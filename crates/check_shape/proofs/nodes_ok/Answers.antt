@@ -1,7 +1,5 @@
 -- `check_shape::nodes_ok` meets its contract. Invariant: every node below n is right.
-use mathlib.Core.Bool.{true}
 use mathlib.Core.Path.{refl, sym, ◌∙◌}
-use Prim.Native.Nat.{◌-◌}
 use native.Mathlib.Omega.{arith}
 use Rattle.laws.proofs.Numbers.{one_more, left_less}
 use Rattle.words.proofs.CountLaws.{all_none, all_more}

@@ -1,6 +1,5 @@
 -- `check_shape::tiles` meets its contract. Invariant of the walk: what is left to do from child i on, which is node j, equals the whole.
 use mathlib.Core.Path.{sym, ◌∙◌}
-use Prim.Native.Nat.{◌-◌}
 use native.Mathlib.Omega.{arith}
 use Rattle.laws.proofs.Numbers.{one_more, left_less}
 use Rattle.check_shape.proofs.ReadLaws.{fits_below, child-read, walk-starts, walk_end, walk_more, walk-fails, walk-done}

@@ -1,9 +1,7 @@
 -- `check_support::supported_ok` meets its contract. Invariant: the test passes at every number below n.
 use Rattle.check_support.specs.Support.{supported, support_by}
 use Rattle.words.proofs.CountLaws.{all_none, all_more, all-fails}
-use mathlib.Core.Bool.{true}
 use mathlib.Core.Path.{◌≡◌}
-use Prim.Native.Nat.{◌-◌}
 use native.Mathlib.Omega.{arith}
 use Rattle.check_support.proofs.supported_ok.Goals as goal
 

@@ -2,7 +2,6 @@
 use Rattle.laws.proofs.Numbers.{one_more, left_less}
 use Rattle.check_switches.specs.Switch.{refs_ok}
 use Rattle.check_switches.proofs.ReadLaws.{one-fits, walk-starts, walk_more, walk-fails, walk-done}
-use Prim.Native.Nat.{◌-◌}
 use native.Mathlib.Omega.{arith}
 use Rattle.check_switches.proofs.all_refs_ok.Goals as goal
 

@@ -2,7 +2,6 @@
 use borrow.Author.Rules.{rules}
 use borrow.Author.Count.{below_more}
 use native.Mathlib.Omega.{arith}
-use Prim.Native.Nat.{◌-◌}
 use mathlib.Core.Bool.{true≢false}
 use Rattle.check_switches.proofs.among.Goals as goal
 

@@ -1,7 +1,6 @@
 -- `check_switches::keys_apart` meets its contract. Invariant: the numbers of the cases passed are kept, and differ.
 use borrow.Author.Rules.{rules}
 use native.Mathlib.Omega.{arith}
-use Prim.Native.Nat.{◌-◌}
 use mathlib.Core.Path.{refl, sym}
 use mathlib.Core.Bool.{false≢true}
 use lib.Seq.{length-take-le}

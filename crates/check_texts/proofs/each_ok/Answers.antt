@@ -1,7 +1,5 @@
 -- `check_texts::each_ok` meets its contract. The loop's invariant: each text passed is right. Assumes nothing.
-use Prim.Native.Nat.{◌-◌}
 use mathlib.Core.Path.{sym, ◌∙◌}
-use mathlib.Core.Bool.{true}
 use native.Mathlib.Omega.{arith}
 use Rattle.words.proofs.CountLaws.{all_none, all_more}
 use Rattle.check_texts.proofs.TextsLaws.{texts-fail, texts-pass}

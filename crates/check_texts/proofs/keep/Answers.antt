@@ -1,5 +1,4 @@
 -- `check_texts::keep` meets its contract. The loop's invariant: the marks from block j on are true. Assumes nothing.
-use Prim.Native.Nat.{◌-◌}
 use native.Mathlib.Omega.{arith}
 use Rattle.check_texts.proofs.MarkLaws.{mark-none, mark_set, mark-all}
 use Rattle.check_texts.proofs.keep.Goals as goal

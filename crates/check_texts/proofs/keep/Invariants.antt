@@ -1,5 +1,5 @@
 -- `check_texts::keep` meets its contract. The loop's invariant: the marks from block j on are true. Assumes nothing.
-use Prim.Native.Nat.{◌≤◌, ◌-◌}
+use Prim.Native.Nat.{◌≤◌}
 use Rattle.check_texts.specs.Marks.{blocks, Characters, Marks}
 use Rattle.check_texts.proofs.keep.Given as goal
 

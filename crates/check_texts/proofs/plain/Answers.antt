@@ -1,5 +1,4 @@
 -- `check_texts::plain` meets its contract. The loop's invariant: the bytes below i are ASCII. Assumes nothing.
-use Prim.Native.Nat.{◌-◌}
 use mathlib.Core.Bool.{false≢true}
 use native.Mathlib.Omega.{arith}
 use Rattle.check_texts.proofs.PlainLaws.{plain-one, plain-all}

@@ -1,5 +1,4 @@
 -- `check_texts::plain_start` meets its contract. The loop's invariant: the bytes below i are ASCII. Assumes nothing.
-use Prim.Native.Nat.{◌-◌}
 use mathlib.Core.Path.{sym, ◌∙◌}
 use native.Mathlib.Omega.{arith}
 use Rattle.check_texts.proofs.PlainLaws.{plain-none, plain-sixteen}

@@ -1,5 +1,4 @@
 -- `check_texts::stretch_ok` meets its contract. The loop's invariant: the texts passed are right, if they are due. Assumes nothing.
-use Prim.Native.Nat.{◌-◌}
 use native.Mathlib.Omega.{arith}
 use Rattle.check_texts.proofs.TextsLaws.{due-none, due-more, due-fails, due_all}
 use Rattle.check_texts.proofs.stretch_ok.Goals as goal

@@ -1,7 +1,7 @@
 -- `expr_chains::link_count` meets its contract. Invariant: the links passed and those left from link c on are all.
 use mathlib.Core.Path.{◌≡◌}
 use Rattle.sheet.specs.Limits.{max_depth}
-use Prim.Native.Nat.{◌+◌, ◌-◌, ◌≤◌}
+use Prim.Native.Nat.{◌+◌, ◌≤◌}
 use lib.ListN.{length}
 use Rattle.lowering.specs.Flatten as flatten
 use Rattle.expr_chains.specs.Steps as chains

@@ -1,6 +1,5 @@
 -- `expr_chains::same_steps` meets its contract. Invariant: what is left to compare from links c and d on equals the whole.
 use mathlib.Core.Path.{◌≡◌}
-use Prim.Native.Nat.{◌-◌}
 use Rattle.sheet.specs.Limits.{max_depth}
 use Rattle.expr_chains.specs.Same as sames
 use Rattle.expr_chains.proofs.same_steps.Given as goal

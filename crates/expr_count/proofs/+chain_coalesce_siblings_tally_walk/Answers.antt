@@ -1,6 +1,5 @@
 -- The cycle of calls of the count. The measure: four for each level left, and a step for each member between a node and its operands.
 -- Invariant of both loops: what is passed and what is left make the whole, cut off.
-use Prim.Native.Nat.{◌-◌}
 use mathlib.Core.Path.{refl, sym, ap, ◌∙◌}
 use Rattle.expr_count.specs.Locals.{answer}
 use Rattle.expr_count.specs.Plan.{is_leaf}

@@ -3,7 +3,7 @@
 use Rattle.sheet.proofs.WalkLaws.{skip_step}
 use Rattle.laws.proofs.Numbers.{positive}
 use Rattle.expr_emit.proofs.Falls.{sibling-falls, last-falls, one-falls, walk-falls, root-falls, arm-falls, chain-falls}
-use Rattle.std.proofs.Common.{◌-◌, ◌<◌, sym, refl, ◌∙◌, arith, lit<}
+use Rattle.std.proofs.Common.{sym, refl, ◌∙◌, arith, lit<}
 use Rattle.expr_emit.proofs.EndLaws.{end-held}
 use Rattle.expr_emit.proofs.StepDoes.{link-fails, link-nowhere}
 use Rattle.expr_emit.proofs.WalkDoes.{walk-starts, walk-done, walk-fails, walk-on, walk_ends}
@@ -11,7 +11,6 @@ use Rattle.expr_emit.proofs.ArmDoes.{arm-none, arm-boolean, arm-unit, arm-consta
 use Rattle.expr_emit.proofs.CycleMore.{short-does, coalesce-does, call-by-way, chain-does, chain-kept, chain_back}
 use Rattle.expr_emit.proofs.CycleDoes.{skip_first, rows_start, rows-done, rows_more, array-does, array-kept, interpolated-does}
 use Rattle.scratch_store.proofs.DoesLaws.{held-slots, does-held}
-use Rattle.sheet.specs.Walk.{skip}
 use Rattle.scratch_store.specs.States.{state_of}
 use Rattle.expr_emit.proofs.+array_call_chain_coalesce_expression_interpolated_short_circuit_siblings_walk.Goals as goal
 

@@ -1,5 +1,5 @@
 -- `expr_slots::by_length` meets its contract. Invariant: the answer among the locals left is the answer among all.
-use Prim.Native.Nat.{◌≤◌, ◌-◌}
+use Prim.Native.Nat.{◌≤◌}
 use mathlib.Core.Path.{◌≡◌}
 use Rattle.lowering.specs.Slots.{resolve_below, resolve}
 use Rattle.expr_slots.specs.Found.{found}

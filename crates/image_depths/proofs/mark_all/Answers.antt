@@ -1,9 +1,8 @@
 -- `image_depths::mark_all` meets its contract. Invariant: the places below p have handed on their marks (`Held`).
-use Prim.Native.Nat.{◌<◌, ◌-◌}
+use Prim.Native.Nat.{◌<◌}
 use mathlib.Core.Path.{refl, ◌∙◌}
 use native.Mathlib.Omega.{arith}
 use lib.ListN.{length}
-use Rattle.image_rule.specs.Marks.{marks_there}
 use Rattle.lowering.specs.Words.{instructions}
 use Rattle.image_depths.proofs.MarkLaws.{held_start, held_on, held-deep, held-done, pooled-at}
 use Rattle.image_depths.proofs.mark_all.Goals as goal

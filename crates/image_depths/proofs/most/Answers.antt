@@ -1,5 +1,4 @@
 -- `image_depths::most` meets its contract. Invariant: x is the greatest of the marks 0 to i.
-use Prim.Native.Nat.{◌-◌}
 use native.Mathlib.Omega.{arith}
 use Rattle.image_depths.proofs.CheckLaws.{most-none, most-more, most-done}
 use Rattle.image_depths.proofs.most.Goals as goal

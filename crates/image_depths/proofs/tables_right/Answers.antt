@@ -1,7 +1,5 @@
 -- `image_depths::tables_right` meets its contract. Invariant: the tables below i are right.
-use Prim.Native.Nat.{◌-◌}
 use mathlib.Core.Path.{sym, ◌∙◌}
-use mathlib.Core.Bool.{true}
 use native.Mathlib.Omega.{arith}
 use Rattle.words.proofs.CountLaws.{all_none, all_more}
 use Rattle.image_rows.specs.Scratch.{marks_of}

@@ -1,7 +1,5 @@
 -- `image_fields::steps_right` meets its contract. Invariant: the steps below i are right.
-use Prim.Native.Nat.{◌-◌}
 use mathlib.Core.Path.{◌≡◌, sym, ◌∙◌}
-use mathlib.Core.Bool.{true}
 use native.Mathlib.Omega.{arith}
 use Rattle.laws.proofs.Numbers.{one_more, left_less}
 use Rattle.words.proofs.CountLaws.{all_none, all_more}

@@ -1,5 +1,4 @@
 -- `image_rows::come_rows` meets its contract. Invariant: r rows are passed (`Going`).
-use Prim.Native.Nat.{◌-◌}
 use mathlib.Core.Path.{refl, ◌∙◌}
 use native.Mathlib.Omega.{arith}
 use Rattle.image_rows.proofs.SeenLaws.{going_start, going_on, going_done}

@@ -1,5 +1,4 @@
 -- `image_rows::count_runs` meets its contract. Invariant: the runs that end at the first q rows are counted (`Counting`).
-use Prim.Native.Nat.{◌-◌}
 use mathlib.Core.Path.{refl, ◌∙◌}
 use native.Mathlib.Omega.{arith}
 use Rattle.image_rows.proofs.RunLaws.{counting-start, counting-on, counting-done}

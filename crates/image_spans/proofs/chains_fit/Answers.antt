@@ -1,7 +1,6 @@
 -- `image_spans::chains_fit` meets its contract. Invariant: the first i chains have the operands of their steps.
-use Prim.Native.Nat.{ℕ, ◌+◌, ◌*◌, ◌-◌, ◌<◌}
+use Prim.Native.Nat.{ℕ, ◌+◌, ◌*◌, ◌<◌}
 use mathlib.Core.Path.{◌≡◌, sym, ap, ◌∙◌}
-use mathlib.Core.Bool.{true}
 use native.Mathlib.Omega.{arith}
 use Rattle.words.proofs.CountLaws.{all_none, all_more, all-fails}
 use Rattle.image_rule.specs.Rules.{chains}

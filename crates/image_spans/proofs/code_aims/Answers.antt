@@ -1,7 +1,6 @@
 -- `image_spans::code_aims` meets its contract. Invariant: the targets of the first p instructions are right.
-use Prim.Native.Nat.{◌-◌, ◌<◌}
+use Prim.Native.Nat.{◌<◌}
 use mathlib.Core.Path.{sym, ◌∙◌}
-use mathlib.Core.Bool.{true}
 use native.Mathlib.Omega.{arith}
 use Rattle.words.proofs.CountLaws.{all_none, all_more, all-fails}
 use Rattle.lowering.specs.Words.{instructions}

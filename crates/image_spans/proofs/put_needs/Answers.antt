@@ -1,5 +1,5 @@
 -- `image_spans::put_needs` meets its contract. Invariant: the needs of the first j steps stand there.
-use Prim.Native.Nat.{ℕ, ◌+◌, ◌*◌, ◌-◌}
+use Prim.Native.Nat.{ℕ, ◌+◌, ◌*◌}
 use mathlib.Core.Path.{refl, ap, subst}
 use native.Mathlib.Omega.{arith}
 use lib.ListN.{length-set}

@@ -1,5 +1,4 @@
 -- `image_spans::put_targets` meets its contract. Invariant: the targets of the first j rows stand there.
-use Prim.Native.Nat.{◌-◌}
 use mathlib.Core.Path.{refl}
 use native.Mathlib.Omega.{arith}
 use lib.ListN.{length-set}

@@ -1,5 +1,4 @@
 -- `replay_image::put_words` is safe and ends.
-use Prim.Native.Nat.{◌-◌}
 use Rattle.replay_image.proofs.put_words.Goals as goal
 
 pub shape_of-image : goal.shape_of-image

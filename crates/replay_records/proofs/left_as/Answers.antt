@@ -1,6 +1,4 @@
 -- `replay_records::left_as` meets its contract. Invariant: the first i words are as they must be.
-use Prim.Native.Nat.{◌-◌}
-use mathlib.Core.Bool.{true}
 use mathlib.Core.Path.{sym, ◌∙◌}
 use lib.Dec.{eqb}
 use lib.ListN.{length, get_or}

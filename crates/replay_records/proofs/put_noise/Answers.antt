@@ -1,5 +1,4 @@
 -- `replay_records::put_noise` meets its contract. Invariant: the first i words are noise.
-use Prim.Native.Nat.{◌-◌}
 use mathlib.Core.Path.{refl, ◌∙◌}
 use native.Mathlib.Omega.{arith}
 use lib.ListN.{length-set}

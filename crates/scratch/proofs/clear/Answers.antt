@@ -1,5 +1,4 @@
 -- `scratch::clear` meets its contract. Invariant: the words from `at` to i are 0.
-use Prim.Native.Nat.{◌-◌}
 use mathlib.Core.Path.{refl}
 use native.Mathlib.Omega.{arith}
 use Rattle.scratch.proofs.ClearLaws.{clearing-starts, clearing-goes, clearing-length, clearing-ends}

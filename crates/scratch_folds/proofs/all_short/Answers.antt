@@ -1,7 +1,5 @@
 -- `scratch_folds::all_short` meets its contract. Invariant: each text passed is short.
-use Prim.Native.Nat.{◌-◌}
 use mathlib.Core.Path.{sym}
-use mathlib.Core.Bool.{true}
 use native.Mathlib.Omega.{arith}
 use Rattle.words.proofs.CountLaws.{all_none, all_more}
 use Rattle.scratch_folds.proofs.SumsLaws.{short-by, short-fails, short-passes}

@@ -1,5 +1,4 @@
 -- `scratch_folds::fill_blocks` meets its contract. Invariant: the folds over the blocks passed are written, and h is the last of them.
-use Prim.Native.Nat.{◌-◌}
 use native.Mathlib.Omega.{arith}
 use Rattle.scratch_folds.proofs.SumsLaws.{filling-starts, filling-goes, filling-length, filling-ends}
 use borrow.Author.Rules.{rules}

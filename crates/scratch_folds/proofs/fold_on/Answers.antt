@@ -1,5 +1,4 @@
 -- `scratch_folds::fold_on` meets its contract: four bytes at a time are four steps. Invariant: what is left leads to the whole.
-use Prim.Native.Nat.{◌-◌}
 use mathlib.Core.Path.{◌∙◌}
 use native.Mathlib.Omega.{arith}
 use Rattle.scratch_folds.proofs.HashLaws.{folding-starts, folding-four}

@@ -1,5 +1,4 @@
 -- `scratch_folds::fold_rest` meets its contract. Invariant: what is left leads to the whole.
-use Prim.Native.Nat.{◌-◌}
 use native.Mathlib.Omega.{arith}
 use Rattle.scratch_folds.proofs.HashLaws.{folding-starts, folding-goes, folding-ends}
 use Rattle.scratch_folds.proofs.fold_rest.Goals as goal

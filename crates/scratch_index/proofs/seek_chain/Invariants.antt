@@ -1,5 +1,5 @@
 -- `scratch_index::seek_chain` meets its contract: each step of the loop is a law over plain variables.
-use Rattle.std.proofs.Common.{ℕ, ◌-◌, ◌<◌}
+use Rattle.std.proofs.Common.{ℕ, ◌<◌}
 use Rattle.sheet.specs.Node.{child}
 use Rattle.expr_chains.specs.Same.{RootLocal, same_nodes}
 use Rattle.scratch_index.specs.Consts.{const_slot}

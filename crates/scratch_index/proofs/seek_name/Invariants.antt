@@ -1,5 +1,5 @@
 -- `scratch_index::seek_name` meets its contract: each step of the loop is a law over plain variables.
-use Rattle.std.proofs.Common.{◌-◌, ◌<◌}
+use Rattle.std.proofs.Common.{◌<◌}
 use Rattle.scratch_index.specs.Names.{is_name, name_with, name_hash, name_slot}
 use Rattle.scratch_index.proofs.LookupLaws.{Seeking}
 use Rattle.scratch_index.proofs.seek_name.Given as goal

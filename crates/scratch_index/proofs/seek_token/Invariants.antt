@@ -1,5 +1,5 @@
 -- `scratch_index::seek_token` meets its contract: each step of the loop is a law over plain variables.
-use Rattle.std.proofs.Common.{◌-◌, ◌<◌}
+use Rattle.std.proofs.Common.{◌<◌}
 use Rattle.scratch_index.specs.Consts.{const_slot, same_token_of, token_hash}
 use Rattle.scratch_index.proofs.LookupLaws.{Seeking}
 use Rattle.scratch_index.proofs.seek_token.Given as goal

@@ -1,5 +1,5 @@
 -- `scratch_locals::seek_text` meets its contract: each step of the loop is a law over plain variables.
-use Rattle.std.proofs.Common.{◌-◌, ◌<◌}
+use Rattle.std.proofs.Common.{◌<◌}
 use Rattle.scratch_index.specs.Consts.{const_slot}
 use Rattle.scratch_locals.specs.Pass.{has_text, text_hash}
 use Rattle.scratch_index.proofs.LookupLaws.{Seeking}

@@ -1,5 +1,5 @@
 -- `scratch_locals::settle_all` meets its contract: each turn is a law.
-use Rattle.std.proofs.Common.{◌≡◌, ℕ, ◌-◌, refl, ◌∙◌, subst, arith}
+use Rattle.std.proofs.Common.{◌≡◌, ℕ, refl, ◌∙◌, subst, arith}
 use Rattle.scratch_locals.specs.Pass.{Settling}
 use Rattle.scratch_locals.proofs.settle_all.Goals as goal
 

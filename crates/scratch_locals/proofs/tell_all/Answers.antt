@@ -1,5 +1,5 @@
 -- `scratch_locals::tell_all` meets its contract: each turn is a law.
-use Rattle.std.proofs.Common.{◌≡◌, ℕ, ◌-◌, refl, ◌∙◌, subst, arith}
+use Rattle.std.proofs.Common.{◌≡◌, ℕ, refl, ◌∙◌, subst, arith}
 use Rattle.sheet.specs.Sections.{local_count}
 use Rattle.scratch_locals.specs.Pass.{Telling}
 use Rattle.scratch_locals.proofs.tell_all.Goals as goal

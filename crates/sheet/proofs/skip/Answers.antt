@@ -1,6 +1,6 @@
 -- `sheet::skip` meets its contract. Invariant: what is left to pass from node at on leads where the whole does.
 use Rattle.sheet.proofs.WalkLaws.{skip-more, skip-done}
-use Rattle.std.proofs.Common.{◌-◌, arith}
+use Rattle.std.proofs.Common.{arith}
 use native.Mathlib.Nat.{sub-zero}
 use Rattle.sheet.proofs.skip.Goals as goal
 

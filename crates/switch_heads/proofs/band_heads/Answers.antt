@@ -1,5 +1,4 @@
 -- `switch_heads::band_heads` meets its contract. The invariant is `BandFill`: heads and numbers of the bands passed.
-use Prim.Native.Nat.{◌-◌}
 use Rattle.switch_heads.proofs.BandLaws.{bands-start, bands-old, bands-new, bands-end}
 use Rattle.switch_heads.proofs.band_heads.Goals as goal
 

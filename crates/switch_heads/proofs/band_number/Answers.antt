@@ -1,5 +1,4 @@
 -- `switch_heads::band_number` meets its contract. The invariant is `Looks`: what is left of the heads gives the number.
-use Prim.Native.Nat.{◌-◌}
 use native.Mathlib.Omega.{arith}
 use Rattle.switch_tables.specs.Table.{piece_in}
 use Rattle.switch_heads.proofs.SearchLaws.{looks-start, looks-found, looks_on, looks-past, looks-end, told}

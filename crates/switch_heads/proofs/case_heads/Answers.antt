@@ -1,5 +1,4 @@
 -- `switch_heads::case_heads` meets its contract. The invariant is `CaseFill`: heads and numbers of the cases passed.
-use Prim.Native.Nat.{◌-◌}
 use Rattle.switch_heads.proofs.CaseLaws.{cases-start, cases-old, cases-new, cases_end}
 use Rattle.switch_heads.proofs.case_heads.Goals as goal
 

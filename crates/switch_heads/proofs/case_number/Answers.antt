@@ -1,5 +1,4 @@
 -- `switch_heads::case_number` meets its contract. The invariant is `Looks`: what is left of the heads gives the number.
-use Prim.Native.Nat.{◌-◌}
 use Rattle.switch_heads.proofs.SearchLaws.{looks-start, looks-found, looks_on, looks-past, looks-end}
 use Rattle.switch_heads.proofs.case_number.Goals as goal
 

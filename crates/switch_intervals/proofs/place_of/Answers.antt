@@ -1,5 +1,4 @@
 -- `switch_intervals::place_of` meets its contract. The invariant is `Finding`: the place is from lo to hi. The measure is their distance.
-use Prim.Native.Nat.{◌-◌}
 use mathlib.Core.Path.{◌∙◌}
 use native.Mathlib.Omega.{arith}
 use Rattle.switch_split.specs.Held.{held}

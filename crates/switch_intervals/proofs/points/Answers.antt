@@ -1,5 +1,4 @@
 -- `switch_intervals::points` meets its contract. The invariant is `Pointing`: the end points of the ranges passed stand in the array.
-use Prim.Native.Nat.{◌-◌}
 use native.Mathlib.Omega.{arith}
 use borrow.Author.Rules.{rules, sfits_of}
 use Rattle.switch_intervals.proofs.FirstLaws.{pointing-start, pointing-on, pointing-end}

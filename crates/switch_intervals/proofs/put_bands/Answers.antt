@@ -1,6 +1,5 @@
 -- `switch_intervals::put_bands` meets its contract. The invariant is `Joins`: the bands that end before the
 -- piece are there, with their hashes.
-use Prim.Native.Nat.{◌-◌}
 use native.Mathlib.Omega.{arith}
 use Rattle.switch_intervals.proofs.JoiningLaws.{closed-most, joins-start, joins-step, joins-still, joins-end}
 use Rattle.switch_intervals.proofs.put_bands.Goals as goal

@@ -1,5 +1,4 @@
 -- `switch_intervals::put_cuts` meets its contract. The invariant is `Cutting`: the words of the cuts passed stand in the table.
-use Prim.Native.Nat.{◌-◌}
 use native.Mathlib.Omega.{arith}
 use Rattle.switch_intervals.proofs.CutsLaws.{cutting-start, cutting-on, cutting-end}
 use Rattle.switch_intervals.proofs.put_cuts.Goals as goal

@@ -1,5 +1,4 @@
 -- `switch_intervals::put_spans` meets its contract. The invariant is `Spanning`: the ranges passed stand in the table, and are marked.
-use Prim.Native.Nat.{◌-◌}
 use native.Mathlib.Omega.{arith}
 use Rattle.switch_split.proofs.HeldLaws.{held-length}
 use Rattle.switch_intervals.proofs.SpanLaws.{spanning-start, spanning-on, spanning-end}

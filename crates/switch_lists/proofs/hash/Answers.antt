@@ -1,5 +1,4 @@
 -- `switch_lists::hash` meets its contract. The invariant is `Mixing`: what is left of the list gives the whole hash.
-use Prim.Native.Nat.{◌-◌}
 use native.Mathlib.Omega.{arith}
 use Rattle.switch_lists.proofs.HashLaws.{mixing-start, mixing-on, mixing-end}
 use Rattle.switch_lists.proofs.hash.Goals as goal

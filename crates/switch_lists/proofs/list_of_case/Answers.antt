@@ -1,7 +1,7 @@
 -- `switch_lists::list_of_case` meets its contract. The invariant is `Reading`: the blocks of the Refs passed are there.
 use Prim.Native.Nat.{◌-◌}
 use native.Mathlib.Omega.{arith}
-use Rattle.sheet.specs.Node.{field_a, count}
+use Rattle.sheet.specs.Node.{count}
 use Rattle.lowering.specs.SwitchSheet.{case_blocks}
 use Rattle.switch_tables.proofs.NodesLaws.{blocks_from}
 use Rattle.switch_lists.proofs.ReadLaws.{reading-start, reading-on, reading-end}

@@ -1,6 +1,5 @@
 -- `switch_lists::list_of_piece` meets its contract. The invariant is `Listing`: the blocks of the intervals passed
 -- that cover the piece are there.
-use Prim.Native.Nat.{◌-◌}
 use native.Mathlib.Omega.{arith}
 use Rattle.switch_lists.proofs.SpanLaws.{listing_start, listing-yes, listing-no, listing-end}
 use Rattle.switch_lists.proofs.list_of_piece.Goals as goal

@@ -1,5 +1,4 @@
 -- `switch_lists::same_front` meets its contract. The invariant: the lists agree at each index passed.
-use Prim.Native.Nat.{◌-◌}
 use mathlib.Core.Path.{sym, ◌∙◌}
 use native.Mathlib.Omega.{arith}
 use borrow.Author.Count.{below_more}

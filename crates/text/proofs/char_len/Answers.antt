@@ -1,6 +1,6 @@
 -- `text::char_len` meets its contract. The loop's invariant: what is left to read, the tail bytes from k on, gives the length.
 -- Assumes nothing.
-use Prim.Native.Nat.{◌+◌, ◌-◌}
+use Prim.Native.Nat.{◌+◌}
 use mathlib.Core.Path.{sym, ◌∙◌}
 use native.Mathlib.Omega.{arith}
 use Rattle.text.proofs.CharLaws.{char-past, char-start, char-short, char-next, char-low, char-high, char-done}

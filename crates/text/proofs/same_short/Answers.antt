@@ -1,5 +1,4 @@
 -- `text::same_short` meets its contract. The loop's invariant: the strings agree at each index passed. Assumes nothing.
-use Prim.Native.Nat.{◌-◌}
 use mathlib.Core.Path.{sym}
 use borrow.Author.Count.{below_more}
 use native.Mathlib.Omega.{arith}

@@ -1,5 +1,4 @@
 -- `text::same_start` meets its contract. The loop's invariant: the strings agree below i. Assumes nothing.
-use Prim.Native.Nat.{◌-◌}
 use mathlib.Core.Path.{sym, ◌∙◌}
 use native.Mathlib.Omega.{arith}
 use Rattle.text.proofs.EightLaws.{bytes_of, agree-none, agree-block}

@@ -1,7 +1,6 @@
 -- `write_rows::case_rows` meets its contract. Invariant: the first i rows are there.
 use Rattle.write_rows.proofs.Filled.{filled-start, filled_next, filled-end}
 use Rattle.write_rows.proofs.RowLaws.{case-two, case-words}
-use Prim.Native.Nat.{◌-◌}
 use native.Mathlib.Omega.{arith}
 use Rattle.write_rows.proofs.case_rows.Goals as goal
 

@@ -1,7 +1,6 @@
 -- `write_rows::range_rows` meets its contract. Invariant: the first i rows are there.
 use Rattle.write_rows.proofs.Filled.{filled-start, filled_next, filled-end}
 use Rattle.write_rows.proofs.RowLaws.{range-six}
-use Prim.Native.Nat.{◌-◌}
 use native.Mathlib.Omega.{arith}
 use Rattle.write_rows.proofs.range_rows.Goals as goal
 

@@ -1,6 +1,6 @@
 -- `write_sections::chains` meets its contract. Invariant: the first i rows are the chains of the first i nodes, and
 -- first is how many steps they have.
-use Prim.Native.Nat.{◌+◌, ◌-◌}
+use Prim.Native.Nat.{◌+◌}
 use mathlib.Core.Path.{refl, sym, ap₂, ◌∙◌}
 use Rattle.write_sections.specs.Written.{Written}
 use Rattle.write_sections.proofs.PutLaws.{written_none}

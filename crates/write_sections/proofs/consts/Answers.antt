@@ -1,5 +1,4 @@
 -- `write_sections::consts` meets its contract. Invariant: the first i rows are the constants of the first i nodes.
-use Prim.Native.Nat.{◌-◌}
 use mathlib.Core.Path.{refl, ◌∙◌}
 use Rattle.write_sections.proofs.PutLaws.{written_none}
 use Rattle.lowering.specs.Image.{section}

@@ -1,10 +1,8 @@
 -- `write_sections::copy` meets its contract. Invariant: the first i words are those of the source.
-use Prim.Native.Nat.{◌-◌}
 use mathlib.Core.Path.{refl}
 use Rattle.write_sections.proofs.PutLaws.{written_none, written-length}
 use Rattle.write_sections.proofs.RowLaws.{copy-next, copy-end}
 use native.Mathlib.Omega.{arith}
-use Prim.Native.Nat.{◌-◌}
 use Rattle.write_sections.proofs.copy.Goals as goal
 
 pub loop-i-init : goal.loop-i-init

@@ -1,11 +1,9 @@
 -- `write_sections::tokens` meets its contract. Invariant: the first i words are the tokens of the first i nodes.
-use Prim.Native.Nat.{◌-◌}
 use mathlib.Core.Path.{refl}
 use Rattle.write_sections.proofs.PutLaws.{written_none, written-length}
 use Rattle.sheet.specs.Node.{field_c}
 use Rattle.write_sections.proofs.RowLaws.{map_next, map-end}
 use native.Mathlib.Omega.{arith}
-use Prim.Native.Nat.{◌-◌}
 use Rattle.write_sections.proofs.tokens.Goals as goal
 
 pub loop-i-init : goal.loop-i-init

@@ -1,5 +1,4 @@
 -- `zeros::zero` meets its contract. Invariant: the first i words are zero, and the rest is as it was.
-use Prim.Native.Nat.{◌-◌}
 use mathlib.Core.Path.{refl, ◌∙◌}
 use native.Mathlib.Omega.{arith}
 use lib.ListN.{length-set}
