@@ -10,8 +10,7 @@ use Rattle.refusals.proofs.RefusalLaws.{number-some, own-number}
 use native.Mathlib.Omega.{arith}
 use lib.ListN.{length}
 use Rattle.lowering.specs.Outcome.{Outcome, refused, image, outcome}
-use Rattle.needs.specs.declared.Need.{Need}
-use Rattle.needs.specs.Needed.{need_number, words_of, needed}
+use Rattle.needs.specs.Needed.{need_number, words_of, needed, Need}
 use Rattle.needs.specs.Means.{Means, refuses, asks}
 use Rattle.needs.proofs.NeedLaws.{means}
 use Rattle.to_image.specs.Answer as answers

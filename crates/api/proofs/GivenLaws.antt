@@ -2,8 +2,7 @@
 use Prim.Native.Nat.{ℕ}
 use mathlib.Core.Path.{◌≡◌, ap, ◌∙◌}
 use mathlib.Core.List.{List}
-use Rattle.to_image.specs.declared.Answer.{Answer}
-use Rattle.to_image.specs.Answer.{answer_number, words_of, Answers}
+use Rattle.to_image.specs.Answer.{answer_number, words_of, Answers, Answer}
 use Rattle.api.specs.Given.{Given}
 
 pub given : (s xs ys : List ℕ) (r : Answer) (xs' ys' : List ℕ) (number words : ℕ) → Answers s xs ys r xs' ys'

@@ -7,9 +7,10 @@ ghost use Rattle.api.specs.Given.{Given};
 ghost use Rattle.api.specs.Asked.{Asked};
 ghost use Rattle.api.specs.Judged.{Judged};
 
+use checks::check;
 use image_check::check_image;
-use needs::{Need, needs};
-use refusals::refusal_number;
+use needs::needs;
+use refusals::number;
 use to_image::lower;
 
 // The number of the first refusal among 1 to 8 that fits the bytes of `sheet`, or 0.
@@ -17,7 +18,7 @@ use to_image::lower;
 pub extern "C" fn sheet_check(sheet: &[u8]) -> u32
     ensures { result ≡ verdict_number (checked sheet.now) }
 {
-    checks::number(checks::check(sheet))
+    number(&check(sheet))
 }
 
 // What `sheet` needs before buffers are lent: 0, and `words` gets the words of scratch that its lowering asks for; or the number of the
@@ -26,16 +27,9 @@ pub extern "C" fn sheet_check(sheet: &[u8]) -> u32
 pub extern "C" fn sheet_needs(sheet: &[u8], words: &mut u64) -> u32
     ensures { Asked sheet.now result words.new }
 {
-    match needs(sheet) {
-        Need::Scratch { words: count } => {
-            *words = count;
-            0
-        }
-        Need::Refused { by } => {
-            *words = 0;
-            refusal_number(by)
-        }
-    }
+    let need = needs(sheet);
+    *words = need.unwrap_or(0);
+    number(&need)
 }
 
 // Lowers `sheet` into `image`: 0, or the number of the first refusal among 1 to 12 that fits. `words` gets the image's
@@ -51,8 +45,8 @@ pub extern "C" fn sheet_lower(
         scratch.new }
 {
     let a = lower(sheet, image, scratch);
-    *words = to_image::words(a) as u64;
-    to_image::number(a)
+    *words = a.unwrap_or(0) as u64;
+    number(&a)
 }
 
 // Whether `image`, exactly its words, is well made for `sheet`: 0, or the first that fits of the sheet's refusals 1 to 8, 11 for a scratch
@@ -61,5 +55,5 @@ pub extern "C" fn sheet_lower(
 pub extern "C" fn sheet_check_image(sheet: &[u8], image: &[u32], scratch: &mut [u32]) -> u32
     ensures { Judged sheet.now image.now scratch.old result scratch.new }
 {
-    checks::number(check_image(sheet, image, scratch))
+    number(&check_image(sheet, image, scratch))
 }

@@ -1,2 +1,3 @@
 -- Laws of the table of effects.
 pub mod TableLaws
+pub mod CodedLaws

@@ -3,3 +3,4 @@ pub mod Chain
 pub mod Switch
 pub mod Effect
 pub mod Table
+pub mod Coded

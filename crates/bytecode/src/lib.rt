@@ -3,7 +3,7 @@
 
 mod table;
 
-pub use table::{counted, effects, entry, kept};
+pub use table::{Effect, Flow, Top, counted, effect_of, effects, entry, kept};
 
 // Where CallRef finds the variable that it calls through.
 #[derive(Clone, Copy)]

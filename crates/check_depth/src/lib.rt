@@ -5,7 +5,7 @@ ghost use Rattle.std.specs.Prelude.{◌≡◌};
 ghost use Rattle.check_depth.specs.Depth as depths;
 
 use sheet::limits::MAX_DEPTH;
-use sheet::{child, count, next};
+use sheet::{Siblings, child, count};
 
 // The subtree of node `n` has at most `left` levels.
 fn within(left: u32, sheet: &[u8], n: u32) -> bool
@@ -14,14 +14,8 @@ fn within(left: u32, sheet: &[u8], n: u32) -> bool
     if left == 0 {
         return false;
     }
-    let m = count(sheet, n);
-    let mut i: u32 = 0;
-    let mut j = child(n);
-    while i < m {
-        if within(left - 1, sheet, j) {
-            j = next(sheet, j);
-            i += 1;
-        } else {
+    for j in Siblings::new(sheet, count(sheet, n), child(n)) {
+        if !within(left - 1, sheet, j) {
             return false;
         }
     }

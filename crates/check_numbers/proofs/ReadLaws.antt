@@ -1,18 +1,15 @@
 -- Laws of the numbers' checks on what the code has read, each in the form of one answer.
-use Prim.Native.Nat.{ℕ, ◌+◌, ◌^◌, ◌<◌, ◌≤◌}
-use mathlib.Core.Path.{◌≡◌, ap, ap₂, sym, subst, ◌∙◌}
+use Prim.Native.Nat.{ℕ, ◌<◌, ◌≤◌}
+use mathlib.Core.Path.{◌≡◌, ap, sym, subst, ◌∙◌}
 use mathlib.Core.Bool.{Bool, true, false, ◌&&◌, ◌||◌, not}
 use mathlib.Core.List.{List}
 use native.Mathlib.Omega.{arith}
-use mir.Syntax.{w32}
-use mir.Val.{Fits}
 use lib.Dec.{leb, ltb, eqb}
 use Rattle.words.specs.Count.{all_below}
 use Rattle.words.proofs.CountLaws.{all-fails}
-use Rattle.sheet.specs.Sections.{text_count}
 use Rattle.sheet.specs.Node.{kind, field_a, field_b, field_c}
 use Rattle.sheet.specs.Kinds.{property_kind, switch_kind, range_kind, ref_kind}
-use Rattle.check_numbers.specs.Numbers.{names_text, exist, number_by, number_among, number_ok}
+use Rattle.check_numbers.specs.Numbers.{names_text, exist, number_by, number_among}
 
 -- the tests of a node's numbers, where r says whether it names a text
 pub exist-read : (X K k a b c : ℕ) {r : Bool} → r ≡ names_text k
@@ -30,15 +27,6 @@ pub among-read : (s : List ℕ) (X K n : ℕ) {k a b c : ℕ} {r : Bool} → k �
     → r ≡ exist X K k a b c → r ≡ number_among s X K n
 unfolding number_by
 among-read s X K n hk ha hb hc h = cc
-
--- and on the sheet's counts as they were read
-pub number_read : (s : List ℕ) (n : ℕ) {X K : ℕ} {r : Bool} → X ≡ text_count s → K ≡ field_a s 0 → r ≡ number_among s X K n → r ≡ number_ok s n
-number_read s n hX hK h = h ∙ ap₂ (λ X K. number_among s X K n) hX hK
-
--- a loop's counter, where the test was passed
-module _ {i m : ℕ} (h : i < m) where
-  pub one-fits : m < 2 ^ 32 → Fits w32 (i + 1)
-  one-fits f = omega arith
 
 -- A test of each number below m, which was read as the count k.
 module _ (f : ℕ → Bool) {m k : ℕ} (read : m ≡ k) where

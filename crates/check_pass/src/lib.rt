@@ -14,57 +14,41 @@ ghost use Rattle.check_pass.specs.Words as words;
 use check_shape::{BOUNDS, child_kind, own_rule, root_ok, scalar};
 use sheet::kinds::{CHAR, FN_CALL, LAST_KIND, SWITCH};
 use sheet::limits::{HEADER_WORDS, NODE_WORDS};
-use sheet::{field_a, field_b, node_count, text_count};
+use sheet::{Node, field_a, field_b, node_count, text_count};
 use text::is_curry;
 use words::whole;
 
 // any 32-bit word
 const ANY: u32 = 0xffff_ffff;
 
-// The six words of a node.
-#[derive(Clone, Copy)]
-struct Six {
-    k: u32,
-    w: u32,
-    m: u32,
-    a: u32,
-    b: u32,
-    c: u32,
-}
-
-// The words of node `n`, which the string has.
-fn node(sheet: &[u8], n: u32) -> Six
+// Node `n`, which the string has.
+fn node(sheet: &[u8], n: u32) -> Node
     requires { 24 * n + 39 < length sheet.now }
-    ensures { words.NodeIs sheet.now n result.k result.w result.m result.a result.b result.c }
+    ensures { words.NodeIs sheet.now n result.kind result.span result.count result.a result.b result.c }
 {
     let at = HEADER_WORDS + NODE_WORDS * (n as usize);
-    let k = whole(sheet, at);
-    let w = whole(sheet, at + 1);
-    let m = whole(sheet, at + 2);
-    let a = whole(sheet, at + 3);
-    let b = whole(sheet, at + 4);
-    let c = whole(sheet, at + 5);
-    Six { k, w, m, a, b, c }
+    Node {
+        kind: whole(sheet, at),
+        span: whole(sheet, at + 1),
+        count: whole(sheet, at + 2),
+        a: whole(sheet, at + 3),
+        b: whole(sheet, at + 4),
+        c: whole(sheet, at + 5),
+    }
 }
 
 // 1 where there are none of `x`.
 fn none(x: u32) -> u32
     ensures { result ≡ limit.none x }
 {
-    if x == 0 {
-        return 1;
-    }
-    0
+    u32::from(x == 0)
 }
 
 // The last of `x` numbers.
 fn last(x: u32) -> u32
     ensures { result ≡ limit.last x }
 {
-    if x == 0 {
-        return 0;
-    }
-    x - 1
+    x.saturating_sub(1)
 }
 
 // Any word, 0 where there are none of `x`.
@@ -121,15 +105,20 @@ fn limits(x: u32, blocks: u32) -> [u32; 130]
     t
 }
 
-// Count and fields are within the row of kind `k` in the table `t`.
-fn row_ok(t: &[u32; 130], k: u32, m: u32, a: u32, b: u32, c: u32) -> bool
-    ensures { result ≡ true → limit.Row t.now k m a b c }
+// Count and fields of node `v` are within the row of its kind in the table `t`.
+fn row_ok(t: &[u32; 130], v: Node) -> bool
+    ensures { result ≡ true → limit.Row t.now v.kind v.count v.a v.b v.c }
 {
+    let k = v.kind;
     if LAST_KIND < k {
         return false;
     }
     let at = 5 * (k as usize);
-    (t[at] <= m) & (m <= t[at + 1]) & (a <= t[at + 2]) & (b <= t[at + 3]) & (c <= t[at + 4])
+    (t[at] <= v.count)
+        & (v.count <= t[at + 1])
+        & (v.a <= t[at + 2])
+        & (v.b <= t[at + 3])
+        & (v.c <= t[at + 4])
 }
 
 // Text `a` is not `curry`.
@@ -139,26 +128,30 @@ fn named_ok(sheet: &[u8], a: u32) -> bool
     !is_curry(sheet::text(sheet, a))
 }
 
-// A node of kind `k` with `m` children is no FnCall `curry` with over one argument.
-fn call_ok(sheet: &[u8], k: u32, m: u32, a: u32) -> bool
-    ensures { result ≡ true → limit.Called sheet.now k m a }
+// Node `v` is no FnCall `curry` with over one argument.
+fn call_ok(sheet: &[u8], v: Node) -> bool
+    ensures { result ≡ true → limit.Called sheet.now v.kind v.count v.a }
 {
+    let k = v.kind;
+    let m = v.count;
     if (k == FN_CALL) & (1 < m) {
-        return named_ok(sheet, a);
+        return named_ok(sheet, v.a);
     }
     true
 }
 
 // What the words of a node other than the root show by themselves. `named_ok` is called here and in `call_ok`, so that it is not drawn in.
-fn own_ok(t: &[u32; 130], sheet: &[u8], k: u32, m: u32, a: u32, b: u32, c: u32) -> bool
-    ensures { result ≡ true → limit.Own t.now sheet.now k m a b c }
+fn own_ok(t: &[u32; 130], sheet: &[u8], v: Node) -> bool
+    ensures { result ≡ true → limit.Own t.now sheet.now v.kind v.count v.a v.b v.c }
 {
-    if row_ok(t, k, m, a, b, c) {
+    let k = v.kind;
+    let m = v.count;
+    if row_ok(t, v) {
         if k == CHAR {
-            return scalar(a);
+            return scalar(v.a);
         }
         if (k == FN_CALL) & (1 < m) {
-            return named_ok(sheet, a);
+            return named_ok(sheet, v.a);
         }
         return true;
     }
@@ -175,12 +168,13 @@ fn child_ok(p: u32, a: u32, b: u32, i: u32, k: u32) -> bool
     child_kind(p, a, b, i, k)
 }
 
-// A node of kind `k` and span `w` may stand at `j`, as child `i` of a node of kind `p` with fields `a` and `b` that ends at `e`.
-fn child_words(p: u32, a: u32, b: u32, e: u32, i: u32, j: u32, k: u32, w: u32) -> bool
-    ensures { result ≡ true → shapes.child_words p a b e i j k w ≡ true }
+// Node `v` may stand at `j`, as child `i` of a node of kind `p` with fields `a` and `b` that ends at `e`.
+fn child_words(p: u32, a: u32, b: u32, e: u32, i: u32, j: u32, v: Node) -> bool
+    ensures { result ≡ true → shapes.child_words p a b e i j v.kind v.span ≡ true }
 {
+    let w = v.span;
     let end = (j as u64) + (w as u64);
-    (1 <= w) & (end <= (e as u64)) & child_ok(p, a, b, i, k)
+    (1 <= w) & (end <= (e as u64)) & child_ok(p, a, b, i, v.kind)
 }
 
 // The pass. The innermost open node is `p`; its kind, count, place and end are in `k`, `m`, `i` and `e`; node `n` is next; `d` nodes are
@@ -202,24 +196,24 @@ fn pass(sheet: &[u8]) -> bool
     let mut places = [0u32; 64];
     let r = node(sheet, 0);
     let mut p: u32 = 0;
-    let mut k = r.k;
-    let mut m = r.m;
-    let mut e = r.w;
+    let mut k = r.kind;
+    let mut m = r.count;
+    let mut e = r.span;
     let mut i: u32 = 0;
     let mut n: u32 = 1;
     let mut d: usize = 0;
-    let row = row_ok(&table, r.k, r.m, r.a, r.b, r.c);
-    if (e == total) & row & own_rule(r.k, r.m, r.a, r.b) & call_ok(sheet, r.k, r.m, r.a) {
+    let row = row_ok(&table, r);
+    if (e == total) & row & own_rule(r.kind, r.count, r.a, r.b) & call_ok(sheet, r) {
         loop {
             if i < m {
                 if e <= n {
                     return false;
                 }
                 let v = node(sheet, n);
-                if child_words(k, blocks, cases, e, i, n, v.k, v.w) {
-                    if own_ok(&table, sheet, v.k, v.m, v.a, v.b, v.c) {
-                        if v.m == 0 {
-                            if v.w != 1 {
+                if child_words(k, blocks, cases, e, i, n, v) {
+                    if own_ok(&table, sheet, v) {
+                        if v.count == 0 {
+                            if v.span != 1 {
                                 return false;
                             }
                             i += 1;
@@ -232,10 +226,10 @@ fn pass(sheet: &[u8]) -> bool
                             places[d] = i + 1;
                             d += 1;
                             p = n;
-                            k = v.k;
-                            m = v.m;
+                            k = v.kind;
+                            m = v.count;
                             i = 0;
-                            e = n + v.w;
+                            e = n + v.span;
                             n += 1;
                         }
                     } else {
@@ -255,9 +249,9 @@ fn pass(sheet: &[u8]) -> bool
                 p = nodes[d];
                 i = places[d];
                 let v = node(sheet, p);
-                k = v.k;
-                m = v.m;
-                e = p + v.w;
+                k = v.kind;
+                m = v.count;
+                e = p + v.span;
             }
         }
     }

@@ -3,8 +3,7 @@
 use Rattle.std.specs.Prelude.{ℕ, List, get_or, drop}
 use Rattle.sheet.specs.Limits.{header_words, node_words}
 use Rattle.check_shape.specs.Kinds.{bound_words, bounds}
-use Rattle.checks.specs.declared.Verdict.{Verdict}
-use Rattle.checks.specs.Checked.{verdict_number, checked_by}
+use Rattle.checks.specs.Checked.{Verdict, verdict_number, checked_by}
 use Rattle.checks.specs.Compute.{opened_by}
 use Rattle.check_quick.specs.Parts.{words_of, parts, among}
 

@@ -8,14 +8,12 @@ use native.Mathlib.Omega.{arith}
 use mir.Syntax.{w32}
 use mir.Val.{Fits}
 use lib.Dec.{leb, eqb}
-use Rattle.words.specs.Count.{all_below}
-use Rattle.words.proofs.CountLaws.{all-fails}
 use Rattle.sheet.specs.Sections.{node_count}
 use Rattle.sheet.specs.Node.{kind, span, count, field_a, field_b, field_c}
 use Rattle.sheet.specs.Kinds.{switch_kind, last_kind}
 use Rattle.check_shape.specs.Kinds.{least_count, most_count, most_a, most_b, most_c, bound, expression, child_kind}
-use Rattle.check_shape.specs.Shape.{within_bounds_by, self_by, child_words, root_by, nodes_by}
-use Rattle.check_shape.specs.Shape.{within_bounds, own_rule, child_fits, tiles, self_fits, self_ok, node_ok, root_ok, nodes_ok}
+use Rattle.check_shape.specs.Shape.{within_bounds_by, self_by, child_words, root_by}
+use Rattle.check_shape.specs.Shape.{within_bounds, own_rule, child_fits, tiles, self_fits, self_ok, node_ok, root_ok}
 use Rattle.check_shape.proofs.ShapeLaws.{fits-end, self-end, self-some, node-self, node-fails, tiles_more, tiles-fails, tiles-done}
 
 -- what is no greater than a word is a word
@@ -97,15 +95,3 @@ module _ (s : List ℕ) (n e m : ℕ) where
 
   pub walk-done : (i j : ℕ) {r : Bool} → m ≤ i → tiles (m - i) s n e i j ≡ r → eqb j e ≡ r
   walk-done i j h q = sym (tiles-done s n e m i j h) ∙ q
-
--- Every node below n is right.
-module _ (s : List ℕ) where
-  pub nodes-not : (m n : ℕ) {r : Bool} → m ≡ node_count s → n < m → r ≡ node_ok s n → r ≡ false → false ≡ nodes_ok s
-  unfolding nodes_by
-  nodes-not m n e h q f = sym (all-fails (node_ok s) (node_count s) n (omega arith) (sym q ∙ f))
-
-  pub nodes-all : (m n : ℕ) → m ≡ node_count s → n ≤ m → m ≤ n → all_below n (node_ok s) ≡ true → true ≡ nodes_ok s
-  unfolding nodes_by
-  nodes-all m n e g h q =
-      let same : node_count s ≡ n = omega arith in
-      sym (ap (λ k. all_below k (node_ok s)) same ∙ q)

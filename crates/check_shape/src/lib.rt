@@ -8,13 +8,13 @@ ghost use Rattle.check_shape.specs.Kinds as kinds;
 ghost use Rattle.check_shape.specs.Shape as shape;
 
 use sheet::kinds::{BOOL, CASE, CHAR, COALESCE, INT, LAST_KIND, MAP, RANGE, REF, STRING, SWITCH};
-use sheet::{count, field_a, field_b, field_c, kind, node_count, span};
+use sheet::{Node, kind, node_count, span};
 
 // any 32-bit word
 const ANY: u32 = 0xffff_ffff;
 
 // For each kind from 0 on: the least and the greatest count of children, and the greatest a, b and c. Kind 0 is no kind.
-pub const BOUNDS: [u32; 130] = [
+pub static BOUNDS: [u32; 130] = [
     1, 0, 0, 0, 0, 0, 0, 1, 0, 0, 0, 0, 0, 0, 0, 0, 0, ANY, ANY, 0, 0, 0, ANY, ANY, 0, 0, 0, ANY,
     0, 0, 0, 0, ANY, 0, 0, 0, ANY, 0, 0, 0, 0, ANY, 0, 0, 0, 0, 0, ANY, 0, 0, 0, 0, 0, 0, 0, 0, 0,
     ANY, ANY, ANY, 0, ANY, ANY, 0, 0, 0, ANY, ANY, 1, 65535, 2, 2, 3, 0, 0, 2, 2, 3, 0, 0, 1, ANY,
@@ -35,13 +35,12 @@ const MOST_B: u32 = 3;
 
 const MOST_C: u32 = 4;
 
-// Bound `f` of kind `k` in the table `t`. The table is lent, since a constant array is built anew wherever it is named.
-fn bound(t: &[u32; 130], k: u32, f: u32) -> u32
-    requires { t.now ≡ kinds.bounds }
+// Bound `f` of kind `k`.
+fn bound(k: u32, f: u32) -> u32
     ensures { result ≡ kinds.bound k f }
 {
     let at = BOUND_WORDS * (k as usize) + (f as usize);
-    if at < 130 { t[at] } else { 0 }
+    BOUNDS.get(at).copied().unwrap_or(0)
 }
 
 // A Unicode scalar value.
@@ -106,23 +105,23 @@ pub fn child_kind(p: u32, a: u32, b: u32, i: u32, k: u32) -> bool
     expression(k)
 }
 
-// The fields of a node of kind `k`, with `m` children, are within the kind's bounds.
-fn within_bounds(t: &[u32; 130], k: u32, m: u32, a: u32, b: u32, c: u32) -> bool
-    requires { t.now ≡ kinds.bounds }
-    ensures { result ≡ shape.within_bounds k m a b c }
+// The count and fields of node `v` are within its kind's bounds.
+fn within_bounds(v: Node) -> bool
+    ensures { result ≡ shape.within_bounds v.kind v.count v.a v.b v.c }
 {
-    let least = bound(t, k, LEAST_COUNT);
-    let most = bound(t, k, MOST_COUNT);
-    let most_a = bound(t, k, MOST_A);
-    let most_b = bound(t, k, MOST_B);
-    let most_c = bound(t, k, MOST_C);
+    let k = v.kind;
+    let least = bound(k, LEAST_COUNT);
+    let most = bound(k, MOST_COUNT);
+    let most_a = bound(k, MOST_A);
+    let most_b = bound(k, MOST_B);
+    let most_c = bound(k, MOST_C);
     (1 <= k)
         & (k <= LAST_KIND)
-        & (least <= m)
-        & (m <= most)
-        & (a <= most_a)
-        & (b <= most_b)
-        & (c <= most_c)
+        & (least <= v.count)
+        & (v.count <= most)
+        & (v.a <= most_a)
+        & (v.b <= most_b)
+        & (v.c <= most_c)
 }
 
 // A Char is a scalar value, and a Switch has a subject, its blocks and its cases.
@@ -141,68 +140,49 @@ pub fn root_ok(sheet: &[u8]) -> bool
     (expression(k) | (k == SWITCH)) & (span(sheet, 0) == node_count(sheet))
 }
 
-// Node `j` may be child `i` of a node of kind `p` with fields `a` and `b`, and its subtree ends at `e` or before.
-fn child_ok(sheet: &[u8], p: u32, a: u32, b: u32, e: u32, i: u32, j: u32) -> bool
-    ensures { result ≡ shape.child_fits sheet.now p a b e i j }
+// Node `j` may be child `i` of node `p`, and its subtree ends at `e` or before.
+fn child_ok(sheet: &[u8], p: Node, e: u32, i: u32, j: u32) -> bool
+    ensures { result ≡ shape.child_fits sheet.now p.kind p.a p.b e i j }
 {
     let w = span(sheet, j);
     let end = (j as u64) + (w as u64);
-    (1 <= w) & (end <= (e as u64)) & child_kind(p, a, b, i, kind(sheet, j))
+    (1 <= w) & (end <= (e as u64)) & child_kind(p.kind, p.a, p.b, i, kind(sheet, j))
 }
 
-// The children of node `n` tile the nodes from behind it up to `e`. Its kind, count and fields a and b are handed over.
-fn tiles(sheet: &[u8], n: u32, p: u32, m: u32, a: u32, b: u32, e: u32) -> bool
-    requires p_value { (p ≡ nodes.kind sheet.now n) × (m ≡ nodes.count sheet.now n) }
-    requires a_value { (a ≡ nodes.field_a sheet.now n) × (b ≡ nodes.field_b sheet.now n) }
+// The children of node `n`, which was read as `v`, tile the nodes from behind it up to `e`.
+fn tiles(sheet: &[u8], n: u32, v: Node, e: u32) -> bool
+    requires p_value { (v.kind ≡ nodes.kind sheet.now n) × (v.count ≡ nodes.count sheet.now n) }
+    requires a_value { (v.a ≡ nodes.field_a sheet.now n) × (v.b ≡ nodes.field_b sheet.now n) }
     requires n_bound { n + 1 ≤ e }
     ensures { result ≡ shape.tiles (nodes.count sheet.now n) sheet.now n e 0 (n + 1) }
 {
-    let mut i: u32 = 0;
     let mut j: u32 = n + 1;
-    while i < m {
-        if child_ok(sheet, p, a, b, e, i, j) {
-            j += span(sheet, j);
-            i += 1;
-        } else {
+    for i in 0..v.count {
+        if !child_ok(sheet, v, e, i, j) {
             return false;
         }
+        j += span(sheet, j);
     }
     j == e
 }
 
-// Node `n` is right by itself, with its span and fields as handed over, and its subtree lies within `total` nodes.
-fn self_ok(
-    t: &[u32; 130],
-    n: u32,
-    k: u32,
-    w: u32,
-    m: u32,
-    a: u32,
-    b: u32,
-    c: u32,
-    total: u32,
-) -> bool
-    requires { t.now ≡ kinds.bounds }
-    ensures { result ≡ shape.self_fits n k w m a b c total }
+// Node `n`, which was read as `v`, is right by itself, and its subtree lies within `total` nodes.
+fn self_ok(n: u32, v: Node, total: u32) -> bool
+    ensures { result ≡ shape.self_fits n v.kind v.span v.count v.a v.b v.c total }
 {
+    let w = v.span;
     let end = (n as u64) + (w as u64);
-    within_bounds(t, k, m, a, b, c) & own_rule(k, m, a, b) & (1 <= w) & (end <= (total as u64))
+    within_bounds(v) & own_rule(v.kind, v.count, v.a, v.b) & (1 <= w) & (end <= (total as u64))
 }
 
 // Node `n` of `total` is right, and so are its children's places.
-fn node_ok(t: &[u32; 130], sheet: &[u8], n: u32, total: u32) -> bool
-    requires t_value { t.now ≡ kinds.bounds }
-    requires total_value { total ≡ node_count sheet.now }
+fn node_ok(sheet: &[u8], n: u32, total: u32) -> bool
+    requires { total ≡ node_count sheet.now }
     ensures { result ≡ shape.node_ok sheet.now n }
 {
-    let k = kind(sheet, n);
-    let w = span(sheet, n);
-    let m = count(sheet, n);
-    let a = field_a(sheet, n);
-    let b = field_b(sheet, n);
-    let c = field_c(sheet, n);
-    if self_ok(t, n, k, w, m, a, b, c, total) {
-        return tiles(sheet, n, k, m, a, b, n + w);
+    let v = Node::read(sheet, n);
+    if self_ok(n, v, total) {
+        return tiles(sheet, n, v, n + v.span);
     }
     false
 }
@@ -221,15 +201,6 @@ pub fn shape_ok(sheet: &[u8]) -> bool
 fn nodes_ok(sheet: &[u8]) -> bool
     ensures { result ≡ shape.nodes_ok sheet.now }
 {
-    let table = BOUNDS;
     let m = node_count(sheet);
-    let mut n: u32 = 0;
-    while n < m {
-        if node_ok(&table, sheet, n, m) {
-            n += 1;
-        } else {
-            return false;
-        }
-    }
-    true
+    (0..m).all(|n| node_ok(sheet, n, m))
 }

@@ -40,14 +40,5 @@ fn supported(sheet: &[u8], n: u32) -> bool
 pub fn supported_ok(sheet: &[u8]) -> bool
     ensures { result ≡ support.supported_ok sheet.now }
 {
-    let m = node_count(sheet);
-    let mut n: u32 = 0;
-    while n < m {
-        if supported(sheet, n) {
-            n += 1;
-        } else {
-            return false;
-        }
-    }
-    true
+    (0..node_count(sheet)).all(|n| supported(sheet, n))
 }

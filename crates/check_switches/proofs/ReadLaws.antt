@@ -1,12 +1,8 @@
 -- Laws of the Switch's checks on what the code has read, each in the form of one answer.
-use Prim.Native.Nat.{ℕ, ◌+◌, ◌-◌, ◌*◌, ◌<◌, ◌≤◌}
+use Prim.Native.Nat.{ℕ, ◌+◌, ◌*◌}
 use mathlib.Core.Path.{◌≡◌, ap, ap₂, sym, ◌∙◌}
 use mathlib.Core.Bool.{Bool, true, false, ◌&&◌}
 use mathlib.Core.List.{List}
-use native.Mathlib.Nat.{sub-zero}
-use native.Mathlib.Omega.{arith}
-use mir.Syntax.{w32}
-use mir.Val.{Fits}
 use lib.Dec.{leb, eqb}
 use Rattle.text.specs.Same.{same}
 use Rattle.sheet.specs.Limits.{max_entries}
@@ -14,8 +10,7 @@ use Rattle.sheet.specs.Kinds.{string_kind}
 use Rattle.sheet.specs.Node.{kind, count, field_a, field_b, child, next}
 use Rattle.sheet.specs.Text.{text}
 use Rattle.sheet.specs.Walk.{siblings, skip}
-use Rattle.sheet.proofs.WalkLaws.{siblings-more, siblings-fail, siblings-done}
-use Rattle.check_switches.specs.Switch.{counts_by, first_case, refs_ok, counts_ok, is_switch, entries_ok, same_value, apart, distinct}
+use Rattle.check_switches.specs.Switch.{counts_by, first_case, refs_ok, counts_ok, is_switch, entries_ok, same_value, distinct}
 use Rattle.check_switches.specs.Switch.{cases_ok}
 use Rattle.check_switches.proofs.SwitchLaws.{
   first-case,
@@ -25,15 +20,7 @@ use Rattle.check_switches.proofs.SwitchLaws.{
   value-kinds,
   value-text,
   value-bits,
-  distinct_more,
-  distinct-fails,
-  distinct-done,
 }
-
--- a loop's counter, where the test was passed
-module _ {i m : ℕ} (h : i < m) where
-  pub one-fits : Fits w32 m → Fits w32 (i + 1)
-  one-fits f = omega arith
 
 module _ (s : List ℕ) where
   pub first_read : {K f j q r : ℕ} → K ≡ field_a s 0 → f ≡ child 0 → j ≡ skip s K f → q ≡ skip s K j → r ≡ next s q → r ≡ first_case s
@@ -67,35 +54,3 @@ module _ (s : List ℕ) (v w : ℕ) {k l : ℕ} (hk : k ≡ kind s v) (hl : l �
     values-bits h hc hd =
         ap₂ ◌&&◌ (ap₂ eqb ha hb) (ap₂ eqb hc hd)
         ∙ sym (value-bits s v w (sym hk ∙ same_kind ∙ hl) (λ e. h (hk ∙ e)))
-
--- The walk over m siblings, of which i are passed, with node j next: what is left equals the whole, q.
-module _ (P : ℕ → Bool) (s : List ℕ) (m : ℕ) where
-  pub walk-starts : (at : ℕ) → siblings P s (m - 0) at ≡ siblings P s m at
-  walk-starts at = ap (λ l. siblings P s l at) (sub-zero m)
-
-  module _ (i j : ℕ) {q : Bool} (whole : siblings P s (m - i) j ≡ q) where
-    pub walk_more : {k : ℕ} {t : Bool} → i < m → t ≡ P j → t ≡ true → k ≡ next s j → siblings P s (m - (i + 1)) k ≡ q
-    walk_more h p e n =
-        ap (siblings P s (m - (i + 1))) n
-        ∙ sym (siblings-more P s m i j h (sym p ∙ e))
-        ∙ whole
-
-    pub walk-fails : {t : Bool} → i < m → t ≡ P j → t ≡ false → false ≡ q
-    walk-fails h p e = sym (siblings-fail P s m i j h (sym p ∙ e)) ∙ whole
-
-    pub walk-done : m ≤ i → true ≡ q
-    walk-done h = sym (siblings-done P s m i j h) ∙ whole
-
--- The Cases from j on, of which there are m, with k after j.
-module _ (s : List ℕ) (m j : ℕ) {q : Bool} (whole : distinct s m j ≡ q) where
-  pub pass-more : {k : ℕ} {t : Bool} → 0 < m → k ≡ next s j → t ≡ siblings (apart s j) s (m - 1) k → t ≡ true → distinct s (m - 1) k ≡ q
-  pass-more h n p e =
-      ap (distinct s (m - 1)) n
-      ∙ sym (distinct_more s m j h (sym (p ∙ ap (siblings (apart s j) s (m - 1)) n) ∙ e))
-      ∙ whole
-
-  pub pass-fails : {k : ℕ} {t : Bool} → 0 < m → k ≡ next s j → t ≡ siblings (apart s j) s (m - 1) k → t ≡ false → false ≡ q
-  pass-fails h n p e = sym (distinct-fails s m j h (sym (p ∙ ap (siblings (apart s j) s (m - 1)) n) ∙ e)) ∙ whole
-
-  pub pass-done : m ≤ 0 → true ≡ q
-  pass-done h = sym (distinct-done s m j h) ∙ whole

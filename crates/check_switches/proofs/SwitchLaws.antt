@@ -1,19 +1,21 @@
 -- Laws of the Switch's checks, in the shapes of the code.
-use Prim.Native.Nat.{ℕ, zero, suc, ◌+◌, ◌-◌, ◌*◌, ◌<◌, ◌≤◌}
-use mathlib.Core.Path.{◌≡◌, refl, ap, sym, ◌∙◌}
-use mathlib.Core.Bool.{true, false, ◌&&◌}
-use mathlib.Core.List.{List}
+use Prim.Native.Nat.{ℕ, zero, suc, ◌+◌, ◌-◌, ◌*◌, ◌≤◌}
+use mathlib.Core.Path.{◌≡◌, refl, ap, ap₂, sym, ◌∙◌}
+use mathlib.Core.Bool.{Bool, true, false, ◌&&◌}
+use mathlib.Core.List.{List, [], ◌∷◌}
 use native.Mathlib.Omega.{arith}
 use native.Mathlib.Decide.{dec_le}
 use lib.Dec.{leb, eqb}
 use borrow.Author.Tests.{eq-eqb, ne_eqb, le-leb, lt-leb}
-use Rattle.laws.proofs.Numbers.{one_less}
+use Rattle.laws.proofs.Bool.{and-lazy}
+use Rattle.std.specs.List.{list_all}
 use Rattle.text.specs.Same.{same}
 use Rattle.sheet.specs.Limits.{max_entries}
 use Rattle.sheet.specs.Kinds.{string_kind}
 use Rattle.sheet.specs.Node.{kind, field_a, field_b, child, next}
 use Rattle.sheet.specs.Text.{text_by, text}
-use Rattle.sheet.specs.Walk.{siblings, skip}
+use Rattle.sheet.specs.Walk.{siblings, sibling_list, skip}
+use Rattle.sheet.proofs.SiblingLaws.{list_all-siblings}
 use Rattle.sheet.proofs.WalkLaws.{skip-add}
 use Rattle.check_switches.specs.Switch.{first_case_by, entries_by, same_value_by, distinct_by, cases_by}
 use Rattle.check_switches.specs.Switch.{is_switch, case_count, first_case, refs_ok, counts_ok, entries_ok, same_value, apart, distinct}
@@ -72,22 +74,26 @@ module _ (s : List ℕ) where
   unfolding same_value_by
   value-bits v w h k = rw (eq-eqb (kind s v) (kind s w) h, ne_eqb (kind s v) string_kind k, same_value_by)
 
-  -- the last Case differs from none after it, and so on upwards
-  pub distinct-done : (m p : ℕ) → m ≤ 0 → distinct s m p ≡ true
-  unfolding distinct_by
-  distinct-done zero p h = refl
-  distinct-done (suc m) p h = absurd (omega arith)
+  -- Cases in a list differ, each from each
+  abbrev pub list_distinct : List ℕ → Bool
+  list_distinct [] = true
+  list_distinct (p ∷ ps) = list_all (apart s p) ps && list_distinct ps
 
-  distinct-step : (m p : ℕ) → siblings (apart s p) s m (next s p) ≡ true → distinct s (suc m) p ≡ distinct s m (next s p)
-  unfolding distinct_by
-  distinct-step m p h = rw (h, distinct_by)
+  -- those of a walk are its siblings
+  pub list_distinct-siblings : (m p : ℕ) → list_distinct (sibling_list s m p) ≡ distinct s m p
+  unfolding distinct_by sibling_list
+  list_distinct-siblings zero p = refl
+  list_distinct-siblings (suc m) p =
+      ap₂ ◌&&◌ (list_all-siblings (apart s p) s m (next s p)) (list_distinct-siblings m (next s p))
+      ∙ sym (and-lazy (siblings (apart s p) s m (next s p)) (distinct s m (next s p)))
 
-  distinct-stop : (m p : ℕ) → siblings (apart s p) s m (next s p) ≡ false → distinct s (suc m) p ≡ false
-  unfolding distinct_by
-  distinct-stop m p h = rw (h, distinct_by)
+  -- The Case p and those behind it, ps, where q is the whole.
+  module _ {xs ps : List ℕ} {p : ℕ} {q t : Bool} (first : xs ≡ p ∷ ps) (whole : list_distinct xs ≡ q) (test : t ≡ list_all (apart s p) ps) where
+    pub pass-goes : t ≡ true → list_distinct ps ≡ q
+    pass-goes h = sym (ap list_distinct first ∙ ap (λ b. b && list_distinct ps) (sym test ∙ h)) ∙ whole
 
-  pub distinct_more : (m p : ℕ) → 0 < m → siblings (apart s p) s (m - 1) (next s p) ≡ true → distinct s m p ≡ distinct s (m - 1) (next s p)
-  distinct_more m p h e = ap (λ n. distinct s n p) (one_less m h) ∙ distinct-step (m - 1) p e
+    pub pass-stops : t ≡ false → false ≡ q
+    pass-stops h = sym (ap list_distinct first ∙ ap (λ b. b && list_distinct ps) (sym test ∙ h)) ∙ whole
 
-  pub distinct-fails : (m p : ℕ) → 0 < m → siblings (apart s p) s (m - 1) (next s p) ≡ false → distinct s m p ≡ false
-  distinct-fails m p h e = ap (λ n. distinct s n p) (one_less m h) ∙ distinct-stop (m - 1) p e
+  pub pass-ends : {xs : List ℕ} {q : Bool} → xs ≡ [] → list_distinct xs ≡ q → true ≡ q
+  pass-ends e whole = sym (ap list_distinct e) ∙ whole

@@ -1,14 +1,16 @@
 // Refusals 6 and 7, of a Switch: too many entries; two cases of equal kind and value.
 #![tactic(auto)]
 
-ghost use Rattle.std.specs.Prelude.{◌≡◌, true, false, ℕ, ◌+◌, ◌<◌, ◌≤◌, length, get_or};
+ghost use Rattle.std.specs.Prelude.{◌≡◌, true};
+ghost use Rattle.std.specs.List.{list_all};
 ghost use Rattle.sheet.specs.Walk as walks;
+ghost use Rattle.sheet.specs.Rest as left;
 ghost use Rattle.check_switches.specs.Switch as switches;
 ghost use Rattle.check_switches.specs.Key as keys;
 
 use sheet::kinds::{STRING, SWITCH};
 use sheet::limits::MAX_ENTRIES;
-use sheet::{child, count, field_a, field_b, kind, next, skip};
+use sheet::{Siblings, child, count, field_a, field_b, kind, next, skip};
 use text::same_bytes;
 use words::{byte, part, word_at};
 
@@ -50,17 +52,7 @@ fn counts_ok(sheet: &[u8]) -> bool
 fn all_refs_ok(sheet: &[u8], m: u32, at: u32) -> bool
     ensures { result ≡ walks.siblings (switches.refs_ok sheet.now) sheet.now m at }
 {
-    let mut i: u32 = 0;
-    let mut j = at;
-    while i < m {
-        if refs_ok(sheet, j) {
-            j = next(sheet, j);
-            i += 1;
-        } else {
-            return false;
-        }
-    }
-    true
+    Siblings::new(sheet, m, at).all(|j| refs_ok(sheet, j))
 }
 
 // Nothing of refusal 6.
@@ -99,35 +91,20 @@ fn apart(sheet: &[u8], p: u32, q: u32) -> bool
     !same_value(sheet, child(p), child(q))
 }
 
-// The Case `p` differs from each of `m` Cases from node `at` on.
-fn apart_from(sheet: &[u8], p: u32, m: u32, at: u32) -> bool
-    ensures { result ≡ walks.siblings (switches.apart sheet.now p) sheet.now m at }
+// The Case `p` differs from each of `rest`.
+fn apart_from(sheet: &[u8], p: u32, mut rest: Siblings<'_>) -> bool
+    ensures { result ≡ list_all (switches.apart sheet.now p) (left.rest rest.entry) }
 {
-    let mut i: u32 = 0;
-    let mut j = at;
-    while i < m {
-        if apart(sheet, p, j) {
-            j = next(sheet, j);
-            i += 1;
-        } else {
-            return false;
-        }
-    }
-    true
+    rest.all(|q| apart(sheet, p, q))
 }
 
 // `m` Cases from node `at` on differ: each is compared with all behind it.
 fn each_apart(sheet: &[u8], m: u32, at: u32) -> bool
     ensures { result ≡ switches.distinct sheet.now m at }
 {
-    let mut left = m;
-    let mut j = at;
-    while 0 < left {
-        let q = next(sheet, j);
-        if apart_from(sheet, j, left - 1, q) {
-            j = q;
-            left -= 1;
-        } else {
+    let mut rest = Siblings::new(sheet, m, at);
+    while let Some(p) = rest.next() {
+        if !apart_from(sheet, p, rest) {
             return false;
         }
     }
@@ -156,20 +133,6 @@ fn value_key(sheet: &[u8], v: u32) -> u64
     (a as u64) + 4294967296 * (field_b(sheet, v) as u64)
 }
 
-// Whether `key` is among `k`.
-fn among(k: &[u64], key: u64) -> bool
-    ensures { result ≡ false → (i : ℕ) → i < length k.now → get_or k.now i 0 ≡ key → ⊥ }
-{
-    let mut i = 0;
-    while i < k.len() {
-        if k[i] == key {
-            return true;
-        }
-        i += 1;
-    }
-    false
-}
-
 // Some Cases, not too few and not too many, from node `at` on differ already by their numbers.
 fn keys_apart(sheet: &[u8], m: u32, at: u32) -> bool
     ensures { result ≡ true → switches.distinct sheet.now m at ≡ true }
@@ -181,17 +144,14 @@ fn keys_apart(sheet: &[u8], m: u32, at: u32) -> bool
         return false;
     }
     let mut k = [0u64; 64];
-    let mut i: u32 = 0;
     let mut j = at;
-    while i < m {
-        let n = i as usize;
+    for n in 0..m as usize {
         let key = value_key(sheet, child(j));
-        if among(&k[..n], key) {
+        if k[..n].contains(&key) {
             return false;
         }
         k[n] = key;
         j = next(sheet, j);
-        i += 1;
     }
     true
 }

@@ -33,11 +33,6 @@ pub texts-fail : (s : List ℕ) (t : ℕ) → t < text_count s → text_ok s t �
 unfolding texts_by
 texts-fail s t h e = all-fails (text_ok s) (text_count s) t h e
 
--- all texts passed, and no more are left
-pub texts-pass : (s : List ℕ) (t : ℕ) → t ≡ text_count s → all_below t (text_ok s) ≡ true → texts_ok s ≡ true
-unfolding texts_by
-texts-pass s t e h = rw (← e) h
-
 -- the text bytes are a part of the sheet; `at` is where they start, in words
 pub text-bytes : (s q : List ℕ) (n at : ℕ) → n ≡ byte_count s → at ≡ bytes_at s → q ≡ take n (drop (4 * at) s) → q ≡ text_bytes s
 unfolding text_bytes

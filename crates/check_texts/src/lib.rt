@@ -34,6 +34,7 @@ fn sixteen(b: &[u8], i: usize) -> bool
 }
 
 // A number of bytes at the start that are ASCII, 16 at a time.
+// Kept: the loop counts its place, since what is behind the last 16 begins there; chunks of the slice would have it counted again.
 fn plain_start(b: &[u8]) -> usize
     ensures { (result ≤ length b.now) × ascii.PlainTo b.now result }
 {
@@ -53,13 +54,10 @@ fn plain_start(b: &[u8]) -> usize
 fn plain(b: &[u8]) -> bool
     ensures { result ≡ true → ascii.PlainTo b.now (length b.now) }
 {
-    let size = b.len();
-    let mut i = plain_start(b);
-    while i < size {
+    for i in plain_start(b)..b.len() {
         if 0x7F < b[i] {
             return false;
         }
-        i += 1;
     }
     true
 }
@@ -79,15 +77,7 @@ fn all_inside(sheet: &[u8]) -> bool
     ensures { result ≡ all_below (text_count sheet.now) (ascii.inside sheet.now) }
 {
     let count = text_count(sheet);
-    let mut t: u32 = 0;
-    while t < count {
-        if inside(sheet, t) {
-            t += 1;
-        } else {
-            return false;
-        }
-    }
-    true
+    (0..count).all(|t| inside(sheet, t))
 }
 
 // bytes of a block, and the number of blocks of a stretch
@@ -108,11 +98,10 @@ fn run(sheet: &[u8], i: usize, stop: usize) -> usize
         if sheet[r] < 0x80 {
             r += 1;
         } else {
-            let w = char_len(sheet, r);
-            if w == 0 {
-                return r;
+            match char_len(sheet, r) {
+                Some(w) => r += w,
+                None => return r,
             }
-            r += w;
         }
     }
     r
@@ -123,52 +112,47 @@ fn restart(b: &[u8], p: usize) -> usize
     requires { p ≤ length b.now }
     ensures { (p ≤ result) × (result ≤ length b.now) }
 {
-    let mut r = p;
-    let mut left: u32 = 3;
-    while 0 < left {
-        if r == b.len() {
-            return r;
-        }
+    let last = b.len().min(p + 3);
+    for r in p..last {
         if b[r] < 0x80 {
             return r;
         }
         if 0xBF < b[r] {
             return r;
         }
-        r += 1;
-        left -= 1;
     }
-    r
+    last
 }
 
 // Two places between which there are whole characters.
 #[derive(Clone, Copy)]
-struct Far(usize, usize);
+struct Far {
+    from: usize,
+    to: usize,
+}
 
 // The end of the bytes, twice.
 fn far_end(b: &[u8]) -> Far
-    ensures { Characters b.now result.0 result.1 }
+    ensures { Characters b.now result.from result.to }
 {
     let n = b.len();
-    Far(n, n)
+    Far { from: n, to: n }
 }
 
 // The places from byte `e` on, where those behind it are known.
 fn far_from(b: &[u8], e: usize, f: Far) -> Far
-    requires { Characters b.now f.0 f.1 }
-    ensures { Characters b.now result.0 result.1 }
+    requires { Characters b.now f.from f.to }
+    ensures { Characters b.now result.from result.to }
 {
     if b.len() < e {
         return f;
     }
-    let p = f.0;
-    let far = f.1;
     let q = restart(b, e);
-    let r = run(b, q, p);
-    if r == p {
-        return Far(q, far);
+    let r = run(b, q, f.from);
+    if r == f.from {
+        return Far { from: q, to: f.to };
     }
-    Far(q, r)
+    Far { from: q, to: r }
 }
 
 // The mark of a run from `p` to `far`, for the block with end `e`. Only a start at `e` or at one of the next three bytes is kept:
@@ -192,18 +176,14 @@ fn mark(e: usize, p: usize, far: usize) -> u32
 // The marks of the stretch that starts at `base`, from its last block to its first; `from` is known from the stretch behind it.
 fn keep(b: &[u8], base: usize, from: Far, marks: &mut [u32; BLOCKS]) -> Far
     requires base_bound { (base < 2 ^ 33) × (length marks.old ≡ blocks) }
-    requires characters { Characters b.now from.0 from.1 }
-    ensures { Characters b.now result.0 result.1 × Marks b.now base 0 marks.new }
+    requires characters { Characters b.now from.from from.to }
+    ensures { Characters b.now result.from result.to × Marks b.now base 0 marks.new }
 {
     let mut f = from;
-    let mut j = BLOCKS;
-    while 0 < j {
-        let e = base + j * BLOCK;
+    for j in (0..BLOCKS).rev() {
+        let e = base + (j + 1) * BLOCK;
         f = far_from(b, e, f);
-        let p = f.0;
-        let far = f.1;
-        j -= 1;
-        marks[j] = mark(e, p, far);
+        marks[j] = mark(e, f.from, f.to);
     }
     f
 }
@@ -239,17 +219,8 @@ fn leaps(b: &[u8], e: usize, v: usize, i: usize, end: usize) -> bool
     0xBF < b[end]
 }
 
-// The lesser of two.
-fn least(a: usize, b: usize) -> usize
-    ensures { (result ≤ a) × (result ≤ b) }
-{
-    if b < a {
-        return b;
-    }
-    a
-}
-
 // A mark as a number.
+// Kept: no `usize::from`, which Rust has not for a u32; of a parameter the range is known, of an element of the table it is not.
 fn wide(v: u32) -> usize
     ensures { result ≡ v }
 {
@@ -271,7 +242,7 @@ fn whole(b: &[u8], start: usize, end: usize, first: usize, marks: &[u32; BLOCKS]
         return false;
     }
     let e = first + (k + 1) * BLOCK;
-    let i = run(b, start, least(e, end));
+    let i = run(b, start, e.min(end));
     leaps(b, e, wide(marks[k]), i, end)
 }
 
@@ -332,12 +303,8 @@ fn stretch_ok(sheet: &[u8], b: &[u8], base: usize, limit: usize, marks: &[u32; B
     requires marks { Marks b.now base 0 marks.now }
     ensures { AllDue sheet.now base limit result }
 {
-    let last = text_count(sheet);
-    let mut t: u32 = 0;
-    while t < last {
-        if due_ok(sheet, b, t, base, limit, marks) {
-            t += 1;
-        } else {
+    for t in 0..text_count(sheet) {
+        if !due_ok(sheet, b, t, base, limit, marks) {
             return false;
         }
     }
@@ -359,6 +326,7 @@ fn below(limit: usize, n: usize) -> usize
 }
 
 // Nothing of refusal 3, by marks: stretch by stretch, from the last to the first.
+// Kept: the loop goes by ends of stretches. The last stretch is cut short by the bytes' number, which no iterator over them is plainer at.
 fn marked_ok(sheet: &[u8], b: &[u8]) -> bool
     requires b_value { b.now ≡ text_bytes sheet.now }
     requires sheet_value { all_below (text_count sheet.now) (ascii.inside sheet.now) ≡ true }
@@ -385,25 +353,14 @@ fn each_ok(sheet: &[u8]) -> bool
     ensures { result ≡ texts_ok sheet.now }
 {
     let n = text_count(sheet);
-    let mut t: u32 = 0;
-    while t < n {
-        if read_ok(sheet, t) {
-            t += 1;
-        } else {
-            return false;
-        }
-    }
-    true
+    (0..n).all(|t| read_ok(sheet, t))
 }
 
 // The lengths of all texts together.
 fn total(sheet: &[u8]) -> u64 {
-    let texts = text_count(sheet);
     let mut sum: u64 = 0;
-    let mut t: u32 = 0;
-    while t < texts {
-        sum += text_length(sheet, t) as u64;
-        t += 1;
+    for t in 0..text_count(sheet) {
+        sum += u64::from(text_length(sheet, t));
     }
     sum
 }

@@ -3,6 +3,7 @@ use Prim.Native.Nat.{ℕ}
 use mathlib.Core.Path.{◌≡◌, ap, sym}
 use mathlib.Core.Bool.{true, false, ◌&&◌}
 use mathlib.Core.List.{List}
+use Rattle.std.specs.Prelude.{Ok, Err}
 use Rattle.check_sizes.specs.Sizes.{sizes_ok}
 use Rattle.check_texts.specs.Texts.{texts_ok}
 use Rattle.check_numbers.specs.Numbers.{numbers_by, numbers_ok, locals_ok}
@@ -10,27 +11,26 @@ use Rattle.check_switches.specs.Switch.{entries_ok, cases_ok}
 use Rattle.check_pass.specs.Fine.{Fine}
 use Rattle.checks.specs.Checked.{in_order, checked}
 use Rattle.checks.specs.Rest.{rest_checked}
-use Rattle.checks.specs.declared.Verdict.TheVariants.{Accepted, Refused}
 use Rattle.refusals.specs.declared.Refusal.TheVariants.{Text, Number, Arms, Twice}
 
 module _ (s : List ℕ) where
-  pub rest-3 : texts_ok s ≡ false → rest_checked s ≡ Refused Text
+  pub rest-3 : texts_ok s ≡ false → rest_checked s ≡ Err Text
   unfolding rest_checked
   rest-3 a = rw (a, rest_checked, in_order)
 
-  pub rest-4 : texts_ok s ≡ true → locals_ok s ≡ false → rest_checked s ≡ Refused Number
+  pub rest-4 : texts_ok s ≡ true → locals_ok s ≡ false → rest_checked s ≡ Err Number
   unfolding rest_checked
   rest-4 a b = rw (a, b, rest_checked, in_order)
 
-  pub rest-6 : texts_ok s ≡ true → locals_ok s ≡ true → entries_ok s ≡ false → rest_checked s ≡ Refused Arms
+  pub rest-6 : texts_ok s ≡ true → locals_ok s ≡ true → entries_ok s ≡ false → rest_checked s ≡ Err Arms
   unfolding rest_checked
   rest-6 a b c = rw (a, b, c, rest_checked, in_order)
 
-  pub rest-7 : texts_ok s ≡ true → locals_ok s ≡ true → entries_ok s ≡ true → cases_ok s ≡ false → rest_checked s ≡ Refused Twice
+  pub rest-7 : texts_ok s ≡ true → locals_ok s ≡ true → entries_ok s ≡ true → cases_ok s ≡ false → rest_checked s ≡ Err Twice
   unfolding rest_checked
   rest-7 a b c d = rw (a, b, c, d, rest_checked, in_order)
 
-  pub rest_0 : texts_ok s ≡ true → locals_ok s ≡ true → entries_ok s ≡ true → cases_ok s ≡ true → rest_checked s ≡ Accepted
+  pub rest_0 : texts_ok s ≡ true → locals_ok s ≡ true → entries_ok s ≡ true → cases_ok s ≡ true → rest_checked s ≡ Ok tt
   unfolding rest_checked
   rest_0 a b c d = rw (a, b, c, d, rest_checked, in_order)
 

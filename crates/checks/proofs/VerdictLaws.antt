@@ -14,20 +14,19 @@ use Rattle.check_support.specs.Support.{supported_ok}
 use Rattle.refusals.specs.declared.Refusal.{Refusal}
 use Rattle.refusals.specs.Refusal.{of_sheet}
 use Rattle.refusals.proofs.RefusalLaws.{number-some}
-use Rattle.checks.specs.Checked.{verdict_number, checked}
-use Rattle.checks.specs.declared.Verdict.{Verdict}
-use Rattle.checks.specs.declared.Verdict.TheVariants.{Accepted, Refused}
+use Rattle.checks.specs.Checked.{Verdict, verdict_number, checked}
+use Rattle.std.specs.Prelude.{Ok, Err}
 
 -- 0 is no refusal
-pub accepted-is : (v : Verdict) → verdict_number v ≡ 0 → v ≡ Accepted
-accepted-is Accepted e = refl
-accepted-is (Refused r) e = absurd (omega (arith, number-some r))
+pub accepted-is : (v : Verdict) → verdict_number v ≡ 0 → v ≡ Ok tt
+accepted-is (Ok x) e = refl
+accepted-is (Err r) e = absurd (omega (arith, number-some r))
 
 -- ---- what the check refuses is the sheet's own
 
 abbrev pub Own : Verdict → Type 0
-Own Accepted = Prim.Unit {0}
-Own (Refused r) = of_sheet r ≡ true
+Own (Ok x) = Prim.Unit {0}
+Own (Err r) = of_sheet r ≡ true
 
 either : (t : Bool) (a b : Verdict) → Own a → Own b → Own (elim t [ false ↦ a | true ↦ b ])
 either true a b f g = g
@@ -45,5 +44,5 @@ checked-own s =
     (either (cases_ok s) _ _ refl
     (either (supported_ok s) _ _ refl tt)))))))
 
-pub refused-own : (s : List ℕ) (r : Refusal) → checked s ≡ Refused r → of_sheet r ≡ true
+pub refused-own : (s : List ℕ) (r : Refusal) → checked s ≡ Err r → of_sheet r ≡ true
 refused-own s r e = subst Own e (checked-own s)

@@ -1,5 +1,5 @@
 -- The check of a sheet: refusals 1 to 8 in ascending number, and the first that fits is the answer.
-use Rattle.std.specs.Prelude.{ℕ, Bool, true, false, List}
+use Rattle.std.specs.Prelude.{ℕ, Bool, true, false, List, Result, Ok, Err, ⊤}
 use Rattle.words.specs.Word.{word}
 use Rattle.sheet.specs.Sections.{Words, node_count_by}
 use Rattle.sheet.specs.Node.{Fields, field}
@@ -11,15 +11,17 @@ use Rattle.check_numbers.specs.Numbers.{numbers_by}
 use Rattle.check_depth.specs.Depth.{depth_by, depth_ok}
 use Rattle.check_switches.specs.Switch.{entries_by, cases_by, entries_ok, cases_ok}
 use Rattle.check_support.specs.Support.{support_by, supported_ok}
-use Rattle.checks.specs.declared.Verdict.{Verdict}
-use Rattle.checks.specs.declared.Verdict.TheVariants.{Accepted, Refused}
 use Rattle.refusals.specs.declared.Refusal.TheVariants.{Size, Shape, Text, Number, Depth, Arms, Twice, Unsupported}
-use Rattle.refusals.specs.Refusal.{refusal_number}
+use Rattle.refusals.specs.declared.Refusal.{Refusal}
+use Rattle.refusals.specs.Refusal.{number_of}
+
+-- what is answered: nothing refuses, or the first cause that fits
+abbrev pub Verdict : Type 0
+Verdict = Result ⊤ Refusal
 
 -- the number of an answer; 0 is no refusal
 abbrev pub verdict_number : Verdict → ℕ
-verdict_number Accepted = 0
-verdict_number (Refused r) = refusal_number r
+verdict_number v = number_of v
 
 -- a test that is made only where it is asked for
 abbrev pub Test : Type 0
@@ -33,27 +35,27 @@ passed asked = true
 unfoldable pub in_order : Test → Test → Test → Test → Test → Test → Test → Test → Verdict
 in_order sizes shape texts numbers depth entries cases support =
     elim (sizes tt) [
-      | false ↦ Refused Size
+      | false ↦ Err Size
       | true ↦
           elim (shape tt) [
-            | false ↦ Refused Shape
+            | false ↦ Err Shape
             | true ↦
                 elim (texts tt) [
-                  | false ↦ Refused Text
+                  | false ↦ Err Text
                   | true ↦
                       elim (numbers tt) [
-                        | false ↦ Refused Number
+                        | false ↦ Err Number
                         | true ↦
                             elim (depth tt) [
-                              | false ↦ Refused Depth
+                              | false ↦ Err Depth
                               | true ↦
                                   elim (entries tt) [
-                                    | false ↦ Refused Arms
+                                    | false ↦ Err Arms
                                     | true ↦
                                         elim (cases tt) [
-                                          | false ↦ Refused Twice
+                                          | false ↦ Err Twice
                                           | true ↦
-                                              elim (support tt) [ false ↦ Refused Unsupported | true ↦ Accepted ]
+                                              elim (support tt) [ false ↦ Err Unsupported | true ↦ Ok tt ]
                                         ]
                                   ]
                             ]

@@ -17,8 +17,7 @@ use Rattle.check_numbers.specs.Numbers.{names_text, exist, number_by, local_by, 
 use Rattle.check_depth.specs.Depth.{within_by, depth_by}
 use Rattle.check_switches.specs.Switch.{is_switch_by, first_case_by, refs_by, counts_by, entries_by, same_value_by, apart_by, distinct_by, cases_by}
 use Rattle.check_support.specs.Support.{refused_kind, long_curry_by, supported_by, support_by}
-use Rattle.checks.specs.declared.Verdict.{Verdict}
-use Rattle.checks.specs.Checked.{in_order, checked_by}
+use Rattle.checks.specs.Checked.{Verdict, in_order, checked_by}
 
 unfoldable pub opened_by : Bounds → Fields → Words → List ℕ → Verdict
 unfolding word all_below same is_curry row_in row_of utf8_rest utf8 child next_by local_text_by text_start_by text_length_by text_by siblings_by skip_by

@@ -3,8 +3,7 @@ use Rattle.std.specs.Prelude.{ℕ, List}
 use Rattle.check_texts.specs.Texts.{texts_ok}
 use Rattle.check_numbers.specs.Numbers.{locals_ok}
 use Rattle.check_switches.specs.Switch.{entries_ok, cases_ok}
-use Rattle.checks.specs.declared.Verdict.{Verdict}
-use Rattle.checks.specs.Checked.{passed, in_order}
+use Rattle.checks.specs.Checked.{Verdict, passed, in_order}
 
 unfoldable pub rest_checked : List ℕ → Verdict
 unfolding in_order

@@ -13,92 +13,76 @@ use check_sizes::sizes_ok;
 use check_support::supported_ok;
 use check_switches::{cases_ok, entries_ok};
 use check_texts::texts_ok;
-use refusals::{Refusal, refusal_number};
-
-// What is answered: nothing refuses, or the first cause that fits.
-#[derive(Clone, Copy)]
-pub enum Verdict {
-    Accepted,
-    Refused(Refusal),
-}
-
-// The number of an answer: 0, or the refusal's.
-pub fn number(v: Verdict) -> u32
-    ensures { result ≡ answers.verdict_number v }
-{
-    match v {
-        Verdict::Accepted => 0,
-        Verdict::Refused(r) => refusal_number(r),
-    }
-}
+use refusals::Refusal;
 
 // From refusal 5 on.
-fn tree(sheet: &[u8]) -> Verdict
+fn tree(sheet: &[u8]) -> Result<(), Refusal>
     ensures { result ≡ answers.tree_checked sheet.now }
 {
-    if depth_ok(sheet) {
-        if entries_ok(sheet) {
-            if cases_ok(sheet) {
-                if supported_ok(sheet) {
-                    return Verdict::Accepted;
-                }
-                return Verdict::Refused(Refusal::Unsupported);
-            }
-            return Verdict::Refused(Refusal::Twice);
-        }
-        return Verdict::Refused(Refusal::Arms);
+    if !depth_ok(sheet) {
+        return Err(Refusal::Depth); // 5
     }
-    Verdict::Refused(Refusal::Depth)
+    if !entries_ok(sheet) {
+        return Err(Refusal::Arms); // 6
+    }
+    if !cases_ok(sheet) {
+        return Err(Refusal::Twice); // 7
+    }
+    if !supported_ok(sheet) {
+        return Err(Refusal::Unsupported); // 8
+    }
+    Ok(())
 }
 
 // The answer for any byte string, refusal by refusal.
-fn by_number(sheet: &[u8]) -> Verdict
+fn by_number(sheet: &[u8]) -> Result<(), Refusal>
     ensures { result ≡ answers.checked sheet.now }
 {
-    if sizes_ok(sheet) {
-        if shape_ok(sheet) {
-            if texts_ok(sheet) {
-                if numbers_ok(sheet) {
-                    return tree(sheet);
-                }
-                return Verdict::Refused(Refusal::Number);
-            }
-            return Verdict::Refused(Refusal::Text);
-        }
-        return Verdict::Refused(Refusal::Shape);
+    if !sizes_ok(sheet) {
+        return Err(Refusal::Size); // 1
     }
-    Verdict::Refused(Refusal::Size)
+    if !shape_ok(sheet) {
+        return Err(Refusal::Shape); // 2
+    }
+    if !texts_ok(sheet) {
+        return Err(Refusal::Text); // 3
+    }
+    if !numbers_ok(sheet) {
+        return Err(Refusal::Number); // 4
+    }
+    tree(sheet)
 }
 
 // What is left where nothing of refusals 1, 2, 4 (of nodes), 5 and 8 holds.
-fn rest(sheet: &[u8]) -> Verdict
+fn rest(sheet: &[u8]) -> Result<(), Refusal>
     ensures { result ≡ rest_checked sheet.now }
 {
     let texts = texts_ok(sheet);
-    if texts {
-        if locals_ok(sheet) {
-            if entries_ok(sheet) {
-                if cases_ok(sheet) {
-                    return Verdict::Accepted;
-                }
-                return Verdict::Refused(Refusal::Twice);
-            }
-            return Verdict::Refused(Refusal::Arms);
-        }
-        return Verdict::Refused(Refusal::Number);
+    if !texts {
+        return Err(Refusal::Text);
     }
-    Verdict::Refused(Refusal::Text)
+    if !locals_ok(sheet) {
+        return Err(Refusal::Number);
+    }
+    if !entries_ok(sheet) {
+        return Err(Refusal::Arms);
+    }
+    if !cases_ok(sheet) {
+        return Err(Refusal::Twice);
+    }
+    Ok(())
 }
 
-// The answer for any byte string: in one pass over the nodes where all of them are well, and refusal by refusal where not.
-pub fn check(sheet: &[u8]) -> Verdict
+// Nothing refuses, or the first cause that fits, for any byte string: in one pass over the nodes where all of them are well, and refusal
+// by refusal where not.
+pub fn check(sheet: &[u8]) -> Result<(), Refusal>
     ensures { result ≡ answers.checked sheet.now }
 {
-    if sizes_ok(sheet) {
-        if passes(sheet) {
-            return rest(sheet);
-        }
-        return by_number(sheet);
+    if !sizes_ok(sheet) {
+        return Err(Refusal::Size);
     }
-    Verdict::Refused(Refusal::Size)
+    if passes(sheet) {
+        return rest(sheet);
+    }
+    by_number(sheet)
 }

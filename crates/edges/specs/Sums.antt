@@ -1,20 +1,16 @@
--- Noise, checksums, needs and lengths of the edges.
-use Rattle.std.specs.Prelude.{ℕ, ◌+◌, ◌-◌, ◌*◌, ◌%◌, List, [], ◌∷◌}
+-- Checksums, needs and lengths of the edges.
+use Rattle.std.specs.Prelude.{ℕ, ◌+◌, ◌*◌, ◌%◌, List}
+use Rattle.std.specs.List.{fold}
 use Rattle.sheet.specs.Limits.{header_words, node_words}
 use Rattle.lowering.specs.Limits.{scratch_per_emitted, scratch_per_node, scratch_besides}
-
--- word i of a buffer before a lowering
-abbrev pub noise : ℕ → ℕ
-noise i = 2863311530 - i % 65536
 
 -- a checksum with one word more
 abbrev pub mixed : ℕ → ℕ → ℕ
 mixed sum w = (31 * sum + w) % 4294967291
 
 -- with each word of a list in turn
-unfoldable pub mixed_all : ℕ → List ℕ → ℕ
-mixed_all sum [] = sum
-mixed_all sum (w ∷ ws) = mixed_all (mixed sum w) ws
+abbrev pub mixed_all : ℕ → List ℕ → ℕ
+mixed_all sum ws = fold mixed sum ws
 
 abbrev pub checksum : List ℕ → ℕ
 checksum ws = mixed_all 0 ws

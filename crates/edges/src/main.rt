@@ -3,13 +3,15 @@
 // its own sheets.
 #![tactic(auto)]
 
-ghost use Rattle.std.specs.Prelude.{◌-◌, get_or, ◌≡◌};
+ghost use Rattle.std.specs.Prelude.{◌-◌, ◌≡◌};
 ghost use Rattle.edges.specs.Sums as sums;
 
 mod sheets;
 
 use lowering::SIZES;
 use needs::{BESIDES, PER_EMITTED, PER_NODE};
+use refusals::{Refusal, number};
+use replay_records::{put_noise, word};
 use std::io;
 use to_image::lower;
 
@@ -25,21 +27,6 @@ const G: u32 = 103;
 
 const CALL: u32 = 1819042147;
 
-// What stands in word `i` of a buffer before a lowering.
-fn noise(i: usize) -> u32
-    ensures { result ≡ sums.noise i }
-{
-    2863311530 - (i % 65536) as u32
-}
-
-fn put_noise(buf: &mut [u32]) {
-    let mut i = 0;
-    while i < buf.len() {
-        buf[i] = noise(i);
-        i += 1;
-    }
-}
-
 // A checksum with one word more.
 fn mixed(sum: u32, word: u32) -> u32
     ensures { result ≡ sums.mixed sum word }
@@ -51,30 +38,15 @@ fn mixed(sum: u32, word: u32) -> u32
 fn checksum(words: &[u32]) -> u32
     ensures { result ≡ sums.checksum words.now }
 {
-    let mut sum: u32 = 0;
-    let mut i = 0;
-    while i < words.len() {
-        sum = mixed(sum, words[i]);
-        i += 1;
-    }
-    sum
-}
-
-// Word `i`, 0 past the end.
-fn word(words: &[u32], i: usize) -> u32
-    ensures { result ≡ get_or words.now i 0 }
-{
-    if i < words.len() { words[i] } else { 0 }
+    words.iter().fold(0, |sum, word| mixed(sum, *word))
 }
 
 // The twelve sizes of an image.
 fn print_sizes(rt: &impl Print, image: &[u32]) -> io::Result<()> {
     print!(rt; ", sizes")?;
-    let mut i = 0;
-    while i < SIZES {
+    for i in 0..SIZES {
         let size = word(image, i);
         print!(rt; " {size}")?;
-        i += 1;
     }
     Ok(())
 }
@@ -82,15 +54,16 @@ fn print_sizes(rt: &impl Print, image: &[u32]) -> io::Result<()> {
 fn print_answer(
     rt: &impl Print,
     label: &str,
-    number: u32,
-    count: usize,
+    answer: Result<usize, Refusal>,
     image: &[u32],
     scratch: &[u32],
 ) -> io::Result<()> {
+    let number = number(&answer);
+    let count = answer.unwrap_or(0);
     let left = checksum(image);
     let used = checksum(scratch);
     print!(rt; "{label}: number {number}, words {count}, image {left}, scratch {used}")?;
-    if number == 0 {
+    if answer.is_ok() {
         print_sizes(rt, image)?;
     }
     println!(rt;)
@@ -106,17 +79,9 @@ fn edge(
 ) -> io::Result<usize> {
     put_noise(image);
     put_noise(scratch);
-    let a = lower(sheet, image, scratch);
-    let words = to_image::words(a);
-    print_answer(
-        rt,
-        label,
-        to_image::number(a),
-        words,
-        &image[..],
-        &scratch[..],
-    )?;
-    Ok(words)
+    let answer = lower(sheet, image, scratch);
+    print_answer(rt, label, answer, &image[..], &scratch[..])?;
+    Ok(answer.unwrap_or(0))
 }
 
 // The same for the sheet in the first `n` bytes of `sheet`.

@@ -11,35 +11,17 @@ use sheet::limits::{HEADER_WORDS, NODE_WORDS};
 // words of a node and of its position
 const PLACED: usize = NODE_WORDS + 1;
 
-// A word's byte: the last eight bits of `w`.
-fn low(w: u32) -> u8 {
-    (w % 256) as u8
-}
-
-// Byte `i` of the sheet; nothing past its end.
-fn put_byte(sheet: &mut [u8], i: usize, b: u8) {
-    if i < sheet.len() {
-        sheet[i] = b;
-    }
-}
-
 // Word `i` of the sheet; nothing past its end.
 fn put(sheet: &mut [u8], i: usize, w: u32) {
     if i < sheet.len() / 4 {
-        let at = 4 * i;
-        put_byte(sheet, at, low(w));
-        put_byte(sheet, at + 1, low(w / 256));
-        put_byte(sheet, at + 2, low(w / 65536));
-        put_byte(sheet, at + 3, low(w / 16777216));
+        sheet[4 * i..4 * i + 4].copy_from_slice(&w.to_le_bytes());
     }
 }
 
 // The words from `from` up to `to`, without `to`, as 0.
 fn put_zeros(sheet: &mut [u8], from: usize, to: usize) {
-    let mut i = from;
-    while i < to {
+    for i in from..to {
         put(sheet, i, 0);
-        i += 1;
     }
 }
 
@@ -56,23 +38,16 @@ fn put_node(sheet: &mut [u8], n: u32, kind: u32, span: u32, count: u32, a: u32, 
 
 // The nodes from `from` up to `to`, without `to`, as leaves of a kind.
 fn put_leaves(sheet: &mut [u8], from: u32, to: u32, kind: u32) {
-    let mut n = from;
-    while n < to {
+    for n in from..to {
         put_node(sheet, n, kind, 1, 0, 0, 0);
-        n += 1;
     }
 }
 
 // The positions of `nodes` nodes.
 fn put_positions(sheet: &mut [u8], nodes: u32) {
-    let mut n = 0;
-    while n < nodes {
-        put(
-            sheet,
-            HEADER_WORDS + NODE_WORDS * nodes as usize + n as usize,
-            n + 1,
-        );
-        n += 1;
+    let at = HEADER_WORDS + NODE_WORDS * nodes as usize;
+    for n in 0..nodes {
+        put(sheet, at + n as usize, n + 1);
     }
 }
 
@@ -105,10 +80,8 @@ pub fn size(nodes: u32, texts: u32) -> usize
 fn put_nested(sheet: &mut [u8], last: u32)
     requires { last ≤ 100000 }
 {
-    let mut n = 0;
-    while n < last {
+    for n in 0..last {
         put_node(sheet, n, ARRAY, last + 1 - n, 1, 0, 0);
-        n += 1;
     }
 }
 
@@ -186,10 +159,8 @@ fn put_range(sheet: &mut [u8], n: u32, i: u32)
 fn put_ranges(sheet: &mut [u8], n: u32)
     requires { n ≤ 100 }
 {
-    let mut i = 0;
-    while i < n {
+    for i in 0..n {
         put_range(sheet, 3 * i + 4, i);
-        i += 1;
     }
 }
 

@@ -11,7 +11,31 @@ use Rattle.sheet.specs.Node.{count, field_a, field_b, field_c, position}
 use Rattle.sheet.specs.Start.{start_of}
 use Rattle.sheet.specs.Text.{text}
 use Rattle.lowering.specs.Flatten.{negated, operand_of, step_rule}
+use denote.Enum.Bare.{sameb}
+use Rattle.expr_rules.specs.contracts.chains.StepRule.{the_type}
+use Rattle.expr_rules.specs.declared.chains.StepRule as StepRules
+use Rattle.expr_rules.specs.Inverse.{step_rule_from}
 use Rattle.expr_chains.specs.Same.{same_text, same_index, same_property, same_method, same_as, rule_number, same_by, same_step}
+
+-- rules are compared as their numbers are
+pub rules-same : (a b : StepRules.StepRule) → sameb the_type a b ≡ eqb (rule_number (step_rule_from a)) (rule_number (step_rule_from b))
+unfolding rule_number step_rule_from
+rules-same StepRules.TheVariants.Index StepRules.TheVariants.Index = refl
+rules-same StepRules.TheVariants.Index StepRules.TheVariants.Property = refl
+rules-same StepRules.TheVariants.Index StepRules.TheVariants.Method = refl
+rules-same StepRules.TheVariants.Index StepRules.TheVariants.Nothing = refl
+rules-same StepRules.TheVariants.Property StepRules.TheVariants.Index = refl
+rules-same StepRules.TheVariants.Property StepRules.TheVariants.Property = refl
+rules-same StepRules.TheVariants.Property StepRules.TheVariants.Method = refl
+rules-same StepRules.TheVariants.Property StepRules.TheVariants.Nothing = refl
+rules-same StepRules.TheVariants.Method StepRules.TheVariants.Index = refl
+rules-same StepRules.TheVariants.Method StepRules.TheVariants.Property = refl
+rules-same StepRules.TheVariants.Method StepRules.TheVariants.Method = refl
+rules-same StepRules.TheVariants.Method StepRules.TheVariants.Nothing = refl
+rules-same StepRules.TheVariants.Nothing StepRules.TheVariants.Index = refl
+rules-same StepRules.TheVariants.Nothing StepRules.TheVariants.Property = refl
+rules-same StepRules.TheVariants.Nothing StepRules.TheVariants.Method = refl
+rules-same StepRules.TheVariants.Nothing StepRules.TheVariants.Nothing = refl
 
 module _ (s : List ℕ) where
   pub text-one : (a b : ℕ) → a ≡ b → same_text s a b ≡ true

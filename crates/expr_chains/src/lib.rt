@@ -22,11 +22,9 @@ ghost use Rattle.sheet.specs.Text as texts;
 ghost use Rattle.expr_chains.specs.Lowers as lowering;
 
 use bytecode::{Chain, Root, Step};
-use expr_rules::chains::{Read, StepRule, goes_on, is_lowerable_method, read_link, rest_of};
-use expr_slots::Found;
+use expr_rules::chains::{Read, StepRule, is_lowerable_method, links_of};
 use lowering::{CHAIN_WIDTH, MAX_ARGS, STEP_WIDTH};
 use sheet::kinds::{THIS, VARIABLE};
-use sheet::limits::MAX_DEPTH;
 use sheet::{child, count, field_a, field_b, field_c, kind, position, start_of};
 use text::same_bytes;
 
@@ -55,12 +53,12 @@ fn same_text(sheet: &[u8], a: u32, b: u32) -> bool
     same_bytes(sheet::text(sheet, a), sheet::text(sheet, b))
 }
 
-// The steps of links `c` and `d`, both indexes, are the same; `x` and `y` are what they are taken with.
-fn same_index(sheet: &[u8], c: u32, d: u32, x: u32, y: u32) -> bool
-    ensures { let sheet = sheet.now in (x ≡ flatten.operand_of sheet c → y ≡ flatten.operand_of sheet d → result ≡ sames.same_index sheet c d) }
+// The steps of the links that say `p` and `q`, both indexes, are the same.
+fn same_index(sheet: &[u8], p: Read, q: Read) -> bool
+    ensures { let sheet = sheet.now in (Reads sheet p.link p → Reads sheet q.link q → result ≡ sames.same_index sheet p.link q.link) }
 {
-    if position(sheet, c) == position(sheet, d) {
-        return start_of(sheet, x) == start_of(sheet, y);
+    if position(sheet, p.link) == position(sheet, q.link) {
+        return start_of(sheet, p.with) == start_of(sheet, q.with);
     }
     false
 }
@@ -88,39 +86,24 @@ fn same_method(sheet: &[u8], x: u32, y: u32) -> bool
     false
 }
 
-// A rule's number.
-fn rule_number(r: StepRule) -> u32
-    ensures { result ≡ sames.rule_number (answers.step_rule_from r) }
+// The steps of the links that say `p` and `q`, both by one rule, are the same.
+fn same_as(sheet: &[u8], p: Read, q: Read) -> bool
+    ensures { let sheet = sheet.now in (Reads sheet p.link p → Reads sheet q.link q → result ≡ sames.same_as (answers.step_rule_from p.rule) sheet p.link q.link) }
 {
-    match r {
-        StepRule::Index => 0,
-        StepRule::Property => 1,
-        StepRule::Method => 2,
-        StepRule::Nothing => 3,
-    }
-}
-
-// The steps of links `c` and `d`, both by rule `r`, are the same; `x` and `y` are what they are taken with.
-fn same_as(r: StepRule, sheet: &[u8], c: u32, d: u32, x: u32, y: u32) -> bool
-    ensures { let sheet = sheet.now in (x ≡ flatten.operand_of sheet c → y ≡ flatten.operand_of sheet d → result ≡ sames.same_as (answers.step_rule_from r) sheet c d) }
-{
-    match r {
-        StepRule::Index => same_index(sheet, c, d, x, y),
-        StepRule::Property => same_property(sheet, x, y),
-        StepRule::Method => same_method(sheet, x, y),
+    match p.rule {
+        StepRule::Index => same_index(sheet, p, q),
+        StepRule::Property => same_property(sheet, p.with, q.with),
+        StepRule::Method => same_method(sheet, p.with, q.with),
         StepRule::Nothing => false,
     }
 }
 
-// The steps of links `c` and `d`, which say `p` and `q`, are the same, but for the operands' numbers.
-fn same_step(sheet: &[u8], c: u32, d: u32, p: Read, q: Read) -> bool
-    ensures { let sheet = sheet.now in (Reads sheet c p → Reads sheet d q → result ≡ sames.same_step sheet c d) }
+// The steps of the links that say `p` and `q` are the same, but for the operands' numbers.
+fn same_step(sheet: &[u8], p: Read, q: Read) -> bool
+    ensures { let sheet = sheet.now in (Reads sheet p.link p → Reads sheet q.link q → result ≡ sames.same_step sheet p.link q.link) }
 {
-    let r = p.rule;
-    let u = q.rule;
-    let one = rule_number(r) == rule_number(u);
-    if one & (p.flag == q.flag) {
-        return same_as(r, sheet, c, d, p.with, q.with);
+    if (p.rule == q.rule) & (p.flag == q.flag) {
+        return same_as(sheet, p, q);
     }
     false
 }
@@ -129,32 +112,18 @@ fn same_step(sheet: &[u8], c: u32, d: u32, p: Read, q: Read) -> bool
 fn same_steps(sheet: &[u8], i: u32, j: u32) -> bool
     ensures { result ≡ sames.same_links max_depth sheet.now i j }
 {
-    let mut left = MAX_DEPTH;
-    let mut c = i;
-    let mut d = j;
-    while 0 < left {
-        let p = read_link(sheet, c);
-        let q = read_link(sheet, d);
-        if same_step(sheet, c, d, p, q) {
-            left -= 1;
-            if left == 0 {
-                return true;
-            }
-            if p.on {
-                if q.on {
-                    c = p.rest;
-                    d = q.rest;
-                } else {
+    let mut others = links_of(sheet, j);
+    for p in links_of(sheet, i) {
+        match others.next() {
+            Some(q) => {
+                if !same_step(sheet, p, q) {
                     return false;
                 }
-            } else {
-                return !q.on;
             }
-        } else {
-            return false;
+            None => return false,
         }
     }
-    true
+    others.next().is_none()
 }
 
 // The variables `v` and `w` are the same root, where `local` tells whether `v` is a local.
@@ -171,6 +140,7 @@ fn same_variable(sheet: &[u8], v: u32, w: u32, local: bool) -> bool
 }
 
 // The kind of a root: Variable, This, or 0 for any other.
+// Kept: two roots are compared by it as numbers. An Option would have to be taken apart again at each test.
 fn root_kind(k: u32) -> u32
     ensures { result ≡ sames.root_kind k }
 {
@@ -208,17 +178,17 @@ pub fn same_chain(sheet: &[u8], i: u32, j: u32, local: bool) -> bool
 }
 
 // A variable's root, by the local that was found.
-fn variable_root(found: Found, name: u32, pos: u32) -> Root
+fn variable_root(found: Option<u32>, name: u32, pos: u32) -> Root
     ensures { result ≡ roots.variable_by found name pos }
 {
     match found {
-        Found::At(slot) => Root::Local { slot, name },
-        Found::Nothing => Root::Named { name, pos },
+        Some(slot) => Root::Local { slot, name },
+        None => Root::Named { name, pos },
     }
 }
 
 // Node `v` as a root, with its name at place `name`, where `found` is the local that a variable is.
-pub fn root_of(sheet: &[u8], v: u32, name: u32, found: Found) -> Root
+pub fn root_of(sheet: &[u8], v: u32, name: u32, found: Option<u32>) -> Root
     ensures { let sheet = sheet.now in ((nodes.kind sheet v ≡ variable_kind → found ≡ founds.found (locals.resolve sheet (texts.text sheet (nodes.field_a sheet v))))
         → result ≡ chains.root_with sheet v name) }
 {
@@ -234,47 +204,27 @@ pub fn root_of(sheet: &[u8], v: u32, name: u32, found: Found) -> Root
     Root::Temporary
 }
 
-// How many operands the step of a link takes, which says `p`.
+// How many operands the step of a link takes, which says `p`. Arguments are cut to as many as lower.
 pub fn width(sheet: &[u8], p: Read) -> u32
     ensures { let sheet = sheet.now in ((c : ℕ) → Reads sheet c p → result ≡ chains.step_operands sheet c) }
 {
-    let r = p.rule;
-    match r {
+    match p.rule {
         StepRule::Index => 1,
         StepRule::Property => 0,
-        StepRule::Method => few(count(sheet, p.with)),
+        StepRule::Method => count(sheet, p.with).min(MAX_ARGS),
         StepRule::Nothing => 0,
     }
-}
-
-// `n` arguments, cut to as many as lower.
-fn few(n: u32) -> u32
-    ensures { result ≡ min n max_args }
-{
-    if n <= MAX_ARGS {
-        return n;
-    }
-    MAX_ARGS
 }
 
 // How many links the chain of node `j` has, and how many operands their steps take.
 fn count_links(sheet: &[u8], j: u32) -> Counts
     ensures { Counted sheet.now j result }
 {
-    let mut left = MAX_DEPTH;
     let mut links: u32 = 0;
     let mut operands: u32 = 0;
-    let mut c = j;
-    while 0 < left {
-        let p = read_link(sheet, c);
+    for p in links_of(sheet, j) {
         links += 1;
         operands += width(sheet, p);
-        if p.on {
-            c = p.rest;
-            left -= 1;
-        } else {
-            return Counts { links, operands };
-        }
     }
     Counts { links, operands }
 }
@@ -283,39 +233,21 @@ fn count_links(sheet: &[u8], j: u32) -> Counts
 pub fn link_count(sheet: &[u8], j: u32) -> u32
     ensures { result ≡ chains.link_count sheet.now j }
 {
-    let mut left = MAX_DEPTH;
-    let mut n: u32 = 0;
-    let mut c = j;
-    while 0 < left {
-        n += 1;
-        if goes_on(sheet, c) {
-            c = rest_of(sheet, c);
-            left -= 1;
-        } else {
-            return n;
-        }
-    }
-    n
+    links_of(sheet, j).count() as u32
 }
 
 // A link has a step by rule `r`.
 fn has_step(r: StepRule) -> bool
     ensures { result ≡ flatten.has_step (answers.step_rule_from r) }
 {
-    match r {
-        StepRule::Index => true,
-        StepRule::Property => true,
-        StepRule::Method => true,
-        StepRule::Nothing => false,
-    }
+    !matches!(r, StepRule::Nothing)
 }
 
 // The step of a link lowers, which says `p`.
 fn step_lowers(sheet: &[u8], p: Read) -> bool
     ensures { let sheet = sheet.now in ((c : ℕ) → Reads sheet c p → result ≡ lowering.step_lowers sheet c) }
 {
-    let r = p.rule;
-    match r {
+    match p.rule {
         StepRule::Index => true,
         StepRule::Property => true,
         StepRule::Method => is_lowerable_method(sheet, p.with),
@@ -327,27 +259,13 @@ fn step_lowers(sheet: &[u8], p: Read) -> bool
 pub fn far_of(sheet: &[u8], j: u32) -> Far
     ensures { Comes sheet.now j result }
 {
-    let mut left = MAX_DEPTH;
     let mut flattens = true;
     let mut lowers = true;
     let mut operands: u32 = 0;
-    let mut c = j;
-    while left > 0 {
-        let p = read_link(sheet, c);
-        let r = p.rule;
-        flattens = flattens & has_step(r);
-        lowers = lowers & step_lowers(sheet, p);
+    for p in links_of(sheet, j) {
+        flattens &= has_step(p.rule);
+        lowers &= step_lowers(sheet, p);
         operands += width(sheet, p);
-        if p.on {
-            c = p.rest;
-            left -= 1;
-        } else {
-            return Far {
-                flattens,
-                lowers,
-                operands,
-            };
-        }
     }
     Far {
         flattens,

@@ -1,14 +1,18 @@
 -- Laws of the count by the answers of the code: each result that the code reads is given by an equation.
 use Prim.Native.Nat.{ℕ, ◌+◌, ◌*◌, ◌-◌, ◌≤◌, ◌<◌, min}
-use mathlib.Core.Path.{◌≡◌, sym, ap, ap₂, ◌∙◌}
-use mathlib.Core.Bool.{Bool, true, false}
-use mathlib.Core.List.{List}
+use mathlib.Core.Path.{◌≡◌, refl, sym, ap, ap₂, ◌∙◌}
+use mathlib.Core.Bool.{Bool, true}
+use mathlib.Core.List.{List, []}
 use native.Mathlib.Omega.{arith}
 use Rattle.sheet.specs.Limits.{max_depth}
 use Rattle.sheet.specs.Node.{count, child, next}
 use Rattle.sheet.specs.Walk.{skip}
 use Rattle.lowering.specs.Limits.{max_elements}
-use Rattle.lowering.specs.Flatten.{rest_of, goes_on, links}
+use Rattle.lowering.specs.Flatten.{links}
+use Rattle.expr_rules.specs.declared.chains.Read.{Read}
+use Rattle.expr_rules.specs.declared.chains.Links.{Links}
+use Rattle.expr_rules.specs.Links.{nodes_left}
+use Rattle.expr_rules.proofs.LinksLaws.{Left, Begun, Turn}
 use Rattle.expr_count.specs.declared.tallies.Tally.{Tally}
 use Rattle.expr_count.specs.declared.plans.Plan.{Plan}
 use Rattle.expr_count.specs.declared.plans.Plan.TheVariants.{Parts}
@@ -18,8 +22,12 @@ use Rattle.expr_count.specs.Tally.{instructions, nothing, plus, taken_back, capp
 use Rattle.expr_count.proofs.TallyLaws.{nothing-plus, capped-capped}
 use Rattle.expr_count.specs.Plan.{array, plan}
 use Rattle.expr_count.proofs.PlanLaws.{array-few, array-many}
-use Rattle.expr_count.specs.Link.{is_plain, link, grade, least, temporary}
-use Rattle.expr_count.proofs.LinkLaws.{plain-chain, links-some, reach-starts, reach-more, reach-last, reach-done}
+use Rattle.std.specs.Ordering.{ord_min}
+use Rattle.expr_count.specs.contracts.links.DistanceOrd.TheImpl as Order
+use Rattle.expr_count.specs.declared.links.Distance.{Distance}
+use Rattle.expr_count.specs.declared.links.Distance.TheVariants as Distances
+use Rattle.expr_count.specs.Link.{is_plain, link, grade, least, temporary, reach_number}
+use Rattle.expr_count.proofs.LinkLaws.{plain-chain, reach-starts, reach-more, reach-done}
 use Rattle.expr_count.specs.Count.{Rec, siblings, coalesce, walk, chain, tally_by}
 use Rattle.expr_count.proofs.CodeLaws.{
   one-capped,
@@ -29,7 +37,6 @@ use Rattle.expr_count.proofs.CodeLaws.{
   sum-node,
   sum_done,
   walk_more,
-  walk-last,
   walk-fails,
   walk-nowhere,
   walk-done,
@@ -84,29 +91,36 @@ module _ (s : List ℕ) (t : Rec) (gap n from : ℕ) where
       }
 
   module _ (leaves i j : ℕ) (a : Tally) (S : SumLeft s t gap n from a leaves i j) where
-    pub sum-passes : {k : ℕ} → i < n → t j ≡ instructions 1 → k ≡ next s j → SumLeft s t gap n from a (leaves + 1) (i + 1) k
-    sum-passes h one k-is =
+    pub sum-passes :
+        {b : Tally} {m k : ℕ} → i < n → t j ≡ instructions 1 → b ≡ a → m ≡ leaves + 1 → k ≡ next s j → SumLeft s t gap n from b m (i + 1) k
+    sum-passes {k = k} h one b_is m-is k-is =
         record {
-          few = omega (arith, S.few);
+          few = omega (arith, S.few, m-is);
           within = omega arith;
           rest =
-              ap (λ m. capped (plus a (plus (instructions (leaves + 1 + gap * (i + 1))) (siblings s t gap (n - (i + 1)) m)))) k-is
+              ap₂
+              (λ (x : Tally) (l : ℕ). capped (plus x (plus (instructions (l + gap * (i + 1))) (siblings s t gap (n - (i + 1)) k))))
+              b_is m-is
+              ∙ ap (λ r. capped (plus a (plus (instructions (leaves + 1 + gap * (i + 1))) (siblings s t gap (n - (i + 1)) r)))) k-is
               ∙ sum-leaf s t gap n leaves i j a h one
               ∙ S.rest;
         }
 
     pub sum_goes :
-        {u b : Tally} {k : ℕ} → i < n → u ≡ capped (t j) → b ≡ capped (plus a u) → k ≡ next s j
-        → SumLeft s t gap n from b leaves (i + 1) k
-    sum_goes h u-is b_is k-is =
+        {u b : Tally} {m k : ℕ} → i < n → u ≡ capped (t j) → b ≡ capped (plus a u) → m ≡ leaves → k ≡ next s j
+        → SumLeft s t gap n from b m (i + 1) k
+    sum_goes {m = m} {k = k} h u-is b_is m-is k-is =
         let all = b_is ∙ ap (λ (x : Tally). capped (plus a x)) u-is in
         record {
-          few = omega (arith, S.few);
+          few = omega (arith, S.few, m-is);
           within = omega arith;
           rest =
               ap₂
-              (λ (x : Tally) (m : ℕ). capped (plus x (plus (instructions (leaves + gap * (i + 1))) (siblings s t gap (n - (i + 1)) m))))
-              all k-is
+              (λ (x : Tally) (l : ℕ). capped (plus x (plus (instructions (l + gap * (i + 1))) (siblings s t gap (n - (i + 1)) k))))
+              all m-is
+              ∙ ap
+              (λ r. capped (plus (capped (plus a (capped (t j)))) (plus (instructions (leaves + gap * (i + 1))) (siblings s t gap (n - (i + 1)) r))))
+              k-is
               ∙ sum-node s t gap n leaves i j a h
               ∙ S.rest;
         }
@@ -117,96 +131,109 @@ module _ (s : List ℕ) (t : Rec) (gap n from : ℕ) where
     sum-ends h g-is b_is =
         b_is ∙ ap (λ (x : Tally). capped (plus a x)) g-is ∙ sum_done s t gap n leaves i j a h S.within ∙ S.rest
 
--- ---- links: at most `left` more, with c next, and a is the sum of those passed
+-- ---- links: a is the sum of those passed
 
-pub record WalkLeft (s : List ℕ) (t : Rec) (j : ℕ) (a : Tally) (left c : ℕ) : Type 0 where
+pub record WalkLeft (s : List ℕ) (t : Rec) (j : ℕ) (a : Tally) (it : Links) : Type 0 where
+  pub left : Left s it
   pub cut : capped a ≡ a
-  pub rest : capped (plus a (walk s t (links left s c))) ≡ capped (walk s t (links max_depth s j))
+  pub rest : capped (plus a (walk s t (nodes_left it))) ≡ capped (walk s t (links max_depth s j))
 
-module _ (s : List ℕ) (t : Rec) (j : ℕ) where
-  pub walk_begins : {a : Tally} → a ≡ nothing → WalkLeft s t j a max_depth j
-  walk_begins e =
+module _ {s : List ℕ} {t : Rec} {j : ℕ} {a : Tally} {it : Links} where
+  pub walk_begins : Begun s it (links max_depth s j) → a ≡ nothing → WalkLeft s t j a it
+  walk_begins b e =
       let all = walk s t (links max_depth s j) in
-      record { cut = nothing-cut e; rest = ap (λ (x : Tally). capped (plus x all)) e ∙ ap capped (nothing-plus all) }
+      record {
+        left = b.left;
+        cut = nothing-cut e;
+        rest =
+            ap (λ cs. capped (plus a (walk s t cs))) b.nodes
+            ∙ ap (λ (x : Tally). capped (plus x all)) e
+            ∙ ap capped (nothing-plus all);
+      }
 
-  module _ (a : Tally) (left c : ℕ) (W : WalkLeft s t j a left c) where
+  module _ (W : WalkLeft s t j a it) where
     pub walk-goes :
-        {l : Link} {n from : ℕ} {u b : Tally} {g : Bool} {k : ℕ} → 0 < left → l ≡ link s c → l ≡ Lowers n from
-        → u ≡ capped (siblings s t 0 n from)
-        → b ≡ capped (plus a u) → g ≡ goes_on s c → g ≡ true → k ≡ rest_of s c → WalkLeft s t j b (left - 1) k
-    walk-goes {n = n} {from = from} {u = u} h l-is told u-is b_is g-is on k-is =
+        {p : Read} {k : Links} {l : Link} {n from : ℕ} {u b : Tally} → Turn s it p k → l ≡ link s p.link → l ≡ Lowers n from
+        → u ≡ capped (siblings s t 0 n from) → b ≡ capped (plus a u) → WalkLeft s t j b k
+    walk-goes {k = k} {n = n} {from = from} {u = u} turn l-is told u-is b_is =
         let all = b_is ∙ ap (λ (x : Tally). capped (plus a x)) u-is in
         record {
+          left = turn.left;
           cut = sum-cut a u b_is;
           rest =
-              ap₂ (λ (x : Tally) (m : ℕ). capped (plus x (walk s t (links (left - 1) s m)))) all k-is
-              ∙ walk_more s t left c a n from h (sym l-is ∙ told) (sym g-is ∙ on)
+              ap (λ (x : Tally). capped (plus x (walk s t (nodes_left k)))) all
+              ∙ walk_more s t a turn.nodes n from (sym l-is ∙ told)
               ∙ W.rest;
         }
 
-    pub walk-stops :
-        {l : Link} {n from : ℕ} {u b : Tally} {g : Bool} → 0 < left → l ≡ link s c → l ≡ Lowers n from → u ≡ capped (siblings s t 0 n from)
-        → b ≡ capped (plus a u) → g ≡ goes_on s c → g ≡ false → b ≡ capped (walk s t (links max_depth s j))
-    walk-stops {n = n} {from = from} h l-is told u-is b_is g-is off =
-        b_is
-        ∙ ap (λ (x : Tally). capped (plus a x)) u-is
-        ∙ walk-last s t left c a n from h (sym l-is ∙ told) (sym g-is ∙ off)
-        ∙ W.rest
+    pub walk-failed : {p : Read} {k : Links} {l : Link} → Turn s it p k → l ≡ link s p.link → l ≡ Fails
+        → a ≡ capped (walk s t (links max_depth s j))
+    walk-failed turn l-is told = walk-fails s t a turn.nodes (sym l-is ∙ told) W.cut ∙ W.rest
 
-    pub walk-failed : {l : Link} → 0 < left → l ≡ link s c → l ≡ Fails → a ≡ capped (walk s t (links max_depth s j))
-    walk-failed h l-is told = walk-fails s t left c a h (sym l-is ∙ told) W.cut ∙ W.rest
+    pub walk-lost : {p : Read} {k : Links} {l : Link} → Turn s it p k → l ≡ link s p.link → l ≡ Nowhere
+        → a ≡ capped (walk s t (links max_depth s j))
+    walk-lost turn l-is told = walk-nowhere s t a turn.nodes (sym l-is ∙ told) W.cut ∙ W.rest
 
-    pub walk-lost : {l : Link} → 0 < left → l ≡ link s c → l ≡ Nowhere → a ≡ capped (walk s t (links max_depth s j))
-    walk-lost h l-is told = walk-nowhere s t left c a h (sym l-is ∙ told) W.cut ∙ W.rest
+    pub walk_ends : nodes_left it ≡ [] → a ≡ capped (walk s t (links max_depth s j))
+    walk_ends e = walk-done s t a e W.cut ∙ W.rest
 
-    pub walk_ends : left ≤ 0 → a ≡ capped (walk s t (links max_depth s j))
-    walk_ends h = walk-done s t left c a h W.cut ∙ W.rest
+-- ---- how far a chain comes: a with those passed
 
--- ---- how far a chain comes: at most `left` more links, with c next, and a with those passed
-
-pub record ReachLeft (s : List ℕ) (j a left c : ℕ) : Type 0 where
+pub record ReachLeft (s : List ℕ) (j a : ℕ) (it : Links) : Type 0 where
+  pub left : Left s it
   pub low : a ≤ 2
-  pub rest : min a (least s (links left s c)) ≡ least s (links max_depth s j)
+  pub rest : min a (least s (nodes_left it)) ≡ least s (links max_depth s j)
 
 lesser-low : (a g : ℕ) {b : ℕ} → a ≤ 2 → b ≡ min a g → b ≤ 2
 lesser-low a g h e = omega arith
+
+-- the lesser of two answers of the code
+pub reach-min : (a b : Distance) → reach_number (ord_min (Order.cmp-value).it a b) ≡ min (reach_number a) (reach_number b)
+unfolding reach_number
+reach-min Distances.Nowhere Distances.Nowhere = refl
+reach-min Distances.Nowhere Distances.TakenBack = refl
+reach-min Distances.Nowhere Distances.Whole = refl
+reach-min Distances.TakenBack Distances.Nowhere = refl
+reach-min Distances.TakenBack Distances.TakenBack = refl
+reach-min Distances.TakenBack Distances.Whole = refl
+reach-min Distances.Whole Distances.Nowhere = refl
+reach-min Distances.Whole Distances.TakenBack = refl
+reach-min Distances.Whole Distances.Whole = refl
 
 -- a link that lowers comes to the end
 pub lowers-two : {l : Link} {n from : ℕ} → l ≡ Lowers n from → 2 ≡ grade l
 unfolding grade
 lowers-two e = sym (ap grade e)
 
-module _ (s : List ℕ) (j : ℕ) where
-  pub reach-begins : ReachLeft s j 2 max_depth j
-  reach-begins = record { low = omega arith; rest = reach-starts s (links max_depth s j) }
+module _ {s : List ℕ} {j : ℕ} {it : Links} where
+  pub reach-begins : Begun s it (links max_depth s j) → ReachLeft s j 2 it
+  reach-begins b = record {
+    left = b.left;
+    low = omega arith;
+    rest = ap (λ cs. min 2 (least s cs)) b.nodes ∙ reach-starts s (links max_depth s j);
+  }
 
-  module _ (a left c : ℕ) (R : ReachLeft s j a left c) where
+  module _ {a : ℕ} (R : ReachLeft s j a it) where
     pub reach-goes :
-        {l : Link} {g b k : ℕ} {o : Bool} → 0 < left → l ≡ link s c → g ≡ grade l → b ≡ min a g → o ≡ goes_on s c → o ≡ true → k ≡ rest_of s c
-        → ReachLeft s j b (left - 1) k
-    reach-goes {g = g} h l-is g-is b_is o_is on k-is =
+        {p : Read} {k : Links} {l : Link} {g b : ℕ} → Turn s it p k → l ≡ link s p.link → g ≡ grade l → b ≡ min a g → ReachLeft s j b k
+    reach-goes {k = k} {g = g} turn l-is g-is b_is =
         let all = b_is ∙ ap (min a) (g-is ∙ ap grade l-is) in
         record {
+          left = turn.left;
           low = lesser-low a g R.low b_is;
-          rest = ap₂ (λ (x m : ℕ). min x (least s (links (left - 1) s m))) all k-is ∙ reach-more s left c a h (sym o_is ∙ on) ∙ R.rest;
+          rest = ap (λ (x : ℕ). min x (least s (nodes_left k))) all ∙ reach-more s a turn.nodes ∙ R.rest;
         }
 
-    pub reach-stops :
-        {l : Link} {g b : ℕ} {o : Bool} → 0 < left → l ≡ link s c → g ≡ grade l → b ≡ min a g → o ≡ goes_on s c → o ≡ false
-        → b ≡ least s (links max_depth s j)
-    reach-stops h l-is g-is b_is o_is off =
-        b_is ∙ ap (min a) (g-is ∙ ap grade l-is) ∙ reach-last s left c a h (sym o_is ∙ off) ∙ R.rest
-
     -- a link without a step
-    pub reach-lost : {l : Link} → 0 < left → l ≡ link s c → l ≡ Nowhere → 0 ≡ least s (links max_depth s j)
+    pub reach-lost : {p : Read} {k : Links} {l : Link} → Turn s it p k → l ≡ link s p.link → l ≡ Nowhere
+        → 0 ≡ least s (links max_depth s j)
     unfolding least grade
-    reach-lost h l-is told =
-        let some = (links-some s left c h).1 in
-        let none : least s (links left s c) ≡ 0 = rw (some, sym l-is ∙ told) (omega arith) in
+    reach-lost turn l-is told =
+        let none : least s (nodes_left it) ≡ 0 = rw (turn.nodes, sym l-is ∙ told) (omega arith) in
         omega (arith, R.rest, none)
 
-    pub reach-ends : left ≤ 0 → a ≡ least s (links max_depth s j)
-    reach-ends h = sym (reach-done s left c a h R.low) ∙ R.rest
+    pub reach-ends : nodes_left it ≡ [] → a ≡ least s (links max_depth s j)
+    reach-ends e = sym (reach-done s a e R.low) ∙ R.rest
 
 -- ---- nodes
 

@@ -1,15 +1,14 @@
 -- Laws of the count, in the shapes of the code: sums that are cut off on the way, and what is left of a loop.
 use Prim.Native.Nat.{ℕ, zero, suc, ◌+◌, ◌*◌, ◌-◌, ◌≤◌, ◌<◌}
 use mathlib.Core.Path.{◌≡◌, refl, sym, ap, ◌∙◌}
-use mathlib.Core.Bool.{Bool, true, false, ◌||◌, or-false}
+use mathlib.Core.Bool.{Bool, true, ◌||◌, or-false}
 use mathlib.Core.List.{List, [], ◌∷◌}
 use native.Mathlib.Omega.{arith}
 use native.Mathlib.Nat.{sub-zero}
-use Rattle.lowering.proofs.ChainNodesLaws.{links-more, links-last, links-none}
 use Rattle.sheet.specs.Limits.{max_depth}
 use Rattle.sheet.specs.Node.{kind, count, child, next}
 use Rattle.sheet.specs.Walk.{skip}
-use Rattle.lowering.specs.Flatten.{rest_of, goes_on, links}
+use Rattle.lowering.specs.Flatten.{links}
 use Rattle.expr_count.specs.declared.tallies.Tally.{Tally}
 use Rattle.expr_count.specs.declared.plans.Plan.TheVariants.{Parts, Coalesce, Chain}
 use Rattle.expr_count.specs.declared.links.Link.TheVariants.{Lowers, Fails, Nowhere}
@@ -19,7 +18,6 @@ use Rattle.expr_count.proofs.TallyLaws.{capped_left, capped-right, capped-both, 
 use Rattle.expr_count.specs.Plan.{is_leaf, plan}
 use Rattle.expr_count.proofs.PlanLaws.{leaf-plan}
 use Rattle.expr_count.specs.Link.{link, least, temporary}
-use Rattle.expr_count.proofs.LinkLaws.{links-some}
 use Rattle.expr_count.specs.Count.{Rec, siblings, coalesce, walk_on, walk, chain_by, chain, follow, tally_by}
 
 -- ---- sums
@@ -136,40 +134,29 @@ leaf-tally here zero s j h = refl
 leaf-tally here (suc levels) s j h =
     ap (λ p. follow p s (tally_by here levels s) j) (leaf-plan s j here h) ∙ nothing-plus (instructions 1)
 
--- ---- links: at most `left` more, with c next, and a is the sum of those passed
+-- ---- links: cs are left, the next of them c, and a is the sum of those passed
 
-module _ (s : List ℕ) (t : Rec) (left c : ℕ) (a : Tally) where
-  walk-on : (n from : ℕ) (cs : List ℕ) → link s c ≡ Lowers n from → walk s t (c ∷ cs) ≡ plus (siblings s t 0 n from) (walk s t cs)
+module _ (s : List ℕ) (t : Rec) (a : Tally) {c : ℕ} {cs ds : List ℕ} (is : cs ≡ c ∷ ds) where
+  walk-on : (n from : ℕ) → link s c ≡ Lowers n from → walk s t cs ≡ plus (siblings s t 0 n from) (walk s t ds)
   unfolding walk walk_on
-  walk-on n from cs h = rw h
+  walk-on n from h = rw (is, h)
 
-  pub walk_more : (n from : ℕ) → 0 < left → link s c ≡ Lowers n from → goes_on s c ≡ true
-      → capped (plus (capped (plus a (capped (siblings s t 0 n from)))) (walk s t (links (left - 1) s (rest_of s c))))
-      ≡ capped (plus a (walk s t (links left s c)))
-  walk_more n from h l g =
-      let cs = links (left - 1) s (rest_of s c) in
-      capped-more a (siblings s t 0 n from) (walk s t cs)
-      ∙ ap (λ x. capped (plus a x)) (sym (walk-on n from cs l) ∙ ap (walk s t) (sym (links-more s left c h g)))
+  pub walk_more : (n from : ℕ) → link s c ≡ Lowers n from
+      → capped (plus (capped (plus a (capped (siblings s t 0 n from)))) (walk s t ds)) ≡ capped (plus a (walk s t cs))
+  walk_more n from l =
+      capped-more a (siblings s t 0 n from) (walk s t ds) ∙ ap (λ x. capped (plus a x)) (sym (walk-on n from l))
 
-  pub walk-last : (n from : ℕ) → 0 < left → link s c ≡ Lowers n from → goes_on s c ≡ false
-      → capped (plus a (capped (siblings s t 0 n from))) ≡ capped (plus a (walk s t (links left s c)))
-  unfolding walk
-  walk-last n from h l g =
-      capped-right a (siblings s t 0 n from)
-      ∙ ap (λ x. capped (plus a x))
-      (sym (plus-nothing (siblings s t 0 n from)) ∙ sym (walk-on n from [] l) ∙ ap (walk s t) (sym (links-last s left c h g)))
-
-  pub walk-fails : 0 < left → link s c ≡ Fails → capped a ≡ a → a ≡ capped (plus a (walk s t (links left s c)))
+  pub walk-fails : link s c ≡ Fails → capped a ≡ a → a ≡ capped (plus a (walk s t cs))
   unfolding walk walk_on
-  walk-fails h l k = rw ((links-some s left c h).1, l) (capped-none a k)
+  walk-fails l k = rw (is, l) (capped-none a k)
 
-  pub walk-nowhere : 0 < left → link s c ≡ Nowhere → capped a ≡ a → a ≡ capped (plus a (walk s t (links left s c)))
+  pub walk-nowhere : link s c ≡ Nowhere → capped a ≡ a → a ≡ capped (plus a (walk s t cs))
   unfolding walk walk_on
-  walk-nowhere h l k = rw ((links-some s left c h).1, l) (capped-none a k)
+  walk-nowhere l k = rw (is, l) (capped-none a k)
 
-  pub walk-done : left ≤ 0 → capped a ≡ a → a ≡ capped (plus a (walk s t (links left s c)))
-  unfolding walk
-  walk-done h k = rw (links-none s left c h) (capped-none a k)
+pub walk-done : (s : List ℕ) (t : Rec) (a : Tally) {cs : List ℕ} → cs ≡ [] → capped a ≡ a → a ≡ capped (plus a (walk s t cs))
+unfolding walk
+walk-done s t a e k = rw e (capped-none a k)
 
 -- ---- chains
 

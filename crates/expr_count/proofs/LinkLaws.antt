@@ -7,7 +7,7 @@ use native.Mathlib.Omega.{arith}
 use lib.Dec.{eqb, lit<}
 use borrow.Author.Tests.{eqb-true}
 use Rattle.laws.proofs.Numbers.{one_less}
-use Rattle.lowering.proofs.ChainNodesLaws.{links-more, links-last, links-none}
+use Rattle.lowering.proofs.ChainNodesLaws.{links-last}
 use Rattle.sheet.specs.Limits.{max_depth}
 use Rattle.sheet.specs.Node.{kind, child}
 use Rattle.lowering.specs.Kinds.{property_kind, dot_kind}
@@ -31,19 +31,14 @@ grade-least Fails = omega arith
 grade-least Nowhere = omega arith
 
 -- `a` is how far the chain comes with the links passed
-module _ (s : List ℕ) (left c a : ℕ) where
-  pub reach-more : 0 < left → goes_on s c ≡ true
-      → min (min a (grade (link s c))) (least s (links (left - 1) s (rest_of s c))) ≡ min a (least s (links left s c))
+module _ (s : List ℕ) (a : ℕ) {cs : List ℕ} where
+  pub reach-more : {c : ℕ} {ds : List ℕ} → cs ≡ c ∷ ds → min (min a (grade (link s c))) (least s ds) ≡ min a (least s cs)
   unfolding least
-  reach-more h g = rw (links-more s left c h g) (omega arith)
+  reach-more is = rw is (omega arith)
 
-  pub reach-last : 0 < left → goes_on s c ≡ false → min a (grade (link s c)) ≡ min a (least s (links left s c))
+  pub reach-done : cs ≡ [] → a ≤ 2 → min a (least s cs) ≡ a
   unfolding least
-  reach-last h g = rw (links-last s left c h g) (omega (arith, grade-least (link s c)))
-
-  pub reach-done : left ≤ 0 → a ≤ 2 → min a (least s (links left s c)) ≡ a
-  unfolding least
-  reach-done h g = rw (links-none s left c h) (omega arith)
+  reach-done e g = rw e (omega arith)
 
 least-least : (s ls : List ℕ) → least s ls ≤ 2
 unfolding least

@@ -15,10 +15,11 @@ use Rattle.lowering.specs.Kinds.{variable_kind, this_kind}
 use Rattle.lowering.specs.Slots.{resolve}
 use Rattle.lowering.specs.Call as Call
 use Rattle.lowering.specs.Call.{variable_first, receiver}
-use Rattle.expr_slots.specs.declared.Found.TheVariants.{At, Nothing}
+use Rattle.std.specs.Prelude.{Some, None, is_some, unwrap_or}
+use Rattle.std.specs.Bool.{then_some}
 use Rattle.expr_slots.specs.Found.{found}
 use Rattle.expr_rules.specs.declared.calls.First as Firsts
-use Rattle.expr_rules.specs.Answers.{first_of}
+use Rattle.expr_rules.specs.Answers.{first_of, receiver_node}
 use Rattle.expr_count.specs.Locals.{is_local, told_by, answer, variable_by, first_by, receiver_by}
 use Rattle.expr_count.specs.Plan.{call_by}
 
@@ -55,22 +56,13 @@ module _ (s : List ℕ) (j : ℕ) where
 -- ---- in the shapes of the code
 
 -- a search among the locals
-module _ (s : List ℕ) (v : ℕ) where
-  pub local-found : (slot : ℕ) → found (resolve s (text s (field_a s v))) ≡ At slot → true ≡ is_local s v
-  unfolding is_local found
-  local-found slot = by (resolve s (text s (field_a s v))) refl
-    where
-      by : (o : Option ℕ) → resolve s (text s (field_a s v)) ≡ o → found (resolve s (text s (field_a s v))) ≡ At slot → true ≡ is_local s v
-      by none e = rw (e, is_local) (λ h. cc)
-      by (some n) e = rw (e, is_local) (λ h. refl)
-
-  pub local-missed : found (resolve s (text s (field_a s v))) ≡ Nothing → false ≡ is_local s v
-  unfolding is_local found
-  local-missed = by (resolve s (text s (field_a s v))) refl
-    where
-      by : (o : Option ℕ) → resolve s (text s (field_a s v)) ≡ o → found (resolve s (text s (field_a s v))) ≡ Nothing → false ≡ is_local s v
-      by none e = rw (e, is_local) (λ h. refl)
-      by (some n) e = rw (e, is_local) (λ h. cc)
+pub local_is : (s : List ℕ) (v : ℕ) → is_some (found (resolve s (text s (field_a s v)))) ≡ is_local s v
+unfolding is_local found
+local_is s v = by (resolve s (text s (field_a s v))) refl
+  where
+    by : (o : Option ℕ) → resolve s (text s (field_a s v)) ≡ o → is_some (found (resolve s (text s (field_a s v)))) ≡ is_local s v
+    by none e = rw (e, is_local)
+    by (some n) e = rw (e, is_local)
 
 -- by what is told
 module _ (x s : List ℕ) (v : ℕ) where
@@ -123,15 +115,33 @@ module _ (here : ℕ → Bool) (s : List ℕ) (j : ℕ) where
   unfolding first_by first_of
   first-value h i = rw (ne_eqb (kind s j) 10 h, ne_eqb (kind s j) 9 i, first_by)
 
-  pub receiver-first : (eqb (field_c s j) 0 && eqb (field_b s j) 0 && leb 1 (count s j)) ≡ true
-      → receiver_by here s j ≡ first_by here s (child j)
+  abbrev asked : Bool
+  asked = eqb (field_c s j) 0 && eqb (field_b s j) 0 && leb 1 (count s j)
+
+  receiver-first : asked ≡ true → receiver_by here s j ≡ first_by here s (child j)
   unfolding receiver_by
   receiver-first h = rw (h, receiver_by)
 
-  pub receiver-none : (eqb (field_c s j) 0 && eqb (field_b s j) 0 && leb 1 (count s j)) ≡ false
-      → Firsts.TheVariants.Value ≡ first_of (receiver_by here s j)
+  receiver-none : asked ≡ false → Firsts.TheVariants.Value ≡ first_of (receiver_by here s j)
   unfolding receiver_by first_of
   receiver-none h = rw (h, receiver_by)
+
+  -- a call's receiver as the code is told of it
+  pub receiver-some : (v : ℕ) → receiver_node s j ≡ Some v → receiver_by here s j ≡ first_by here s v
+  unfolding receiver_node
+  receiver-some v = by asked refl
+    where
+      by : (t : Bool) → asked ≡ t → then_some asked (child j) ≡ Some v → receiver_by here s j ≡ first_by here s v
+      by true h = rw h (λ e. receiver-first h ∙ ap (λ o. first_by here s (unwrap_or o (child j))) e)
+      by false h = rw h (λ e. cc)
+
+  pub receiver-nothing : receiver_node s j ≡ None → Firsts.TheVariants.Value ≡ first_of (receiver_by here s j)
+  unfolding receiver_node
+  receiver-nothing = by asked refl
+    where
+      by : (t : Bool) → asked ≡ t → then_some asked (child j) ≡ None → Firsts.TheVariants.Value ≡ first_of (receiver_by here s j)
+      by true h = rw h (λ e. cc)
+      by false h = rw h (λ e. receiver-none h)
 
 -- ---- where nothing is told
 

@@ -5,6 +5,8 @@ use Rattle.lowering.specs.Kinds.{variable_kind, this_kind, property_kind, dot_ki
 use Rattle.lowering.specs.Flatten.{rest_of, goes_on, operand_of, StepRule, index, property, method, none, step_rule}
 use Rattle.lowering.specs.Steps.{is_lowerable_method}
 use Rattle.expr_count.specs.declared.links.Link.{Link}
+use Rattle.expr_count.specs.declared.links.Distance.{Distance}
+use Rattle.expr_count.specs.declared.links.Distance.TheVariants as Distances
 use Rattle.expr_count.specs.declared.links.Link.TheVariants.{Lowers, Fails, Nowhere}
 
 -- n operands from a node on; a method that does not lower; no step at all
@@ -22,6 +24,12 @@ unfoldable pub grade : Link → ℕ
 grade (Lowers n from) = 2
 grade Fails = 1
 grade Nowhere = 0
+
+-- the code's answer by its number
+unfoldable pub reach_number : Distance → ℕ
+reach_number Distances.Nowhere = 0
+reach_number Distances.TakenBack = 1
+reach_number Distances.Whole = 2
 
 -- how far a chain comes with all its links
 unfoldable pub least : List ℕ → List ℕ → ℕ

@@ -15,10 +15,9 @@ mod locals;
 pub mod plans;
 pub mod tallies;
 
-use expr_rules::chains::{goes_on, rest_of};
-use links::{Link, is_plain, link_of, reach, temporary};
+use expr_rules::chains::links_of;
+use links::{Distance, Link, is_plain, link_with, reach, temporary};
 use plans::{Plan, is_leaf, one_less, plan_of};
-use sheet::limits::MAX_DEPTH;
 use sheet::{child, count, kind, next, skip};
 use tallies::{Tally, instructions, nothing, plus, spaced, taken_back};
 
@@ -32,18 +31,14 @@ fn siblings(levels: u32, sheet: &[u8], told: &[u32], gap: u32, n: u32, from: u32
     }
     let mut sum = nothing();
     let mut leaves: u32 = 0;
-    let mut i: u32 = 0;
     let mut j = from;
-    while i < n {
+    for _i in 0..n {
         if is_leaf(kind(sheet, j)) {
             leaves += 1;
-            j = next(sheet, j);
-            i += 1;
         } else {
             sum = plus(sum, tally(levels, sheet, told, j));
-            j = next(sheet, j);
-            i += 1;
         }
+        j = next(sheet, j);
     }
     plus(sum, spaced(leaves, gap, n))
 }
@@ -63,38 +58,35 @@ fn coalesce(levels: u32, sheet: &[u8], told: &[u32], j: u32) -> Tally
 #[derive(Clone, Copy)]
 struct Walked {
     sum: Tally,
-    far: u32,
+    far: Distance,
 }
 
 // The links of chain `j`. Where all of them lower, they are read once.
 #[cycle(chain_coalesce_siblings_tally_walk)]
 fn walk(levels: u32, sheet: &[u8], told: &[u32], j: u32) -> Walked
     ensures sum_value { let sheet = sheet.now in let t = counts.tally_by (answer told.now sheet) levels sheet in result.sum ≡ capped (counts.walk sheet t (links max_depth sheet j)) }
-    ensures far_value { let sheet = sheet.now in result.far ≡ linked.least sheet (links max_depth sheet j) }
+    ensures far_value { let sheet = sheet.now in linked.reach_number result.far ≡ linked.least sheet (links max_depth sheet j) }
 {
     let mut sum = nothing();
-    let mut left = MAX_DEPTH;
-    let mut c = j;
-    while 0 < left {
-        let l = link_of(sheet, c);
-        match l {
+    for p in links_of(sheet, j) {
+        match link_with(sheet, p) {
             Link::Lowers { n, from } => {
                 sum = plus(sum, siblings(levels, sheet, told, 0, n, from));
-                if goes_on(sheet, c) {
-                    c = rest_of(sheet, c);
-                    left -= 1;
-                } else {
-                    return Walked { sum, far: 2 };
-                }
             }
             Link::Fails => {
                 let far = reach(sheet, j);
                 return Walked { sum, far };
             }
-            Link::Nowhere => return Walked { sum, far: 0 },
+            Link::Nowhere => return Walked {
+                sum,
+                far: Distance::Nowhere,
+            },
         }
     }
-    Walked { sum, far: 2 }
+    Walked {
+        sum,
+        far: Distance::Whole,
+    }
 }
 
 // Dot, Index: a residual; a residual, with its code taken back; or operands, root and Chain.
@@ -106,16 +98,15 @@ fn chain(levels: u32, sheet: &[u8], told: &[u32], j: u32) -> Tally
         return instructions(1);
     }
     let w = walk(levels, sheet, told, j);
-    let operands = w.sum;
-    if w.far == 0 {
-        return instructions(1);
+    match w.far {
+        Distance::Nowhere => instructions(1),
+        Distance::TakenBack => plus(taken_back(w.sum), instructions(1)),
+        Distance::Whole => {
+            let root = child(j);
+            let lowered = siblings(levels, sheet, told, 0, temporary(sheet, root), root);
+            plus(plus(w.sum, lowered), instructions(1))
+        }
     }
-    if w.far == 1 {
-        return plus(taken_back(operands), instructions(1));
-    }
-    let root = child(j);
-    let lowered = siblings(levels, sheet, told, 0, temporary(sheet, root), root);
-    plus(plus(operands, lowered), instructions(1))
 }
 
 // The tally of node `j`, with that many levels left.

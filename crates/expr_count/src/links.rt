@@ -1,13 +1,12 @@
 // What of a chain's links is counted.
-ghost use Rattle.std.specs.Prelude.{◌≡◌, ℕ, min};
+ghost use Rattle.std.specs.Prelude.{◌≡◌, ℕ};
 ghost use Rattle.sheet.specs.Limits.{max_depth};
 ghost use Rattle.lowering.specs.Flatten as chains;
 ghost use Rattle.expr_rules.specs.Reads.{Reads};
 ghost use Rattle.expr_count.specs.Link as linked;
 
-use expr_rules::chains::{Read, StepRule, goes_on, is_lowerable_method, read_link, rest_of};
+use expr_rules::chains::{Read, StepRule, goes_on, is_lowerable_method, links_of, rest_of};
 use sheet::kinds::{DOT, PROPERTY, THIS, VARIABLE};
-use sheet::limits::MAX_DEPTH;
 use sheet::{child, count, kind};
 
 // The `n` operands from node `from` on of a link's step; a method that does not lower; no step at all.
@@ -45,47 +44,32 @@ pub fn link_with(sheet: &[u8], p: Read) -> Link
     }
 }
 
-// What of link `c` is counted.
-pub(crate) fn link_of(sheet: &[u8], c: u32) -> Link
-    ensures { result ≡ linked.link sheet.now c }
-{
-    link_with(sheet, read_link(sheet, c))
+// How far a chain comes: nowhere, as far as code that is taken back, or to its end.
+#[derive(Clone, Copy, PartialEq, Eq, PartialOrd, Ord)]
+pub(crate) enum Distance {
+    Nowhere,
+    TakenBack,
+    Whole,
 }
 
 // How far a chain comes with a link.
-fn grade(l: Link) -> u32
-    ensures { result ≡ linked.grade l }
+fn grade(l: Link) -> Distance
+    ensures { linked.reach_number result ≡ linked.grade l }
 {
     match l {
-        Link::Lowers { n: _, from: _ } => 2,
-        Link::Fails => 1,
-        Link::Nowhere => 0,
+        Link::Lowers { n: _, from: _ } => Distance::Whole,
+        Link::Fails => Distance::TakenBack,
+        Link::Nowhere => Distance::Nowhere,
     }
 }
 
-// The lesser number.
-fn lesser(a: u32, b: u32) -> u32
-    ensures { result ≡ min a b }
-{
-    if a < b { a } else { b }
-}
-
 // How far chain `j` comes with all its links.
-pub(crate) fn reach(sheet: &[u8], j: u32) -> u32
-    ensures { result ≡ linked.least sheet.now (chains.links max_depth sheet.now j) }
+pub(crate) fn reach(sheet: &[u8], j: u32) -> Distance
+    ensures { linked.reach_number result ≡ linked.least sheet.now (chains.links max_depth sheet.now j) }
 {
-    let mut least: u32 = 2;
-    let mut left = MAX_DEPTH;
-    let mut c = j;
-    while 0 < left {
-        let p = read_link(sheet, c);
-        least = lesser(least, grade(link_with(sheet, p)));
-        if p.on {
-            c = p.rest;
-            left -= 1;
-        } else {
-            return least;
-        }
+    let mut least = Distance::Whole;
+    for p in links_of(sheet, j) {
+        least = least.min(grade(link_with(sheet, p)));
     }
     least
 }

@@ -4,21 +4,16 @@ ghost use Rattle.std.specs.Prelude.{◌≡◌};
 ghost use Rattle.expr_rules.specs.Answers.{first_of};
 ghost use Rattle.expr_count.specs.Locals as locals;
 
-use expr_rules::calls::First;
-use expr_slots::Found;
+use expr_rules::calls::{First, receiver_node};
 use scratch::get;
 use sheet::kinds::{THIS, VARIABLE};
-use sheet::{child, count, field_a, field_b, field_c, kind, node_count};
+use sheet::{field_a, kind, node_count};
 
 // Variable `v` is a local: its name is looked up.
 fn asked(sheet: &[u8], v: u32) -> bool
     ensures { result ≡ locals.is_local sheet.now v }
 {
-    let found = expr_slots::resolve(sheet, field_a(sheet, v));
-    match found {
-        Found::At(_) => true,
-        Found::Nothing => false,
-    }
+    expr_slots::resolve(sheet, field_a(sheet, v)).is_some()
 }
 
 // Variable `v` is a local, as it is told: by no word, and its name is looked up; by one word for all; by word 2 `v`, where `v` is a node. 0
@@ -67,11 +62,8 @@ fn first_by(sheet: &[u8], told: &[u32], v: u32) -> First
 pub fn receiver_by(sheet: &[u8], told: &[u32], j: u32) -> First
     ensures { let sheet = sheet.now in result ≡ first_of (locals.receiver_by (locals.answer told.now sheet) sheet j) }
 {
-    let c = field_c(sheet, j);
-    let b = field_b(sheet, j);
-    let n = count(sheet, j);
-    if (c == 0) & (b == 0) & (1 <= n) {
-        return first_by(sheet, told, child(j));
+    match receiver_node(sheet, j) {
+        Some(v) => first_by(sheet, told, v),
+        None => First::Value,
     }
-    First::Value
 }

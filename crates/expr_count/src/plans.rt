@@ -54,7 +54,7 @@ pub(crate) fn is_leaf(k: u32) -> bool
 pub fn one_less(n: u32) -> u32
     ensures { result ≡ n - 1 }
 {
-    if n == 0 { 0 } else { n - 1 }
+    n.saturating_sub(1)
 }
 
 // Array: CheckSize behind each element; MakeArray.

@@ -18,20 +18,14 @@ pub struct Tally {
 fn add(a: u64, b: u64) -> u64
     ensures { result ≡ min (a + b) cap }
 {
-    if CAP <= a {
-        return CAP;
-    }
-    if CAP - a <= b {
-        return CAP;
-    }
-    a + b
+    a.saturating_add(b).min(CAP)
 }
 
 // `n` instructions.
 pub fn instructions(n: u32) -> Tally
     ensures { result ≡ tallies.instructions n }
 {
-    let k = n as u64;
+    let k = u64::from(n);
     Tally {
         len: k,
         emitted: k,
@@ -43,7 +37,7 @@ pub fn instructions(n: u32) -> Tally
 pub(crate) fn spaced(n: u32, gap: u32, m: u32) -> Tally
     ensures { result ≡ tallies.instructions (n + gap * m) }
 {
-    let k = (n as u64) + (gap as u64) * (m as u64);
+    let k = u64::from(n) + u64::from(gap) * u64::from(m);
     Tally {
         len: k,
         emitted: k,

@@ -24,10 +24,9 @@ use Rattle.scratch_store.specs.declared.State.{State}
 use Rattle.scratch_store.specs.Holds.{Holds}
 use Rattle.scratch_store.proofs.HoldsLaws.{depth_is, depth_low}
 use Rattle.scratch_store.specs.States as states
-use Rattle.scratch_store.specs.States.{state_of, Full}
 use Rattle.scratch_store.proofs.ResidualLaws.{back-holds}
 use Rattle.scratch_store.specs.Does.{Fits, Growing, Does}
-use Rattle.scratch_store.proofs.DoesLaws.{does-seq, does-same, held-full}
+use Rattle.scratch_store.proofs.DoesLaws.{does-seq, does-same}
 use Rattle.expr_emit.specs.declared.after.After.TheVariants.{Nothing, Decide, Unless}
 use Rattle.expr_emit.specs.declared.calls.Way.{Way}
 use Rattle.expr_emit.specs.Ways.{way_of, arg_count, first_arg, opened, opened_at, closed}
@@ -192,11 +191,11 @@ pub chain-kept : {s : List ℕ} {l : Layout} {xs ys : List ℕ} {st r : State} (
 chain-kept {s} levels j h d = does-same (chain s (lowered levels s) j) (λ a g. chain-stays s (lowered levels s) j a h) d
 
 -- one that fails: its code is taken back
-pub chain_back : {s : List ℕ} {l : Layout} {ws xs ys zs : List ℕ} {st q b r : State} (e : List ℕ) (levels j root : ℕ) → Right s → Linked s j
+pub chain_back : {s : List ℕ} {l : Layout} {ws xs ys zs : List ℕ} {st q b r : State} (e : State) (levels j root : ℕ) → Right s → Linked s j
     → root ≡ child j → flattens s (links max_depth s j) ≡ true → lowers s j ≡ false
     → (Valid s root → Does s l ws st xs q (root_name s root))
-    → (Right s → Linked s j → Does s l xs q ys (state_of e) (steps s (lowered levels s) (links max_depth s j)))
-    → (Full e → b ≡ states.taken_back (state_of e) st)
+    → (Right s → Linked s j → Does s l xs q ys e (steps s (lowered levels s) (links max_depth s j)))
+    → b ≡ states.taken_back e st
     → Does s l ys b zs r (residual j)
     → Does s l ws st zs r (chain s (lowered levels s) j)
 unfolding take_back
@@ -204,7 +203,7 @@ chain_back {s} {l} {ws} {xs} {ys} {zs} {st} {q} {b} {r} e levels j root C L root
     let low = lowered levels s in
     let ls = links max_depth s j in
     let first = child-valid s C j L.link.valid (omega (arith, L.link.two)) in
-    let before : Does s l ws st ys (state_of e) (λ a. steps s low ls (root_name s (child j) a)) =
+    let before : Does s l ws st ys e (λ a. steps s low ls (root_name s (child j) a)) =
     does-seq (steps-grows levels s ls) (does_at (root_name s) root_is (named (subst (Valid s) (sym root_is) first))) (walked C L) in
     record {
       holds = λ a g f.
@@ -216,7 +215,7 @@ chain_back {s} {l} {ws} {xs} {ys} {zs} {st} {q} {b} {r} e levels j root C L root
           let named = root-name-grows s (child j) a in
           let there = before.holds a g (omega arith) in
           let returned : Holds s l ys b (take_back a x) =
-          subst (λ (u : State). Holds s l ys u (take_back a x)) (sym (back (held-full e there)))
+          subst (λ (u : State). Holds s l ys u (take_back a x)) (sym back)
           (back-holds g there (chain-behind levels s (child j) ls a) (omega arith)) in
           subst (Holds s l zs r) is (last.holds (take_back a x) returned room);
     }

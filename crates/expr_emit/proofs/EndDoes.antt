@@ -15,11 +15,10 @@ use Rattle.scratch.specs.declared.Layout.{Layout}
 use Rattle.scratch_store.specs.declared.State.{State}
 use Rattle.scratch_store.specs.Holds.{Holds}
 use Rattle.scratch_store.specs.States as states
-use Rattle.scratch_store.specs.States.{state_of, Full}
 use Rattle.scratch_store.proofs.ResidualLaws.{depth-holds}
 use Rattle.scratch_store.proofs.HoldsLaws.{code_is, code-low, most-few}
 use Rattle.scratch_store.specs.Does.{Fits, Growing, Does}
-use Rattle.scratch_store.proofs.DoesLaws.{growing-seq, held-full}
+use Rattle.scratch_store.proofs.DoesLaws.{growing-seq}
 use Rattle.expr_emit.specs.Decision.{decision}
 
 -- ---- growth
@@ -34,10 +33,10 @@ decision-grows stop end d =
 
 -- the depth, as the code sets it
 pub held-at-depth :
-    {s : List ℕ} {l : Layout} {xs : List ℕ} {r : State} {d : ℕ} {a : Made} (c : List ℕ) → (Full c → r ≡ states.at_depth (state_of c) d)
-    → d ≤ a.pools.emitted → Holds s l xs (state_of c) a → Holds s l xs r (at_depth d a)
+    {s : List ℕ} {l : Layout} {xs : List ℕ} {r : State} {d : ℕ} {a : Made} (c : State) → r ≡ states.at_depth c d
+    → d ≤ a.pools.emitted → Holds s l xs c a → Holds s l xs r (at_depth d a)
 held-at-depth {s} {l} {xs} {d = d} {a} c e few h =
-    subst (λ (q : State). Holds s l xs q (at_depth d a)) (sym (e (held-full c h))) (depth-holds d few h)
+    subst (λ (q : State). Holds s l xs q (at_depth d a)) (sym e) (depth-holds d few h)
 
 pub decision-holds : {s : List ℕ} {l : Layout} {xs ys zs ws : List ℕ} {st p q t r : State} (stop end d : ℕ) (a : Made)
     → d ≤ a.pools.emitted

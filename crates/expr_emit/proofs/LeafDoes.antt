@@ -1,11 +1,11 @@
 -- Leaves: an entry is found or added, and one instruction names it.
 use Rattle.std.proofs.Common.{◌≡◌, ℕ, List, sym, refl, ap, ◌∙◌, subst}
-use mathlib.Core.Option.{Option, none, some}
+use mathlib.Core.Option as Search
+use mathlib.Core.Option.{none, some}
+use Rattle.std.specs.Prelude.{Option, Some, None}
 use Rattle.scratch_store.proofs.GrowingLaws.{growing-emit}
 use Rattle.sheet.specs.Node.{field_a, position}
 use Rattle.sheet.specs.Text.{text}
-use Rattle.expr_slots.specs.declared.Found.{Found}
-use Rattle.expr_slots.specs.declared.Found.TheVariants.{At, Nothing}
 use Rattle.expr_slots.specs.Found.{found}
 use Rattle.bytecode.specs.declared.Op.TheVariants.{Const, LoadLocal, LoadNamed}
 use Rattle.lowering.specs.Pools.{Name, name, const_of, const_at, name_at}
@@ -41,24 +41,24 @@ module _ {s : List ℕ} {l : Layout} {xs ys zs : List ℕ} {st q r : State} {at 
       (does_at (λ (p : ℕ). emit (LoadNamed at) p 0) at-pos e)
 
 -- the search's answer, back from the code's
-unfoldable unfound : Found → Option ℕ
-unfound (At slot) = some slot
-unfound Nothing = none
+unfoldable unfound : Option ℕ → Search.Option ℕ
+unfound (Some slot) = some slot
+unfound None = none
 
-found_back : (o : Option ℕ) → unfound (found o) ≡ o
+found_back : (o : Search.Option ℕ) → unfound (found o) ≡ o
 unfolding unfound found
 found_back none = refl
 found_back (some slot) = refl
 
 module _ {s : List ℕ} {l : Layout} {xs ys : List ℕ} {st r : State} (j : ℕ) where
-  pub variable-local : (f : Found) (slot : ℕ) → f ≡ found (resolve s (text s (field_a s j))) → f ≡ At slot
+  pub variable-local : (f : Option ℕ) (slot : ℕ) → f ≡ found (resolve s (text s (field_a s j))) → f ≡ Some slot
       → Does s l xs st ys r (emit (LoadLocal slot) 0 0) → Does s l xs st ys r (variable s j)
   unfolding variable unfound
   variable-local f slot e g d =
       let h : resolve s (text s (field_a s j)) ≡ some slot = sym (found_back (resolve s (text s (field_a s j)))) ∙ ap unfound (sym e ∙ g) in
       rw (h, variable) d
 
-  pub variable-named : (f : Found) → f ≡ found (resolve s (text s (field_a s j))) → f ≡ Nothing → Does s l xs st ys r (load_named s j)
+  pub variable-named : (f : Option ℕ) → f ≡ found (resolve s (text s (field_a s j))) → f ≡ None → Does s l xs st ys r (load_named s j)
       → Does s l xs st ys r (variable s j)
   unfolding variable unfound
   variable-named f e g d =

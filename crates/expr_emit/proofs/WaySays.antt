@@ -1,13 +1,14 @@
 -- The way of a call, its arguments and its first argument, answer by answer.
 use Rattle.std.proofs.Common.{◌≡◌, ℕ, List, sym, refl, ap, ◌∙◌}
-use mathlib.Core.Option.{Option, none, some}
+use mathlib.Core.Option as Search
+use mathlib.Core.Option.{none, some}
+use Rattle.std.specs.Prelude.{Option}
 use Rattle.sheet.specs.Node.{field_a, child}
 use Rattle.sheet.specs.Text.{text}
 use Rattle.lowering.specs.Kinds.{variable_kind, this_kind}
 use Rattle.lowering.specs.Slots.{resolve}
 use Rattle.lowering.specs.Call as Call
 use Rattle.lowering.specs.Call.{call_rule, variable_first, receiver}
-use Rattle.expr_slots.specs.declared.Found.{Found}
 use Rattle.expr_slots.specs.Found.{found}
 use Rattle.expr_rules.specs.declared.calls.CallRule as Calls
 use Rattle.expr_rules.specs.Answers.{call_rule_of, receiver_kind}
@@ -17,7 +18,7 @@ use Rattle.expr_emit.specs.declared.calls.Way.{Way}
 use Rattle.expr_emit.specs.declared.calls.Way.TheVariants.{FnPtr, FnPtrCall, This, Value, Eval, Kept}
 use Rattle.expr_emit.specs.Ways.{way_first, way_found, way_by, way_of, arg_count, first_arg}
 
-found_first : (o : Option ℕ) → way_found (found o) ≡ way_first (elim o [ some slot ↦ Call.local slot | none ↦ Call.named ])
+found_first : (o : Search.Option ℕ) → way_found (found o) ≡ way_first (elim o [ some slot ↦ Call.local slot | none ↦ Call.named ])
 unfolding way_found way_first found
 found_first none = refl
 found_first (some slot) = refl
@@ -25,7 +26,7 @@ found_first (some slot) = refl
 module _ (s : List ℕ) (j : ℕ) where
   -- the way, by the receiver's kind
   pub first-variable :
-      {k v : ℕ} {f : Found} {w : Way} → k ≡ receiver_kind s j → k ≡ variable_kind → v ≡ child j → f ≡ found (resolve s (text s (field_a s v)))
+      {k v : ℕ} {f : Option ℕ} {w : Way} → k ≡ receiver_kind s j → k ≡ variable_kind → v ≡ child j → f ≡ found (resolve s (text s (field_a s v)))
       → w ≡ way_found f → w ≡ way_first (receiver s j)
   unfolding variable_first
   first-variable k-is is v-is f-is w-is =

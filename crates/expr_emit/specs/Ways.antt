@@ -1,5 +1,5 @@
 -- A call in three parts: what comes before its arguments, the arguments, and what comes behind them. Which parts, its way says.
-use Rattle.std.specs.Prelude.{ℕ, ◌-◌, List}
+use Rattle.std.specs.Prelude.{ℕ, ◌-◌, List, Option, Some, None}
 use Rattle.sheet.specs.Node.{count, field_a, field_b, position, child, next}
 use Rattle.bytecode.specs.declared.Receiver.TheVariants as Receivers
 use Rattle.bytecode.specs.declared.Op.TheVariants.{LoadNamed, LoadThis, MakeFnPtr, CallFnPtr}
@@ -8,8 +8,6 @@ use Rattle.lowering.specs.Call.{CallRule, First, call_rule, receiver}
 use Rattle.lowering.specs.Call as Call
 use Rattle.expr_model.specs.Made.{Made, emit, add_name, defeated, residual}
 use Rattle.expr_model.specs.Construct.{call_ref, rotate, call_end}
-use Rattle.expr_slots.specs.declared.Found.{Found}
-use Rattle.expr_slots.specs.declared.Found.TheVariants.{At, Nothing}
 use Rattle.expr_emit.specs.declared.calls.Way.{Way}
 use Rattle.expr_emit.specs.declared.calls.Way.TheVariants.{FnPtr, FnPtrCall, Local, Named, This, Value, Eval, Kept}
 
@@ -20,9 +18,9 @@ way_first Call.this = This
 way_first Call.value = Value
 
 -- a variable as a receiver, by the code's answer
-unfoldable pub way_found : Found → Way
-way_found (At slot) = Local slot
-way_found Nothing = Named
+unfoldable pub way_found : Option ℕ → Way
+way_found (Some slot) = Local slot
+way_found None = Named
 
 unfoldable pub way_by : CallRule → First → Way
 way_by Call.fn_ptr f = FnPtr

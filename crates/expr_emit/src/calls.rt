@@ -4,10 +4,8 @@ ghost use Rattle.sheet.specs.Node as nodes;
 ghost use Rattle.lowering.specs.Pools.{name};
 ghost use Rattle.scratch_keys.specs.Keys.{key_of, name_of};
 ghost use Rattle.scratch_keys.specs.Used.{TokenKey, NameKey};
-ghost use Rattle.bytecode.specs.Table.{effect_table};
 ghost use Rattle.scratch.specs.declared.Layout.{Layout};
 ghost use Rattle.scratch_index.specs.Locals.{Slots};
-ghost use Rattle.scratch_store.specs.States.{state_of};
 ghost use Rattle.scratch_store.specs.Holds.{Holds};
 ghost use Rattle.scratch_store.specs.Does.{Does};
 ghost use Rattle.expr_model.specs.Made.{Made};
@@ -22,11 +20,9 @@ use crate::names::add_name;
 use bytecode::{Op, Receiver};
 use expr_count::plans::one_less;
 use expr_rules::calls::{CallRule, call_rule, receiver_kind, stores_token};
-use expr_slots::Found;
 use scratch::Layout;
 use scratch_locals::local_of;
-use scratch_store::states::COUNTS;
-use scratch_store::{add_token, emit, residual};
+use scratch_store::{State, add_token, emit, residual};
 use sheet::kinds::{THIS, VARIABLE};
 use sheet::{child, count, field_b, next, position};
 
@@ -44,12 +40,12 @@ pub enum Way {
 }
 
 // A variable as a receiver, by the local that it is.
-fn way_variable(found: Found) -> Way
+fn way_variable(found: Option<u32>) -> Way
     ensures { result ≡ ways.way_found found }
 {
     match found {
-        Found::At(slot) => Way::Local(slot),
-        Found::Nothing => Way::Named,
+        Some(slot) => Way::Local(slot),
+        None => Way::Named,
     }
 }
 
@@ -116,34 +112,20 @@ pub fn first_arg(w: Way, sheet: &[u8], j: u32) -> u32
 }
 
 // What comes before the arguments, and where the receiver's name stands.
-pub fn open(
-    sheet: &[u8],
-    t: &[u8; 125],
-    counts: &mut [u32; COUNTS],
-    scratch: &mut [u32],
-    w: Way,
-    j: u32,
-) -> u32
-    ensures { let sheet = sheet.now in ((l : Layout) → t.now ≡ effect_table → (Facts w sheet j
-        → Does sheet l scratch.old (state_of counts.old) scratch.new (state_of counts.new)
+pub fn open(sheet: &[u8], state: &mut State, scratch: &mut [u32], w: Way, j: u32) -> u32
+    ensures { let sheet = sheet.now in ((l : Layout) → (Facts w sheet j
+        → Does sheet l scratch.old state.old scratch.new state.new
         (ways.opened w sheet j)) ×
-        (Facts w sheet j → (a : Made) → Holds sheet l scratch.old (state_of counts.old) a
+        (Facts w sheet j → (a : Made) → Holds sheet l scratch.old state.old a
         → result ≡ ways.opened_at w sheet j a)) }
 {
     match w {
         Way::FnPtr => 0,
         Way::FnPtrCall => 0,
         Way::Local(_) => 0,
-        Way::Named => add_name(sheet, counts, scratch, child(j), 0),
+        Way::Named => add_name(sheet, state, scratch, child(j), 0),
         Way::This => {
-            emit(
-                t,
-                counts,
-                scratch,
-                Op::LoadThis,
-                position(sheet, child(j)),
-                0,
-            );
+            emit(state, scratch, Op::LoadThis, position(sheet, child(j)), 0);
             0
         }
         Way::Value => 0,
@@ -153,87 +135,64 @@ pub fn open(
 }
 
 // The call's name and CallRef.
-fn call_ref(
-    sheet: &[u8],
-    t: &[u8; 125],
-    counts: &mut [u32; COUNTS],
-    scratch: &mut [u32],
-    j: u32,
-    receiver: Receiver,
-)
-    ensures { let sheet = sheet.now in ((l : Layout) → t.now ≡ effect_table → Plain sheet j → nodes.count sheet j < 256 → NameKey sheet (key_of j 0)
-        → Does sheet l scratch.old (state_of counts.old) scratch.new (state_of counts.new)
+fn call_ref(sheet: &[u8], state: &mut State, scratch: &mut [u32], j: u32, receiver: Receiver)
+    ensures { let sheet = sheet.now in ((l : Layout) → Plain sheet j → nodes.count sheet j < 256 → NameKey sheet (key_of j 0)
+        → Does sheet l scratch.old state.old scratch.new state.new
         (constructs.call_ref sheet j receiver)) }
 {
-    let name = add_name(sheet, counts, scratch, j, 0);
+    let name = add_name(sheet, state, scratch, j, 0);
     let op = Op::CallRef {
         name,
         argc: count(sheet, j),
         receiver,
     };
-    emit(t, counts, scratch, op, position(sheet, j), 0);
+    emit(state, scratch, op, position(sheet, j), 0);
 }
 
 // The receiver's value under `others` other arguments.
-fn rotate(t: &[u8; 125], counts: &mut [u32; COUNTS], scratch: &mut [u32], others: u32)
-    ensures { (l : Layout) → t.now ≡ effect_table → (s : List ℕ)
-        → Does s l scratch.old (state_of counts.old) scratch.new (state_of counts.new)
+fn rotate(state: &mut State, scratch: &mut [u32], others: u32)
+    ensures { (l : Layout) → (s : List ℕ)
+        → Does s l scratch.old state.old scratch.new state.new
         (constructs.rotate others) }
 {
     if others == 0 {
         return;
     }
-    emit(t, counts, scratch, Op::Rotate(others), 0, 0);
+    emit(state, scratch, Op::Rotate(others), 0, 0);
 }
 
 // A call through the name at place `at`.
-fn close_named(
-    sheet: &[u8],
-    t: &[u8; 125],
-    counts: &mut [u32; COUNTS],
-    scratch: &mut [u32],
-    j: u32,
-    at: u32,
-)
-    ensures { let sheet = sheet.now in ((l : Layout) → t.now ≡ effect_table → Plain sheet j → nodes.count sheet j < 256 → NameKey sheet (key_of j 0)
-        → Does sheet l scratch.old (state_of counts.old) scratch.new (state_of counts.new)
+fn close_named(sheet: &[u8], state: &mut State, scratch: &mut [u32], j: u32, at: u32)
+    ensures { let sheet = sheet.now in ((l : Layout) → Plain sheet j → nodes.count sheet j < 256 → NameKey sheet (key_of j 0)
+        → Does sheet l scratch.old state.old scratch.new state.new
         (ways.close_named sheet j at)) }
 {
     emit(
-        t,
-        counts,
+        state,
         scratch,
         Op::LoadNamed(at),
         position(sheet, child(j)),
         0,
     );
-    rotate(t, counts, scratch, one_less(count(sheet, j)));
-    call_ref(sheet, t, counts, scratch, j, Receiver::Named(at));
+    rotate(state, scratch, one_less(count(sheet, j)));
+    call_ref(sheet, state, scratch, j, Receiver::Named(at));
 }
 
 // The call's name and Call, with a token plus 1, or 0.
-fn call_as(
-    sheet: &[u8],
-    t: &[u8; 125],
-    counts: &mut [u32; COUNTS],
-    scratch: &mut [u32],
-    j: u32,
-    op: u32,
-    capture: u32,
-)
-    ensures { let sheet = sheet.now in ((l : Layout) → t.now ≡ effect_table → name_of sheet (key_of j 0) ≡ name (nodes.field_a sheet j) capture
+fn call_as(sheet: &[u8], state: &mut State, scratch: &mut [u32], j: u32, op: u32, capture: u32)
+    ensures { let sheet = sheet.now in ((l : Layout) → name_of sheet (key_of j 0) ≡ name (nodes.field_a sheet j) capture
         → nodes.count sheet j < 256 → capture < 2 → NameKey sheet (key_of j 0)
-        → Does sheet l scratch.old (state_of counts.old) scratch.new (state_of counts.new)
+        → Does sheet l scratch.old state.old scratch.new state.new
         (constructs.call_as sheet j op capture)) }
 {
-    let name = add_name(sheet, counts, scratch, j, 0);
+    let name = add_name(sheet, state, scratch, j, 0);
     let call = Op::Call {
         name,
         argc: count(sheet, j),
         op,
         capture,
     };
-    emit(t, counts, scratch, call, position(sheet, j), 0);
+    emit(state, scratch, call, position(sheet, j), 0);
 }
 
 // One more, where that is a word.
@@ -244,39 +203,32 @@ fn one_more(n: u32) -> u32
 }
 
 // The operator's token, the call's name and Call.
-fn call_token(sheet: &[u8], t: &[u8; 125], counts: &mut [u32; COUNTS], scratch: &mut [u32], j: u32)
-    ensures { let sheet = sheet.now in ((l : Layout) → t.now ≡ effect_table → Plain sheet j → nodes.count sheet j < 256 → NameKey sheet (key_of j 0)
+fn call_token(sheet: &[u8], state: &mut State, scratch: &mut [u32], j: u32)
+    ensures { let sheet = sheet.now in ((l : Layout) → Plain sheet j → nodes.count sheet j < 256 → NameKey sheet (key_of j 0)
         → TokenKey sheet j
-        → Does sheet l scratch.old (state_of counts.old) scratch.new (state_of counts.new)
+        → Does sheet l scratch.old state.old scratch.new state.new
         (constructs.call_token sheet j)) }
 {
-    let at = add_token(sheet, counts, scratch, j);
-    call_as(sheet, t, counts, scratch, j, one_more(at), 0);
+    let at = add_token(sheet, state, scratch, j);
+    call_as(sheet, state, scratch, j, one_more(at), 0);
 }
 
 // The end of a call of values.
-fn call_end(sheet: &[u8], t: &[u8; 125], counts: &mut [u32; COUNTS], scratch: &mut [u32], j: u32)
-    ensures { let sheet = sheet.now in ((l : Layout) → t.now ≡ effect_table → Facts (kinds.Value) sheet j
-        → Does sheet l scratch.old (state_of counts.old) scratch.new (state_of counts.new)
+fn call_end(sheet: &[u8], state: &mut State, scratch: &mut [u32], j: u32)
+    ensures { let sheet = sheet.now in ((l : Layout) → Facts (kinds.Value) sheet j
+        → Does sheet l scratch.old state.old scratch.new state.new
         (constructs.call_end sheet j)) }
 {
     if stores_token(sheet, j) {
-        call_token(sheet, t, counts, scratch, j);
+        call_token(sheet, state, scratch, j);
     } else {
-        call_as(sheet, t, counts, scratch, j, 0, field_b(sheet, j));
+        call_as(sheet, state, scratch, j, 0, field_b(sheet, j));
     }
 }
 
 // `call(f, ..)`.
-fn close_pointer(
-    sheet: &[u8],
-    t: &[u8; 125],
-    counts: &mut [u32; COUNTS],
-    scratch: &mut [u32],
-    j: u32,
-)
-    ensures { let sheet = sheet.now in ((l : Layout) → t.now ≡ effect_table
-        → Does sheet l scratch.old (state_of counts.old) scratch.new (state_of counts.new)
+fn close_pointer(sheet: &[u8], state: &mut State, scratch: &mut [u32], j: u32)
+    ensures { let sheet = sheet.now in ((l : Layout) → Does sheet l scratch.old state.old scratch.new state.new
         (ways.closed
         (kinds.FnPtrCall) sheet j 0)) }
 {
@@ -284,38 +236,23 @@ fn close_pointer(
         argc: one_less(count(sheet, j)),
         capture: field_b(sheet, j),
     };
-    emit(t, counts, scratch, op, position(sheet, j), 0);
+    emit(state, scratch, op, position(sheet, j), 0);
 }
 
 // What comes behind the arguments, with the receiver's name at place `at`.
-pub fn close(
-    sheet: &[u8],
-    t: &[u8; 125],
-    counts: &mut [u32; COUNTS],
-    scratch: &mut [u32],
-    w: Way,
-    j: u32,
-    at: u32,
-)
-    ensures { let sheet = sheet.now in ((l : Layout) → t.now ≡ effect_table → Facts w sheet j
-        → Does sheet l scratch.old (state_of counts.old) scratch.new (state_of counts.new)
+pub fn close(sheet: &[u8], state: &mut State, scratch: &mut [u32], w: Way, j: u32, at: u32)
+    ensures { let sheet = sheet.now in ((l : Layout) → Facts w sheet j
+        → Does sheet l scratch.old state.old scratch.new state.new
         (ways.closed w sheet j at)) }
 {
     match w {
-        Way::FnPtr => emit(
-            t,
-            counts,
-            scratch,
-            Op::MakeFnPtr,
-            position(sheet, child(j)),
-            0,
-        ),
-        Way::FnPtrCall => close_pointer(sheet, t, counts, scratch, j),
-        Way::Local(slot) => call_ref(sheet, t, counts, scratch, j, Receiver::Local(slot)),
-        Way::Named => close_named(sheet, t, counts, scratch, j, at),
-        Way::This => call_ref(sheet, t, counts, scratch, j, Receiver::This),
-        Way::Value => call_end(sheet, t, counts, scratch, j),
-        Way::Eval => residual(t, counts, scratch, j),
-        Way::Kept => residual(t, counts, scratch, j),
+        Way::FnPtr => emit(state, scratch, Op::MakeFnPtr, position(sheet, child(j)), 0),
+        Way::FnPtrCall => close_pointer(sheet, state, scratch, j),
+        Way::Local(slot) => call_ref(sheet, state, scratch, j, Receiver::Local(slot)),
+        Way::Named => close_named(sheet, state, scratch, j, at),
+        Way::This => call_ref(sheet, state, scratch, j, Receiver::This),
+        Way::Value => call_end(sheet, state, scratch, j),
+        Way::Eval => residual(state, scratch, j),
+        Way::Kept => residual(state, scratch, j),
     }
 }

@@ -2,11 +2,9 @@
 ghost use Rattle.std.specs.Prelude.{◌≡◌, ℕ, ◌-◌, ◌<◌, ◌≤◌, min, List};
 ghost use Rattle.expr_count.specs.Limits.{cap};
 ghost use Rattle.expr_count.specs.Count as counts;
-ghost use Rattle.bytecode.specs.Table.{effect_table};
 ghost use Rattle.sheet.specs.Sections.{node_count};
 ghost use Rattle.scratch.specs.declared.Layout.{Layout};
 ghost use Rattle.scratch_index.specs.Locals.{Slots};
-ghost use Rattle.scratch_store.specs.States.{state_of};
 ghost use Rattle.scratch_store.specs.Holds.{Holds};
 ghost use Rattle.scratch_store.specs.Does.{Fits};
 ghost use Rattle.expr_model.specs.Made.{Made};
@@ -17,8 +15,7 @@ use bytecode::Op;
 use expr_count::{exact, tally};
 use scratch::{Layout, words_of};
 use scratch_locals::FEW;
-use scratch_store::emit;
-use scratch_store::states::{CODE, COUNTS, at_depth, layout_of};
+use scratch_store::{State, emit};
 use sheet::local_count;
 
 // How many instructions node `j` gives. Beside many locals the scratch says which Variables are some of them.
@@ -45,28 +42,21 @@ fn behind(levels: u32, sheet: &[u8], scratch: &[u32], layout: Layout, code: u32,
 }
 
 // The place behind the code of node `j`, which is next.
-pub fn end_of(levels: u32, sheet: &[u8], scratch: &[u32], counts: &[u32; COUNTS], j: u32) -> u32
-    ensures { EndsAt levels sheet.now scratch.now (state_of counts.now) j result }
+pub fn end_of(levels: u32, sheet: &[u8], scratch: &[u32], state: &State, j: u32) -> u32
+    ensures { EndsAt levels sheet.now scratch.now state.now j result }
 {
-    behind(levels, sheet, scratch, layout_of(counts), counts[CODE], j)
+    behind(levels, sheet, scratch, state.layout(), state.code, j)
 }
 
 // The end of And (`stop` 0) and Or (1), from depth `d`, with the code's end at place `end`.
-pub fn decision(
-    t: &[u8; 125],
-    counts: &mut [u32; COUNTS],
-    scratch: &mut [u32],
-    stop: u32,
-    end: u32,
-    d: u32,
-)
+pub fn decision(state: &mut State, scratch: &mut [u32], stop: u32, end: u32, d: u32)
     requires { stop < 2 }
-    ensures { (l : Layout) → t.now ≡ effect_table → (s : List ℕ) (a : Made) → d ≤ a.pools.emitted
-        → Holds s l scratch.old (state_of counts.old) a → Fits l (decision stop end d a)
-        → Holds s l scratch.new (state_of counts.new) (decision stop end d a) }
+    ensures { (l : Layout) → (s : List ℕ) (a : Made) → d ≤ a.pools.emitted
+        → Holds s l scratch.old state.old a → Fits l (decision stop end d a)
+        → Holds s l scratch.new state.new (decision stop end d a) }
 {
-    emit(t, counts, scratch, Op::Bool(1 - stop), 0, 0);
-    emit(t, counts, scratch, Op::Jump(end), 0, 0);
-    at_depth(counts, d);
-    emit(t, counts, scratch, Op::Bool(stop), 0, 0);
+    emit(state, scratch, Op::Bool(1 - stop), 0, 0);
+    emit(state, scratch, Op::Jump(end), 0, 0);
+    state.at_depth(d);
+    emit(state, scratch, Op::Bool(stop), 0, 0);
 }

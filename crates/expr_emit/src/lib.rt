@@ -7,9 +7,7 @@ ghost use Rattle.sheet.specs.Node as nodes;
 ghost use Rattle.sheet.specs.Limits.{max_depth};
 ghost use Rattle.lowering.specs.Nodes.{Right, Valid, Row};
 ghost use Rattle.lowering.specs.Flatten as flatten;
-ghost use Rattle.bytecode.specs.Table.{effect_table};
 ghost use Rattle.scratch.specs.declared.Layout.{Layout};
-ghost use Rattle.scratch_store.specs.States.{state_of};
 ghost use Rattle.scratch_store.specs.Does.{Does};
 ghost use Rattle.expr_model.specs.Made.{lowered};
 ghost use Rattle.expr_model.specs.Construct as constructs;
@@ -35,8 +33,7 @@ use expr_rules::kinds::Rule;
 use expr_rules::rule;
 use leaves::{constant, variable};
 use lowering::MAX_ELEMENTS;
-use scratch_store::states::{CODE, COUNTS, DEEPEST, DEPTH, layout_of, take_back};
-use scratch_store::{emit, residual};
+use scratch_store::{State, emit, residual};
 use sheet::limits::MAX_DEPTH;
 use sheet::{child, count, field_a, next, position, skip};
 
@@ -45,40 +42,30 @@ use sheet::{child, count, field_a, next, position, skip};
 fn siblings(
     levels: u32,
     sheet: &[u8],
-    t: &[u8; 125],
-    counts: &mut [u32; COUNTS],
+    state: &mut State,
     scratch: &mut [u32],
     by: After,
     n: u32,
     from: u32,
 )
-    ensures { let sheet = sheet.now in ((l : Layout) → t.now ≡ effect_table → Right sheet → Row sheet n from
-        → Does sheet l scratch.old (state_of counts.old) scratch.new (state_of counts.new)
+    ensures { let sheet = sheet.now in ((l : Layout) → Right sheet → Row sheet n from
+        → Does sheet l scratch.old state.old scratch.new state.new
         (rows sheet
         (lowered levels sheet) by n from)) }
 {
-    let mut i: u32 = 0;
     let mut j = from;
-    while i < n {
-        expression(levels, sheet, t, counts, scratch, j);
-        after_one(t, counts, scratch, by, i, position(sheet, j));
+    for i in 0..n {
+        expression(levels, sheet, state, scratch, j);
+        after_one(state, scratch, by, i, position(sheet, j));
         j = next(sheet, j);
-        i += 1;
     }
 }
 
 // Array: its elements, MakeArray. One with too many elements is kept.
 #[cycle(array_call_chain_coalesce_expression_interpolated_short_circuit_siblings_walk)]
-fn array(
-    levels: u32,
-    sheet: &[u8],
-    t: &[u8; 125],
-    counts: &mut [u32; COUNTS],
-    scratch: &mut [u32],
-    j: u32,
-)
-    ensures { let sheet = sheet.now in ((l : Layout) → t.now ≡ effect_table → Right sheet → Valid sheet j
-        → Does sheet l scratch.old (state_of counts.old) scratch.new (state_of counts.new)
+fn array(levels: u32, sheet: &[u8], state: &mut State, scratch: &mut [u32], j: u32)
+    ensures { let sheet = sheet.now in ((l : Layout) → Right sheet → Valid sheet j
+        → Does sheet l scratch.old state.old scratch.new state.new
         (constructs.array sheet
         (lowered levels sheet) j)) }
 {
@@ -87,45 +74,36 @@ fn array(
         siblings(
             levels,
             sheet,
-            t,
-            counts,
+            state,
             scratch,
             After::CheckPlace,
             n,
             child(j),
         );
-        emit(t, counts, scratch, Op::MakeArray(n), position(sheet, j), 0);
+        emit(state, scratch, Op::MakeArray(n), position(sheet, j), 0);
     } else {
-        residual(t, counts, scratch, j);
+        residual(state, scratch, j);
     }
 }
 
 // Interpolated string.
 #[cycle(array_call_chain_coalesce_expression_interpolated_short_circuit_siblings_walk)]
-fn interpolated(
-    levels: u32,
-    sheet: &[u8],
-    t: &[u8; 125],
-    counts: &mut [u32; COUNTS],
-    scratch: &mut [u32],
-    j: u32,
-)
-    ensures { let sheet = sheet.now in ((l : Layout) → t.now ≡ effect_table → Right sheet → Valid sheet j
-        → Does sheet l scratch.old (state_of counts.old) scratch.new (state_of counts.new)
+fn interpolated(levels: u32, sheet: &[u8], state: &mut State, scratch: &mut [u32], j: u32)
+    ensures { let sheet = sheet.now in ((l : Layout) → Right sheet → Valid sheet j
+        → Does sheet l scratch.old state.old scratch.new state.new
         (constructs.interpolated sheet (lowered levels sheet) j)) }
 {
-    emit(t, counts, scratch, Op::InterpolateStart, 0, 0);
+    emit(state, scratch, Op::InterpolateStart, 0, 0);
     siblings(
         levels,
         sheet,
-        t,
-        counts,
+        state,
         scratch,
         After::Append,
         count(sheet, j),
         child(j),
     );
-    emit(t, counts, scratch, Op::InterpolateEnd, 0, 0);
+    emit(state, scratch, Op::InterpolateEnd, 0, 0);
 }
 
 // And (`stop` 0), Or (1), with the code's end at place `end`.
@@ -133,49 +111,31 @@ fn interpolated(
 fn short_circuit(
     levels: u32,
     sheet: &[u8],
-    t: &[u8; 125],
-    counts: &mut [u32; COUNTS],
+    state: &mut State,
     scratch: &mut [u32],
     stop: u32,
     end: u32,
     j: u32,
 )
     requires { stop < 2 }
-    ensures { let sheet = sheet.now in ((l : Layout) → t.now ≡ effect_table → Right sheet → Valid sheet j
-        → Does sheet l scratch.old (state_of counts.old) scratch.new (state_of counts.new)
+    ensures { let sheet = sheet.now in ((l : Layout) → Right sheet → Valid sheet j
+        → Does sheet l scratch.old state.old scratch.new state.new
         (constructs.short_circuit stop sheet (lowered levels sheet) end j)) }
 {
     let by = After::Decide {
         stop,
         to: one_less(end),
     };
-    let d = counts[DEPTH];
-    siblings(
-        levels,
-        sheet,
-        t,
-        counts,
-        scratch,
-        by,
-        count(sheet, j),
-        child(j),
-    );
-    decision(t, counts, scratch, stop, end, d);
+    let d = state.depth;
+    siblings(levels, sheet, state, scratch, by, count(sheet, j), child(j));
+    decision(state, scratch, stop, end, d);
 }
 
 // Coalesce, with the code's end at place `end`.
 #[cycle(array_call_chain_coalesce_expression_interpolated_short_circuit_siblings_walk)]
-fn coalesce(
-    levels: u32,
-    sheet: &[u8],
-    t: &[u8; 125],
-    counts: &mut [u32; COUNTS],
-    scratch: &mut [u32],
-    end: u32,
-    j: u32,
-)
-    ensures { let sheet = sheet.now in ((l : Layout) → t.now ≡ effect_table → Right sheet → Valid sheet j → 1 ≤ nodes.count sheet j
-        → Does sheet l scratch.old (state_of counts.old) scratch.new (state_of counts.new)
+fn coalesce(levels: u32, sheet: &[u8], state: &mut State, scratch: &mut [u32], end: u32, j: u32)
+    ensures { let sheet = sheet.now in ((l : Layout) → Right sheet → Valid sheet j → 1 ≤ nodes.count sheet j
+        → Does sheet l scratch.old state.old scratch.new state.new
         (constructs.coalesce sheet
         (lowered levels sheet) end j)) }
 {
@@ -184,58 +144,42 @@ fn coalesce(
     siblings(
         levels,
         sheet,
-        t,
-        counts,
+        state,
         scratch,
         After::Unless { to: end },
         n,
         first,
     );
-    expression(levels, sheet, t, counts, scratch, skip(sheet, n, first));
+    expression(levels, sheet, state, scratch, skip(sheet, n, first));
 }
 
 // FnCall.
 #[cycle(array_call_chain_coalesce_expression_interpolated_short_circuit_siblings_walk)]
-fn call(
-    levels: u32,
-    sheet: &[u8],
-    t: &[u8; 125],
-    counts: &mut [u32; COUNTS],
-    scratch: &mut [u32],
-    j: u32,
-)
-    ensures { let sheet = sheet.now in ((l : Layout) → t.now ≡ effect_table → Right sheet → Valid sheet j → nodes.kind sheet j ≡ 13
-        → Does sheet l scratch.old (state_of counts.old) scratch.new (state_of counts.new)
+fn call(levels: u32, sheet: &[u8], state: &mut State, scratch: &mut [u32], j: u32)
+    ensures { let sheet = sheet.now in ((l : Layout) → Right sheet → Valid sheet j → nodes.kind sheet j ≡ 13
+        → Does sheet l scratch.old state.old scratch.new state.new
         (constructs.fn_call sheet
         (lowered levels sheet) j)) }
 {
-    let w = way_of(sheet, &scratch[..], layout_of(counts), j);
-    let at = calls::open(sheet, t, counts, scratch, w, j);
+    let w = way_of(sheet, &scratch[..], state.layout(), j);
+    let at = calls::open(sheet, state, scratch, w, j);
     siblings(
         levels,
         sheet,
-        t,
-        counts,
+        state,
         scratch,
         After::Nothing,
         arg_count(w, sheet, j),
         first_arg(w, sheet, j),
     );
-    calls::close(sheet, t, counts, scratch, w, j, at);
+    calls::close(sheet, state, scratch, w, j, at);
 }
 
 // The operands and names of the links of chain `j`, up to one that does not lower.
 #[cycle(array_call_chain_coalesce_expression_interpolated_short_circuit_siblings_walk)]
-fn walk(
-    levels: u32,
-    sheet: &[u8],
-    t: &[u8; 125],
-    counts: &mut [u32; COUNTS],
-    scratch: &mut [u32],
-    j: u32,
-)
-    ensures { let sheet = sheet.now in ((l : Layout) → t.now ≡ effect_table → Right sheet → Linked sheet j
-        → Does sheet l scratch.old (state_of counts.old) scratch.new (state_of counts.new)
+fn walk(levels: u32, sheet: &[u8], state: &mut State, scratch: &mut [u32], j: u32)
+    ensures { let sheet = sheet.now in ((l : Layout) → Right sheet → Linked sheet j
+        → Does sheet l scratch.old state.old scratch.new state.new
         (constructs.steps sheet
         (lowered levels sheet) (flatten.links max_depth sheet j))) }
 {
@@ -246,8 +190,8 @@ fn walk(
         let k = link_with(sheet, p);
         match k {
             Link::Lowers { n, from } => {
-                siblings(levels, sheet, t, counts, scratch, After::Nothing, n, from);
-                steps::step_names(sheet, counts, scratch, at, p);
+                siblings(levels, sheet, state, scratch, After::Nothing, n, from);
+                steps::step_names(sheet, state, scratch, at, p);
                 if p.on {
                     at = p.rest;
                     left -= 1;
@@ -263,106 +207,86 @@ fn walk(
 
 // Dot, Index. The code of a chain that fails is taken back.
 #[cycle(array_call_chain_coalesce_expression_interpolated_short_circuit_siblings_walk)]
-fn chain(
-    levels: u32,
-    sheet: &[u8],
-    t: &[u8; 125],
-    counts: &mut [u32; COUNTS],
-    scratch: &mut [u32],
-    j: u32,
-)
-    ensures { let sheet = sheet.now in ((l : Layout) → t.now ≡ effect_table → Right sheet → Linked sheet j
-        → Does sheet l scratch.old (state_of counts.old) scratch.new (state_of counts.new)
+fn chain(levels: u32, sheet: &[u8], state: &mut State, scratch: &mut [u32], j: u32)
+    ensures { let sheet = sheet.now in ((l : Layout) → Right sheet → Linked sheet j
+        → Does sheet l scratch.old state.old scratch.new state.new
         (constructs.chain sheet
         (lowered levels sheet) j)) }
 {
     let far = far_of(sheet, j);
     if far.flattens {
         let root = child(j);
-        let code = counts[CODE];
-        let depth = counts[DEPTH];
-        let deepest = counts[DEEPEST];
-        steps::root_name(sheet, counts, scratch, root);
-        walk(levels, sheet, t, counts, scratch, j);
+        let saved = *state;
+        steps::root_name(sheet, state, scratch, root);
+        walk(levels, sheet, state, scratch, j);
         if far.lowers {
             siblings(
                 levels,
                 sheet,
-                t,
-                counts,
+                state,
                 scratch,
                 After::Nothing,
                 temporary(sheet, root),
                 root,
             );
-            steps::close_chain(sheet, t, counts, scratch, j, far.operands);
+            steps::close_chain(sheet, state, scratch, j, far.operands);
             return;
         }
-        take_back(counts, code, depth, deepest);
-        residual(t, counts, scratch, j);
+        state.take_back(saved);
+        residual(state, scratch, j);
         return;
     }
-    residual(t, counts, scratch, j);
+    residual(state, scratch, j);
 }
 
 // Node `j`, with that many levels left.
 #[cycle(array_call_chain_coalesce_expression_interpolated_short_circuit_siblings_walk)]
-pub fn expression(
-    levels: u32,
-    sheet: &[u8],
-    t: &[u8; 125],
-    counts: &mut [u32; COUNTS],
-    scratch: &mut [u32],
-    j: u32,
-)
-    ensures { let sheet = sheet.now in ((l : Layout) → t.now ≡ effect_table → Right sheet → Valid sheet j
-        → Does sheet l scratch.old (state_of counts.old) scratch.new (state_of counts.new)
+pub fn expression(levels: u32, sheet: &[u8], state: &mut State, scratch: &mut [u32], j: u32)
+    ensures { let sheet = sheet.now in ((l : Layout) → Right sheet → Valid sheet j
+        → Does sheet l scratch.old state.old scratch.new state.new
         (lowered levels sheet j)) }
 {
     if levels == 0 {
-        residual(t, counts, scratch, j);
+        residual(state, scratch, j);
         return;
     }
     let by = rule(sheet, j);
     match by {
-        Rule::Boolean => emit(t, counts, scratch, Op::Bool(field_a(sheet, j)), 0, 0),
-        Rule::Unit => emit(t, counts, scratch, Op::Unit, 0, 0),
-        Rule::Constant => constant(sheet, t, counts, scratch, j),
-        Rule::Interpolated => interpolated(levels - 1, sheet, t, counts, scratch, j),
-        Rule::Array => array(levels - 1, sheet, t, counts, scratch, j),
-        Rule::Variable => variable(sheet, t, counts, scratch, j),
-        Rule::This => emit(t, counts, scratch, Op::LoadThis, position(sheet, j), 0),
-        Rule::FnCall => call(levels - 1, sheet, t, counts, scratch, j),
-        Rule::Chain => chain(levels - 1, sheet, t, counts, scratch, j),
+        Rule::Boolean => emit(state, scratch, Op::Bool(field_a(sheet, j)), 0, 0),
+        Rule::Unit => emit(state, scratch, Op::Unit, 0, 0),
+        Rule::Constant => constant(sheet, state, scratch, j),
+        Rule::Interpolated => interpolated(levels - 1, sheet, state, scratch, j),
+        Rule::Array => array(levels - 1, sheet, state, scratch, j),
+        Rule::Variable => variable(sheet, state, scratch, j),
+        Rule::This => emit(state, scratch, Op::LoadThis, position(sheet, j), 0),
+        Rule::FnCall => call(levels - 1, sheet, state, scratch, j),
+        Rule::Chain => chain(levels - 1, sheet, state, scratch, j),
         Rule::And => short_circuit(
             levels - 1,
             sheet,
-            t,
-            counts,
+            state,
             scratch,
             0,
-            end_of(levels, sheet, &scratch[..], counts, j),
+            end_of(levels, sheet, &scratch[..], state, j),
             j,
         ),
         Rule::Or => short_circuit(
             levels - 1,
             sheet,
-            t,
-            counts,
+            state,
             scratch,
             1,
-            end_of(levels, sheet, &scratch[..], counts, j),
+            end_of(levels, sheet, &scratch[..], state, j),
             j,
         ),
         Rule::Coalesce => coalesce(
             levels - 1,
             sheet,
-            t,
-            counts,
+            state,
             scratch,
-            end_of(levels, sheet, &scratch[..], counts, j),
+            end_of(levels, sheet, &scratch[..], state, j),
             j,
         ),
-        Rule::Residual => residual(t, counts, scratch, j),
+        Rule::Residual => residual(state, scratch, j),
     }
 }

@@ -6,13 +6,12 @@ ghost use Rattle.lowering.specs.Pools.{name_at};
 ghost use Rattle.scratch_keys.specs.Keys.{key_of, name_of};
 ghost use Rattle.scratch_keys.specs.Used.{NameKey};
 ghost use Rattle.scratch.specs.declared.Layout.{Layout};
-ghost use Rattle.scratch_store.specs.States.{state_of};
 ghost use Rattle.scratch_store.specs.Holds.{Holds};
 ghost use Rattle.scratch_store.specs.Does.{Does};
 ghost use Rattle.expr_model.specs.Made.{Made, add_name};
 
 use lowering::NAMES_PER_NODE;
-use scratch_store::states::COUNTS;
+use scratch_store::State;
 use sheet::limits::MAX_NODES;
 
 // The key of the name that `f` says of node `j`: 0 its own, 1 the getter, 2 the setter that it is taken with.
@@ -28,19 +27,13 @@ fn key_of(j: u32, f: u32) -> u32
 }
 
 // The name of field `f` of node `j`, and where it stands.
-pub fn add_name(
-    sheet: &[u8],
-    counts: &mut [u32; COUNTS],
-    scratch: &mut [u32],
-    j: u32,
-    f: u32,
-) -> u32
+pub fn add_name(sheet: &[u8], state: &mut State, scratch: &mut [u32], j: u32, f: u32) -> u32
     ensures { let sheet = sheet.now in ((l : Layout) → (f < names_per_node → NameKey sheet (key_of j f)
-        → Does sheet l scratch.old (state_of counts.old) scratch.new (state_of counts.new)
+        → Does sheet l scratch.old state.old scratch.new state.new
         (add_name sheet
         (name_of sheet (key_of j f)))) × ((a : Made) → f < names_per_node → NameKey sheet (key_of j f)
-        → Holds sheet l scratch.old (state_of counts.old) a
+        → Holds sheet l scratch.old state.old a
         → result ≡ name_at sheet (name_of sheet (key_of j f)) a.pools)) }
 {
-    scratch_store::add_name(sheet, counts, scratch, key_of(j, f))
+    scratch_store::add_name(sheet, state, scratch, key_of(j, f))
 }

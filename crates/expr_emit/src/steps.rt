@@ -8,9 +8,7 @@ ghost use Rattle.expr_chains.specs.Pooled.{Pooled};
 ghost use Rattle.scratch_keys.specs.Used.{ChainKey};
 ghost use Rattle.expr_chains.specs.Steps as entries;
 ghost use Rattle.expr_count.specs.Link as links;
-ghost use Rattle.bytecode.specs.Table.{effect_table};
 ghost use Rattle.scratch.specs.declared.Layout.{Layout};
-ghost use Rattle.scratch_store.specs.States.{state_of};
 ghost use Rattle.scratch_store.specs.Holds.{Holds};
 ghost use Rattle.scratch_store.specs.Does.{Fits, Does};
 ghost use Rattle.expr_model.specs.Made.{Made};
@@ -21,56 +19,55 @@ use crate::names::add_name;
 use bytecode::Op;
 use expr_count::links::temporary;
 use expr_rules::chains::{Read, StepRule};
-use scratch_store::states::COUNTS;
-use scratch_store::{add_chain, emit};
+use scratch_store::{State, add_chain, emit};
 use sheet::kinds::VARIABLE;
 use sheet::{child, kind, position};
 use std::num::wrapping_add_u32;
 
 // A variable's name, for the root of a chain.
-pub fn root_name(sheet: &[u8], counts: &mut [u32; COUNTS], scratch: &mut [u32], v: u32)
+pub fn root_name(sheet: &[u8], state: &mut State, scratch: &mut [u32], v: u32)
     ensures { let sheet = sheet.now in ((l : Layout) → Valid sheet v
-        → Does sheet l scratch.old (state_of counts.old) scratch.new (state_of counts.new)
+        → Does sheet l scratch.old state.old scratch.new state.new
         (constructs.root_name sheet v)) }
 {
     if kind(sheet, v) == VARIABLE {
-        let _at = add_name(sheet, counts, scratch, v, 0);
+        let _at = add_name(sheet, state, scratch, v, 0);
     }
 }
 
 // The name, getter and setter of property `v`, which a link is taken with.
-fn property(sheet: &[u8], counts: &mut [u32; COUNTS], scratch: &mut [u32], v: u32, link: u32)
+fn property(sheet: &[u8], state: &mut State, scratch: &mut [u32], v: u32, link: u32)
     ensures { let sheet = sheet.now in ((l : Layout) → nodes.kind sheet v ≡ 11 → v ≡ flatten.operand_of sheet link → nodes.kind sheet link ≡ 14 → Valid sheet v
         → Valid sheet link
-        → Does sheet l scratch.old (state_of counts.old) scratch.new (state_of counts.new)
+        → Does sheet l scratch.old state.old scratch.new state.new
         (constructs.property sheet v)) }
 {
-    let _name = add_name(sheet, counts, scratch, v, 0);
-    let _getter = add_name(sheet, counts, scratch, v, 1);
-    let _setter = add_name(sheet, counts, scratch, link, 2);
+    let _name = add_name(sheet, state, scratch, v, 0);
+    let _getter = add_name(sheet, state, scratch, v, 1);
+    let _setter = add_name(sheet, state, scratch, link, 2);
 }
 
 // The name of method `v`.
-fn method(sheet: &[u8], counts: &mut [u32; COUNTS], scratch: &mut [u32], v: u32)
+fn method(sheet: &[u8], state: &mut State, scratch: &mut [u32], v: u32)
     ensures { let sheet = sheet.now in ((l : Layout) → nodes.kind sheet v ≡ 12 → Valid sheet v
-        → Does sheet l scratch.old (state_of counts.old) scratch.new (state_of counts.new)
+        → Does sheet l scratch.old state.old scratch.new state.new
         (step_names flatten.method sheet v)) }
 {
-    let _name = add_name(sheet, counts, scratch, v, 0);
+    let _name = add_name(sheet, state, scratch, v, 0);
 }
 
 // The names of the step of a link, which says `p`.
-pub fn step_names(sheet: &[u8], counts: &mut [u32; COUNTS], scratch: &mut [u32], link: u32, p: Read)
+pub fn step_names(sheet: &[u8], state: &mut State, scratch: &mut [u32], link: u32, p: Read)
     ensures { let sheet = sheet.now in ((l : Layout) → Reads sheet link p → Valid sheet (flatten.operand_of sheet link) → ChainKey sheet link
-        → Does sheet l scratch.old (state_of counts.old) scratch.new (state_of counts.new)
+        → Does sheet l scratch.old state.old scratch.new state.new
         (step_names
         (flatten.step_rule sheet link) sheet (flatten.operand_of sheet link))) }
 {
     let by = p.rule;
     match by {
         StepRule::Index => {}
-        StepRule::Property => property(sheet, counts, scratch, p.with, link),
-        StepRule::Method => method(sheet, counts, scratch, p.with),
+        StepRule::Property => property(sheet, state, scratch, p.with, link),
+        StepRule::Method => method(sheet, state, scratch, p.with),
         StepRule::Nothing => {}
     }
 }
@@ -83,23 +80,15 @@ fn popped(sheet: &[u8], j: u32, n: u32) -> u32
 }
 
 // The chain's entry and Chain, where its steps take `n` operands.
-pub fn close_chain(
-    sheet: &[u8],
-    t: &[u8; 125],
-    counts: &mut [u32; COUNTS],
-    scratch: &mut [u32],
-    j: u32,
-    n: u32,
-)
-    ensures { let sheet = sheet.now in ((l : Layout) → n ≡ entries.chain_operands sheet j → t.now ≡ effect_table → ChainKey sheet j → (a : Made)
+pub fn close_chain(sheet: &[u8], state: &mut State, scratch: &mut [u32], j: u32, n: u32)
+    ensures { let sheet = sheet.now in ((l : Layout) → n ≡ entries.chain_operands sheet j → ChainKey sheet j → (a : Made)
         → Pooled sheet a.pools.names j
-        → Holds sheet l scratch.old (state_of counts.old) a → Fits l (constructs.close_chain sheet j a)
-        → Holds sheet l scratch.new (state_of counts.new) (constructs.close_chain sheet j a)) }
+        → Holds sheet l scratch.old state.old a → Fits l (constructs.close_chain sheet j a)
+        → Holds sheet l scratch.new state.new (constructs.close_chain sheet j a)) }
 {
-    let at = add_chain(sheet, counts, scratch, j);
+    let at = add_chain(sheet, state, scratch, j);
     emit(
-        t,
-        counts,
+        state,
         scratch,
         Op::Chain(at),
         position(sheet, j),

@@ -3,4 +3,5 @@ mod ReadLaws
 pub mod ReceiverLaws
 pub mod InverseLaws
 pub mod ReadsLaws
+pub mod LinksLaws
 mod RuleLaws

@@ -1,6 +1,6 @@
 -- The two ways in which the code reads a link.
 use Prim.Native.Nat.{ℕ, ◌%◌}
-use mathlib.Core.Path.{◌≡◌, sym, ap, ap₂, ◌∙◌}
+use mathlib.Core.Path.{◌≡◌, refl, sym, ap, ap₂, ◌∙◌}
 use mathlib.Core.Bool.{Bool, true, false}
 use mathlib.Core.List.{List}
 use Rattle.lowering.proofs.ChainNodesLaws.{operand_on, operand-last}
@@ -26,9 +26,10 @@ module _ (s : List ℕ) (c : ℕ) {k flags rest m : ℕ} {t : Bool}
       → with ≡ child rest
       → n ≡ kind s with
       → rule ≡ step_rule_of (rule_onto k n)
-      → Reads s c (record { on = true; rest = rest; with = with; rule = rule; flag = flags % 2 })
+      → Reads s c (record { link = c; on = true; rest = rest; with = with; rule = rule; flag = flags % 2 })
   read_goes {with} ht ew en eu =
       let operand = ew ∙ ap child er ∙ sym (operand_on s c (sym leads-on ∙ ht)) in record {
+        link_is = refl;
         on_is = sym ht ∙ leads-on;
         rest_is = er;
         with_is = operand;
@@ -40,9 +41,10 @@ module _ (s : List ℕ) (c : ℕ) {k flags rest m : ℕ} {t : Bool}
       {rule : StepRule}
       → t ≡ false
       → rule ≡ step_rule_of (rule_onto k m)
-      → Reads s c (record { on = false; rest = rest; with = rest; rule = rule; flag = flags % 2 })
+      → Reads s c (record { link = c; on = false; rest = rest; with = rest; rule = rule; flag = flags % 2 })
   read-stops ht eu =
       let operand = er ∙ sym (operand-last s c (sym leads-on ∙ ht)) in record {
+        link_is = refl;
         on_is = sym ht ∙ leads-on;
         rest_is = er;
         with_is = operand;

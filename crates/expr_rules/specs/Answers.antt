@@ -1,9 +1,10 @@
 -- The rules of the definition as the code's enums give them.
-use Rattle.std.specs.Prelude.{ℕ, ◌/◌, ◌%◌, Bool, true, false, ◌&&◌, not, List, leb, eqb}
+use Rattle.std.specs.Prelude.{ℕ, ◌/◌, ◌%◌, Bool, true, false, ◌&&◌, not, List, leb, eqb, get_or, Option}
+use Rattle.std.specs.Bool.{then_some}
 use Rattle.sheet.specs.Node.{kind, count, field_b, field_c, child}
 use Rattle.lowering.specs.Kinds.{index_kind}
 use Rattle.lowering.specs.Expression.{Rule, boolean, unit, constant, interpolated, array, variable, this, fn_call, chain, and, or, coalesce}
-use Rattle.lowering.specs.Expression.{residual}
+use Rattle.lowering.specs.Expression.{residual, rules}
 use Rattle.lowering.specs.Call as Call
 use Rattle.lowering.specs.Flatten as Flatten
 use Rattle.expr_rules.specs.declared.kinds.Rule as Kinds
@@ -26,6 +27,10 @@ rule_of or = Kinds.TheVariants.Or
 rule_of coalesce = Kinds.TheVariants.Coalesce
 rule_of residual = Kinds.TheVariants.Residual
 
+-- the rule of a kind
+abbrev pub rule_at : ℕ → Rule
+rule_at k = get_or rules k residual
+
 unfoldable pub call_rule_of : Call.CallRule → Calls.CallRule
 call_rule_of Call.fn_ptr = Calls.TheVariants.FnPtr
 call_rule_of Call.fn_ptr_call = Calls.TheVariants.FnPtrCall
@@ -38,6 +43,10 @@ first_of (Call.local slot) = Firsts.TheVariants.Local slot
 first_of Call.named = Firsts.TheVariants.Named
 first_of Call.this = Firsts.TheVariants.This
 first_of Call.value = Firsts.TheVariants.Value
+
+-- a call's receiver, where it has one
+unfoldable pub receiver_node : List ℕ → ℕ → Option ℕ
+receiver_node s j = then_some (eqb (field_c s j) 0 && eqb (field_b s j) 0 && leb 1 (count s j)) (child j)
 
 -- the kind of a call's receiver, 0 where it has none
 unfoldable pub receiver_kind : List ℕ → ℕ → ℕ

@@ -1,4 +1,5 @@
 pub mod Answers
 pub mod Inverse
 pub mod Reads
+pub mod Links
 pub mod Keywords

@@ -6,8 +6,20 @@ use Rattle.expr_rules.specs.Answers.{step_rule_of}
 
 -- p is what link c says
 pub record Reads (s : List ℕ) (c : ℕ) (p : Read) : Type 0 where
+  pub link_is : p.link ≡ c
   pub on_is : p.on ≡ goes_on s c
   pub rest_is : p.rest ≡ rest_of s c
   pub with_is : p.with ≡ operand_of s c
   pub rule_is : p.rule ≡ step_rule_of (step_rule s c)
   pub flag_is : p.flag ≡ negated s c
+
+-- the whole of it
+abbrev pub read_of : List ℕ → ℕ → Read
+read_of s c = record {
+  link = c;
+  on = goes_on s c;
+  rest = rest_of s c;
+  with = operand_of s c;
+  rule = step_rule_of (step_rule s c);
+  flag = negated s c;
+}

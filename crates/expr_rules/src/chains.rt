@@ -1,17 +1,21 @@
 // Dot and Index: the links of a chain and the step that each of them has.
-ghost use Rattle.std.specs.Prelude.{◌≡◌};
+ghost use Rattle.std.specs.Prelude.{◌≡◌, map};
+ghost use Rattle.sheet.specs.Limits.{max_depth};
 ghost use Rattle.lowering.specs.Flatten as chains;
 ghost use Rattle.lowering.specs.Steps as steps;
 ghost use Rattle.expr_rules.specs.Answers as answers;
-ghost use Rattle.expr_rules.specs.Reads.{Reads};
+ghost use Rattle.expr_rules.specs.Reads.{Reads, read_of};
+ghost use Rattle.expr_rules.specs.Links.{links_left};
 
 use crate::keywords::{as_method, keyword_of};
 use lowering::MAX_ARGS;
 use sheet::kinds::{DOT, INDEX, METHOD_CALL, PROPERTY};
+use sheet::limits::MAX_DEPTH;
 use sheet::{child, count, field_a, kind, next};
 
 // What step a link has. A dot onto anything but a property or a method has none.
-#[derive(Clone, Copy)]
+// Kept: not an Option of three steps. Each use is one match on the four, which would have `Some` around three of them.
+#[derive(Clone, Copy, PartialEq, Eq)]
 pub enum StepRule {
     Index,
     Property,
@@ -19,9 +23,11 @@ pub enum StepRule {
     Nothing,
 }
 
-// What a link says: whether the rest is a link too, the rest, the node that the step is taken with, the step, flag NEGATED (0 or 1).
+// What a link says: its node, whether the rest is a link too, the rest, the node that the step is taken with, the step, flag NEGATED (0 or
+// 1).
 #[derive(Clone, Copy)]
 pub struct Read {
+    pub link: u32,
     pub on: bool,
     pub rest: u32,
     pub with: u32,
@@ -104,6 +110,7 @@ pub fn read_link(sheet: &[u8], c: u32) -> Read
         let with = child(rest);
         let rule = rule_onto(k, kind(sheet, with));
         return Read {
+            link: c,
             on: true,
             rest,
             with,
@@ -113,11 +120,52 @@ pub fn read_link(sheet: &[u8], c: u32) -> Read
     }
     let rule = rule_onto(k, m);
     Read {
+        link: c,
         on: false,
         rest,
         with: rest,
         rule,
         flag: flags % 2,
+    }
+}
+
+// The links of a chain, each with what it says: at most `left` more, the next of them `node`.
+#[derive(Clone, Drop)]
+pub struct Links<'a> {
+    sheet: &'a [u8],
+    node: u32,
+    left: u32,
+}
+
+// The links of the chain of node `j`.
+pub fn links_of(sheet: &[u8], j: u32) -> Links
+    ensures { let sheet = sheet.now in links_left result ≡ map (read_of sheet) (chains.links max_depth sheet j) }
+{
+    Links {
+        sheet,
+        node: j,
+        left: MAX_DEPTH,
+    }
+}
+
+impl<'a> Iterator for Links<'a> {
+    ghost use Rattle.std.specs.Iterator.{YieldsFirst, item_count};
+    ghost use Rattle.expr_rules.specs.Links.{links_left};
+
+    type Item = Read;
+
+    ghost next_gives = { YieldsFirst links_left };
+
+    ghost remaining = { item_count links_left };
+
+    fn next(&mut self) -> Option<Read> {
+        if self.left == 0 {
+            return None;
+        }
+        let p = read_link(self.sheet, self.node);
+        self.left = if p.on { self.left - 1 } else { 0 };
+        self.node = p.rest;
+        Some(p)
     }
 }
 

@@ -51,26 +51,11 @@ pub fn rule_by(word: Keyword, n: u32) -> CallRule
     ensures { result ≡ answers.call_rule_of (keywords.rule_by word n) }
 {
     match word {
-        Keyword::Fn => {
-            if n == 1 {
-                return CallRule::FnPtr;
-            }
-            CallRule::Residual
-        }
-        Keyword::Call => {
-            if (1 <= n) & (n <= MAX_ARGS + 1) {
-                return CallRule::FnPtrCall;
-            }
-            CallRule::Residual
-        }
+        Keyword::Fn if n == 1 => CallRule::FnPtr,
+        Keyword::Call if (1 <= n) & (n <= MAX_ARGS + 1) => CallRule::FnPtrCall,
         Keyword::Eval => CallRule::Eval,
-        Keyword::Curry => CallRule::Residual,
-        Keyword::Other => {
-            if n <= MAX_ARGS {
-                return CallRule::Lowerable;
-            }
-            CallRule::Residual
-        }
+        Keyword::Other if n <= MAX_ARGS => CallRule::Lowerable,
+        _ => CallRule::Residual,
     }
 }
 
@@ -78,11 +63,5 @@ pub fn rule_by(word: Keyword, n: u32) -> CallRule
 pub fn as_method(word: Keyword) -> bool
     ensures { result ≡ keywords.as_method word }
 {
-    match word {
-        Keyword::Fn => false,
-        Keyword::Call => true,
-        Keyword::Eval => false,
-        Keyword::Curry => true,
-        Keyword::Other => true,
-    }
+    !matches!(word, Keyword::Fn | Keyword::Eval)
 }

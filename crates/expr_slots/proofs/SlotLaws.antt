@@ -11,7 +11,7 @@ use Rattle.sheet.specs.Sections.{local_count}
 use Rattle.sheet.specs.Node.{local_text}
 use Rattle.sheet.specs.Text.{text}
 use Rattle.lowering.specs.Slots.{resolve_below, resolve}
-use Rattle.expr_slots.specs.declared.Found.TheVariants.{At, Nothing}
+use Rattle.std.specs.Prelude.{Some, None}
 use Rattle.expr_slots.specs.Found.{found}
 
 module _ (s name : List ℕ) where
@@ -29,7 +29,7 @@ module _ (s name : List ℕ) where
   passes-last n h = rw (h, resolve_below)
 
   -- the last one has the name
-  pub search-finds : (n : ℕ) → 0 < n → same (text s (local_text s (n - 1))) name ≡ true → found (resolve_below n s name) ≡ At (n - 1)
+  pub search-finds : (n : ℕ) → 0 < n → same (text s (local_text s (n - 1))) name ≡ true → found (resolve_below n s name) ≡ Some (n - 1)
   unfolding found
   search-finds n h e = ap (λ m. found (resolve_below m s name)) (one_less n h) ∙ ap found (takes-last (n - 1) e)
 
@@ -39,6 +39,6 @@ module _ (s name : List ℕ) where
   search-passes n h e = ap (λ m. found (resolve_below m s name)) (one_less n h) ∙ ap found (passes-last (n - 1) e)
 
   -- none is left
-  pub search-ends : (n : ℕ) → n ≤ 0 → found (resolve_below n s name) ≡ Nothing
+  pub search-ends : (n : ℕ) → n ≤ 0 → found (resolve_below n s name) ≡ None
   unfolding found resolve_below
   search-ends n h = let e : n ≡ 0 = omega arith in ap (λ m. found (resolve_below m s name)) e

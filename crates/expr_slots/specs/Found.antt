@@ -1,9 +1,8 @@
 -- The answer of a search among the locals, as the code gives it.
-use Rattle.std.specs.Prelude.{ℕ}
-use Rattle.std.proofs.Math.Option.{Option, none, some}
-use Rattle.expr_slots.specs.declared.Found.{Found}
-use Rattle.expr_slots.specs.declared.Found.TheVariants.{At, Nothing}
+use Rattle.std.specs.Prelude.{ℕ, Option, Some, None}
+use Rattle.std.proofs.Math.Option as Search
+use Rattle.std.proofs.Math.Option.{none, some}
 
-unfoldable pub found : Option ℕ → Found
-found none = Nothing
-found (some slot) = At slot
+unfoldable pub found : Search.Option ℕ → Option ℕ
+found none = None
+found (some slot) = Some slot

@@ -14,25 +14,16 @@ use sheet::{
 use text::same_bytes;
 use words::{byte, part, word_at};
 
-// The number of a local, or none.
-#[derive(Clone, Copy)]
-pub enum Found {
-    At(u32),
-    Nothing,
-}
-
 // The last local with the bytes of `name`.
-fn by_bytes(sheet: &[u8], name: &[u8]) -> Found
+fn by_bytes(sheet: &[u8], name: &[u8]) -> Option<u32>
     ensures { let sheet = sheet.now in result ≡ answers.found (slots.resolve sheet name.now) }
 {
-    let mut left = local_count(sheet);
-    while 0 < left {
-        left -= 1;
+    for left in (0..local_count(sheet)).rev() {
         if same_bytes(text(sheet, local_text(sheet, left)), name) {
-            return Found::At(left);
+            return Some(left);
         }
     }
-    Found::Nothing
+    None
 }
 
 // Whether the sheet ends with `name`, or is shorter: only such a name can be a text that is cut short.
@@ -58,7 +49,7 @@ fn same_part(sheet: &[u8], at: usize, len: usize, name: &[u8]) -> bool
 }
 
 // The last local with the bytes of text `t`, which is `name` and does not end the sheet: texts of another length are passed over.
-fn by_length(sheet: &[u8], t: u32, name: &[u8]) -> Found
+fn by_length(sheet: &[u8], t: u32, name: &[u8]) -> Option<u32>
     requires { (name.now ≡ texts.text sheet.now t) × (Ends sheet.now name.now → ⊥) }
     ensures { let sheet = sheet.now in result ≡ answers.found (slots.resolve sheet name.now) }
 {
@@ -66,9 +57,7 @@ fn by_length(sheet: &[u8], t: u32, name: &[u8]) -> Found
     let lengths = lengths_at(sheet);
     let bytes = 4 * bytes_at(sheet);
     let locals = locals_at(sheet);
-    let mut left = local_count(sheet);
-    while 0 < left {
-        left -= 1;
+    for left in (0..local_count(sheet)).rev() {
         let k = word_at(sheet, locals + (left as usize));
         if word_at(sheet, lengths + (k as usize)) == n {
             if same_part(
@@ -77,15 +66,15 @@ fn by_length(sheet: &[u8], t: u32, name: &[u8]) -> Found
                 n as usize,
                 name,
             ) {
-                return Found::At(left);
+                return Some(left);
             }
         }
     }
-    Found::Nothing
+    None
 }
 
 // The last local whose name has the bytes of text `t`.
-pub fn resolve(sheet: &[u8], t: u32) -> Found
+pub fn resolve(sheet: &[u8], t: u32) -> Option<u32>
     ensures { let sheet = sheet.now in result ≡ answers.found (slots.resolve sheet (texts.text sheet t)) }
 {
     let name = text(sheet, t);

@@ -1,14 +1,13 @@
 // The check of an image and its sheet: whether the image is well made. It reads both, and writes to the lent scratch only.
 #![tactic(auto)]
 
-ghost use Rattle.std.specs.Prelude.{◌≡◌, length};
+ghost use Rattle.std.specs.Prelude.{◌≡◌, length, Ok};
 ghost use Rattle.checks.specs.Checked.{checked};
-ghost use Rattle.checks.specs.declared.Verdict.TheVariants.{Accepted};
 ghost use Rattle.image_rule.specs.Test.{well_made};
 ghost use Rattle.image_check.specs.Answer.{Answers};
 ghost use Rattle.image_check.specs.Sizes.{sizes_agree};
 
-use checks::{Verdict, check};
+use checks::check;
 use image_depths::depths_right;
 use image_fields::fields_right;
 use image_read::end_at;
@@ -46,29 +45,26 @@ fn well_made(sheet: &[u8], image: &[u32], scratch: &mut [u32]) -> bool
 
 // An image beside an accepted sheet: 11 for a scratch that has fewer words than the image, 13, or nothing. The scratch is
 // kept under 11, and zeroed else.
-fn judge(sheet: &[u8], image: &[u32], scratch: &mut [u32]) -> Verdict
-    ensures { let sheet = sheet.now in (checked sheet ≡ Accepted → Answers sheet image.now scratch.old result scratch.new) }
+fn judge(sheet: &[u8], image: &[u32], scratch: &mut [u32]) -> Result<(), Refusal>
+    ensures { let sheet = sheet.now in (checked sheet ≡ Ok tt → Answers sheet image.now scratch.old result scratch.new) }
 {
     let m = image.len();
     if scratch.len() < m {
-        return Verdict::Refused(Refusal::ScratchShort);
+        return Err(Refusal::ScratchShort);
     }
     let made = well_made(sheet, image, &mut scratch[..m]);
     zero(scratch);
     if made {
-        return Verdict::Accepted;
+        return Ok(());
     }
-    Verdict::Refused(Refusal::IllMade)
+    Err(Refusal::IllMade)
 }
 
 // Accepts an image that is well made; else the first that fits of the sheet's refusals 1 to 8, 11 and 13. The scratch is kept under
 // 1 to 8 and 11, and zeroed else.
-pub fn check_image(sheet: &[u8], image: &[u32], scratch: &mut [u32]) -> Verdict
+pub fn check_image(sheet: &[u8], image: &[u32], scratch: &mut [u32]) -> Result<(), Refusal>
     ensures { Answers sheet.now image.now scratch.old result scratch.new }
 {
-    let v = check(sheet);
-    match v {
-        Verdict::Refused(by) => Verdict::Refused(by),
-        Verdict::Accepted => judge(sheet, image, scratch),
-    }
+    check(sheet)?;
+    judge(sheet, image, scratch)
 }

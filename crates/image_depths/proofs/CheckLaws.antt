@@ -1,6 +1,6 @@
 -- One law for each way through the code that checks the marks.
 use Prim.Native.Nat.{ℕ, suc, ◌+◌, ◌-◌, ◌≤◌, ◌<◌, max}
-use mathlib.Core.Path.{◌≡◌, refl, sym, ap, ap₂, ◌∙◌, subst}
+use mathlib.Core.Path.{◌≡◌, sym, ap, ap₂, ◌∙◌, subst}
 use mathlib.Core.Bool.{Bool, true, false, ◌&&◌}
 use mathlib.Core.List.{List}
 use native.Mathlib.Omega.{arith}
@@ -11,7 +11,6 @@ use Rattle.laws.proofs.Bool.{and-lazy}
 use Rattle.words.specs.Count.{all_below}
 use Rattle.words.proofs.CountLaws.{all-suc, all_same, all-fails}
 use Rattle.bytecode.specs.Effect.{Flow, on, jump, branch, table}
-use Rattle.bytecode.specs.Table.{flow_number}
 use Rattle.lowering.specs.Words.{instructions, greatest_depth, consts_at, chains_at, switches_at, cases_at, ranges_at, a_at, switch_word}
 use Rattle.lowering.specs.Run.{needs, branch_target, row_target, table_target}
 use Rattle.image_rule.specs.Rules.{tables, cases, ranges, end_at}
@@ -21,39 +20,29 @@ use Rattle.image_depths.specs.Checked.{Checked}
 use Rattle.image_depths.specs.Passing.{leads, places_right, tables_right, MarkedAll}
 use Rattle.image_depths.proofs.DeepLaws.{deep-false}
 
--- where the edges lead, by the number of the flow
-pub leads-table : (F : Flow) (w l : List ℕ) (p m a t x : ℕ) → flow_number F ≡ 3 → a ≡ a_at w p → t ≡ table_node w a → x ≡ mark l t
+-- where the edges lead, by the flow
+pub leads-table : (F : Flow) (w l : List ℕ) (p m a t x : ℕ) → F ≡ table → a ≡ a_at w p → t ≡ table_node w a → x ≡ mark l t
     → eqb x m ≡ leads F w l p m
-unfolding flow_number leads all_below edges edge
-leads-table on w l p m a t x e q g h = absurd (omega arith)
-leads-table jump w l p m a t x e q g h = absurd (omega arith)
-leads-table branch w l p m a t x e q g h = absurd (omega arith)
-leads-table table w l p m a t x e q g h = ap (λ (y : ℕ). eqb y m) (h ∙ ap (mark l) (g ∙ ap (table_node w) q))
+unfolding leads all_below edges edge
+leads-table F w l p m a t x e q g h =
+    subst (λ (G : Flow). eqb x m ≡ leads G w l p m) (sym e) (ap (λ (y : ℕ). eqb y m) (h ∙ ap (mark l) (g ∙ ap (table_node w) q)))
 
-pub leads-branch : (F : Flow) (w l : List ℕ) (p m a x y : ℕ) → flow_number F ≡ 2 → a ≡ a_at w p → x ≡ mark l (p + 1) → y ≡ mark l a
+pub leads-branch : (F : Flow) (w l : List ℕ) (p m a x y : ℕ) → F ≡ branch → a ≡ a_at w p → x ≡ mark l (p + 1) → y ≡ mark l a
     → (eqb x m && eqb y m) ≡ leads F w l p m
-unfolding flow_number leads all_below edges edge branch_target
-leads-branch on w l p m a x y e q g h = absurd (omega arith)
-leads-branch jump w l p m a x y e q g h = absurd (omega arith)
-leads-branch branch w l p m a x y e q g h =
-    ap₂ ◌&&◌ (ap (λ (z : ℕ). eqb z m) g) (ap (λ (z : ℕ). eqb z m) (h ∙ ap (mark l) q))
-    ∙ sym (and-lazy (eqb (mark l (p + 1)) m) (eqb (mark l (a_at w p)) m))
-leads-branch table w l p m a x y e q g h = absurd (omega arith)
+unfolding leads all_below edges edge branch_target
+leads-branch F w l p m a x y e q g h =
+    subst (λ (G : Flow). (eqb x m && eqb y m) ≡ leads G w l p m) (sym e)
+    (ap₂ ◌&&◌ (ap (λ (z : ℕ). eqb z m) g) (ap (λ (z : ℕ). eqb z m) (h ∙ ap (mark l) q))
+    ∙ sym (and-lazy (eqb (mark l (p + 1)) m) (eqb (mark l (a_at w p)) m)))
 
-pub leads-jump : (F : Flow) (w l : List ℕ) (p m a x : ℕ) → flow_number F ≡ 1 → a ≡ a_at w p → x ≡ mark l a → eqb x m ≡ leads F w l p m
-unfolding flow_number leads all_below edges edge
-leads-jump on w l p m a x e q h = absurd (omega arith)
-leads-jump jump w l p m a x e q h = ap (λ (y : ℕ). eqb y m) (h ∙ ap (mark l) q)
-leads-jump branch w l p m a x e q h = absurd (omega arith)
-leads-jump table w l p m a x e q h = absurd (omega arith)
+pub leads-jump : (F : Flow) (w l : List ℕ) (p m a x : ℕ) → F ≡ jump → a ≡ a_at w p → x ≡ mark l a → eqb x m ≡ leads F w l p m
+unfolding leads all_below edges edge
+leads-jump F w l p m a x e q h =
+    subst (λ (G : Flow). eqb x m ≡ leads G w l p m) (sym e) (ap (λ (y : ℕ). eqb y m) (h ∙ ap (mark l) q))
 
-pub leads-on : (F : Flow) (w l : List ℕ) (p m x : ℕ) → (flow_number F ≡ 3 → ⊥) → (flow_number F ≡ 2 → ⊥) → (flow_number F ≡ 1 → ⊥)
-    → x ≡ mark l (p + 1) → eqb x m ≡ leads F w l p m
-unfolding flow_number leads all_below edges edge
-leads-on on w l p m x a b c h = ap (λ (y : ℕ). eqb y m) h
-leads-on jump w l p m x a b c h = absurd (c refl)
-leads-on branch w l p m x a b c h = absurd (b refl)
-leads-on table w l p m x a b c h = absurd (a refl)
+pub leads-on : (F : Flow) (w l : List ℕ) (p m x : ℕ) → F ≡ on → x ≡ mark l (p + 1) → eqb x m ≡ leads F w l p m
+unfolding leads all_below edges edge
+leads-on F w l p m x e h = subst (λ (G : Flow). eqb x m ≡ leads G w l p m) (sym e) (ap (λ (y : ℕ). eqb y m) h)
 
 -- one place: without a mark there is nothing to test
 pub place_none : (w l : List ℕ) (p m : ℕ) → m ≡ mark l p → m ≡ 0 → true ≡ place_by (mark l p) w l p

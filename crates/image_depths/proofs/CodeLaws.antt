@@ -1,15 +1,16 @@
 -- What is read of an instruction is what a run goes by.
-use Prim.Native.Nat.{ℕ, ◌+◌, ◌*◌, ◌<◌}
-use mathlib.Core.Path.{◌≡◌, refl, sym, ap, ◌∙◌}
-use mathlib.Core.Bool.{Bool, true, false}
+use Prim.Native.Nat.{ℕ, ◌+◌, ◌*◌, ◌≤◌}
+use mathlib.Core.Path.{◌≡◌, refl, sym, ap, ◌∙◌, subst}
+use mathlib.Core.Logic.{◌⊎◌, inl, inr}
 use mathlib.Core.List.{List}
 use native.Mathlib.Omega.{arith}
-use lib.Dec.{eqb}
-use borrow.Author.Tests.{eq-eqb, ne_eqb, eqb-true, eqb-false}
-use Rattle.bytecode.specs.Effect.{effect}
-use Rattle.bytecode.specs.Table.{effect_table, entry, counted, kept}
-use Rattle.bytecode.proofs.TableLaws.{entry-pops, entry-pushes, entry-keeps, entry-count, entry-flow}
-use Rattle.bytecode.proofs.TableLaws.{counted_is, kept-is, counted-argc, counted-ref, counted-a, counted_none}
+use borrow.Author.Tests.{eq-eqb, ne_eqb}
+use Rattle.bytecode.specs.Effect.{effect, popped, kept, Count}
+use Rattle.bytecode.specs.Coded.{count_of, flow_of}
+use Rattle.bytecode.specs.Table.{count_number}
+use Rattle.bytecode.specs.declared.table.Top.TheVariants.{the_data, Nothing, Argc, RefArgc, PopsA, NeedsA}
+use Rattle.bytecode.specs.declared.table.Flow.TheVariants as flows
+use Rattle.bytecode.proofs.TableLaws.{counted_is, counted-small}
 use Rattle.lowering.specs.Limits.{chain_width}
 use Rattle.lowering.specs.Words.{word, chains_at, kind_at, a_at, b_at, chain_word}
 use Rattle.lowering.specs.Run.{chain_takes, pops, pushes, needs}
@@ -43,61 +44,45 @@ module _ (w : List ℕ) (o : Starts) (i n k : ℕ) (operands : n ≡ word w (o.c
   takes_same z P = rw (ne_eqb (chain_word w i 0) 3 (λ e. z (root_is P ∙ e)), chain_takes) (omega (arith, operands-is P))
 
 -- only one count looks at the chain
-pub counted-other : (which a b n m : ℕ) → (which ≡ 5 → ⊥) → counted which a b n ≡ counted which a b m
-counted-other which a b n m h = by (eqb which 1) refl (eqb which 2) refl (eqb which 3) refl
-  where
-    by : (s : Bool) → eqb which 1 ≡ s → (t : Bool) → eqb which 2 ≡ t → (u : Bool) → eqb which 3 ≡ u
-        → counted which a b n ≡ counted which a b m
-    by true e t f u g = let z = eqb-true which 1 e in sym (counted-argc which a b n z) ∙ counted-argc which a b m z
-    by false e true f u g = let z = eqb-true which 2 f in sym (counted-ref which a b n z) ∙ counted-ref which a b m z
-    by false e false f true g = let z = eqb-true which 3 g in sym (counted-a which a b n z) ∙ counted-a which a b m z
-    by false e false f false g =
-        let x = eqb-false which 1 e in
-        let y = eqb-false which 2 f in
-        let z = eqb-false which 3 g in
-        sym (counted_none which a b n x y z h) ∙ counted_none which a b m x y z h
+pub popped-rest : (t : the_data) (a b n : ℕ)
+    → (t ≡ Nothing) ⊎ ((t ≡ Argc) ⊎ ((t ≡ RefArgc) ⊎ ((t ≡ PopsA) ⊎ (t ≡ NeedsA))))
+    → popped (count_of t) a b 0 ≡ popped (count_of t) a b n
+unfolding popped count_of
+popped-rest t a b n (inl e) = rw e refl
+popped-rest t a b n (inr (inl e)) = rw e refl
+popped-rest t a b n (inr (inr (inl e))) = rw e refl
+popped-rest t a b n (inr (inr (inr (inl e)))) = rw e refl
+popped-rest t a b n (inr (inr (inr (inr e)))) = rw e refl
 
--- what the table of effects gives is what an instruction pops
-pops-is : (w : List ℕ) (p : ℕ)
-    → entry (kind_at w p) 0 + counted (entry (kind_at w p) 3) (a_at w p) (b_at w p) (chain_takes w (a_at w p)) ≡ pops w p
-unfolding pops
-pops-is w p =
-    let k = kind_at w p in
-    rw (entry-pops k, entry-count k, counted_is (effect k).count (a_at w p) (b_at w p) (chain_takes w (a_at w p)))
-
--- and what it needs
-needs-is : (w : List ℕ) (p : ℕ) → pops w p + entry (kind_at w p) 2 + kept (entry (kind_at w p) 3) (a_at w p) ≡ needs w p
-unfolding needs
-needs-is w p =
-    let k = kind_at w p in
-    rw (entry-keeps k, entry-count k, kept-is (effect k).count (a_at w p))
+-- what is popped on top without a chain is small
+pub popped-small : (c : Count) (a b : ℕ) → a ≤ 4294967296 → popped c a b 0 ≤ 4294967296
+popped-small c a b h =
+    subst (λ (x : ℕ). x ≤ 4294967296) (counted_is c a b 0)
+    (counted-small (count_number c) a b 0 4294967296 (omega arith) h (omega arith))
 
 -- all that is read of the instruction at p
-module _ (w : List ℕ) (o : Starts) (t : List ℕ) (p k a b which top z x y f s : ℕ)
-    (kind : k ≡ kind_at w p) (first : a ≡ a_at w p) (second : b ≡ b_at w p)
-    (column : t ≡ effect_table → 3 < 5 → which ≡ entry k 3) (counts : Placed w o → top ≡ counted which a b (chain_takes w a))
-    (pop : t ≡ effect_table → 0 < 5 → z ≡ entry k 0) (keep : t ≡ effect_table → 2 < 5 → x ≡ entry k 2) (keeps : y ≡ kept which a)
-    (flow : t ≡ effect_table → 4 < 5 → f ≡ entry k 4) (push : t ≡ effect_table → 1 < 5 → s ≡ entry k 1) where
-  pops-read : Placed w o → t ≡ effect_table → z + top ≡ pops w p
-  pops-read P e =
-      let h1 = column e (omega arith) in
-      let h2 = counts P in
-      let h3 = pop e (omega arith) in
-      cc (pops-is w p)
+module _ (w : List ℕ) (o : Starts) (p k a b top z x y s : ℕ) (t : the_data) (f : flows.the_data)
+    (kind : k ≡ kind_at w p) (first : a ≡ a_at w p) (second : b ≡ b_at w p) (column : count_of t ≡ (effect k).count)
+    (counts : Placed w o → top ≡ popped (count_of t) a b (chain_takes w a)) (pop : z ≡ (effect k).pops) (keep : x ≡ (effect k).keeps)
+    (keeps : y ≡ kept (count_of t) a) (flow : flow_of f ≡ (effect k).flow) (push : s ≡ (effect k).pushes) where
+  pops-read : Placed w o → z + top ≡ pops w p
+  unfolding pops
+  pops-read P =
+      let h = counts P in
+      cc
 
-  needs-read : Placed w o → t ≡ effect_table → z + top + x + y ≡ needs w p
-  needs-read P e =
-      let h1 = column e (omega arith) in
-      let h2 = pops-read P e in
-      let h3 = keep e (omega arith) in
-      cc (needs-is w p)
+  needs-read : Placed w o → z + top + x + y ≡ needs w p
+  unfolding needs
+  needs-read P =
+      let h = pops-read P in
+      cc
 
-  pub code_read : Placed w o → t ≡ effect_table → Read w p (record { a = a; flow = f; pushes = s; pops = z + top; needs = z + top + x + y })
+  pub code_read : Placed w o → Read w p (record { a = a; flow = f; pushes = s; pops = z + top; needs = z + top + x + y })
   unfolding pushes
-  code_read P e = record {
+  code_read P = record {
     a = first;
-    flow = flow e (omega arith) ∙ ap (λ (j : ℕ). entry j 4) kind ∙ entry-flow (kind_at w p);
-    pushes = push e (omega arith) ∙ ap (λ (j : ℕ). entry j 1) kind ∙ entry-pushes (kind_at w p);
-    pops = pops-read P e;
-    needs = needs-read P e;
+    flow = flow ∙ ap (λ (j : ℕ). (effect j).flow) kind;
+    pushes = push ∙ ap (λ (j : ℕ). (effect j).pushes) kind;
+    pops = pops-read P;
+    needs = needs-read P;
   }

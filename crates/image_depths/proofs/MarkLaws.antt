@@ -9,10 +9,10 @@ use lib.ListN.{get_or, take}
 use lib.Seq.{get_or-drop}
 use borrow.Author.Tests.{eq-eqb, ne_eqb}
 use Rattle.image_rule.proofs.WordLaws.{row-there, default-there}
-use Rattle.bytecode.proofs.TableLaws.{by-table}
 use Rattle.zeros.specs.Zeros.{zeros}
 use Rattle.bytecode.specs.Effect.{Flow, on, jump, branch, table}
-use Rattle.bytecode.specs.Table.{flow_number}
+use Rattle.bytecode.specs.Coded.{flow_of}
+use Rattle.bytecode.specs.declared.table.Flow.TheVariants.{On, Jump, Branch, Table}
 use Rattle.lowering.specs.Words.{instructions, a_at, switch_word}
 use Rattle.lowering.specs.Run.{pops, row_target, table_target, branch_target}
 use Rattle.image_rule.specs.Marks.{mark, marks_there, table_node, flow_at, after, edge, edges}
@@ -80,68 +80,59 @@ module _ (w : List ℕ) (o : Starts) (m i size x : ℕ) (l : List ℕ) (s : size
       (did-both w rows (λ a. come m a d) l l₁ l₂ (R P Q p) (did-come w size m d l₁ l₂ sz D))
       (did-come w size m (o.places + 1 + i) l₂ l₃ sz N))
 
-is-table : (F : Flow) (w : List ℕ) (p m : ℕ) (l : List ℕ) → flow_number F ≡ 3
+is-table : (F : Flow) (w : List ℕ) (p m : ℕ) (l : List ℕ) → F ≡ table
     → come m (enter w (a_at w p) m l) (table_node w (a_at w p)) ≡ hand_on F w p m l
-unfolding flow_number hand_on opened comes edges edge
-is-table on w p m l e = absurd (omega arith)
-is-table jump w p m l e = absurd (omega arith)
-is-table branch w p m l e = absurd (omega arith)
-is-table table w p m l e = refl
+unfolding hand_on opened comes edges edge
+is-table F w p m l e = rw e refl
 
-is-branch : (F : Flow) (w : List ℕ) (p m : ℕ) (l : List ℕ) → flow_number F ≡ 2 → come m (come m l (p + 1)) (a_at w p) ≡ hand_on F w p m l
-unfolding flow_number hand_on opened comes edges edge branch_target
-is-branch on w p m l e = absurd (omega arith)
-is-branch jump w p m l e = absurd (omega arith)
-is-branch branch w p m l e = refl
-is-branch table w p m l e = absurd (omega arith)
+is-branch : (F : Flow) (w : List ℕ) (p m : ℕ) (l : List ℕ) → F ≡ branch → come m (come m l (p + 1)) (a_at w p) ≡ hand_on F w p m l
+unfolding hand_on opened comes edges edge branch_target
+is-branch F w p m l e = rw e refl
 
-is-jump : (F : Flow) (w : List ℕ) (p m : ℕ) (l : List ℕ) → flow_number F ≡ 1 → come m l (a_at w p) ≡ hand_on F w p m l
-unfolding flow_number hand_on opened comes edges edge
-is-jump on w p m l e = absurd (omega arith)
-is-jump jump w p m l e = refl
-is-jump branch w p m l e = absurd (omega arith)
-is-jump table w p m l e = absurd (omega arith)
+is-jump : (F : Flow) (w : List ℕ) (p m : ℕ) (l : List ℕ) → F ≡ jump → come m l (a_at w p) ≡ hand_on F w p m l
+unfolding hand_on opened comes edges edge
+is-jump F w p m l e = rw e refl
 
-is-on : (F : Flow) (w : List ℕ) (p m : ℕ) (l : List ℕ) → (flow_number F ≡ 3 → ⊥) → (flow_number F ≡ 2 → ⊥) → (flow_number F ≡ 1 → ⊥)
-    → come m l (p + 1) ≡ hand_on F w p m l
-unfolding flow_number hand_on opened comes edges edge
-is-on on w p m l a b c = refl
-is-on jump w p m l a b c = absurd (c refl)
-is-on branch w p m l a b c = absurd (b refl)
-is-on table w p m l a b c = absurd (a refl)
+is-on : (F : Flow) (w : List ℕ) (p m : ℕ) (l : List ℕ) → F ≡ on → come m l (p + 1) ≡ hand_on F w p m l
+unfolding hand_on opened comes edges edge
+is-on F w p m l e = rw e refl
 
 module _ (w : List ℕ) (o : Starts) (c : Code) (p m size : ℕ) (l : List ℕ) (s : size ≡ o.places + 1 + o.tables) where
-  pub hand-table : (l₁ : List ℕ) → c.flow ≡ 3
+  pub hand-table : (l₁ : List ℕ) → c.flow ≡ Table
       → (Placed w o → Pooled w c.a → 0 < m → Does w (λ a. come m (enter w c.a m a) (table_node w c.a)) l l₁)
       → Placed w o → Read w p c → PooledAt w p → 0 < m → Does w (hand_on (flow_at w p) w p m) l l₁
+  unfolding flow_of
   hand-table l₁ f D P R Q h =
-      let three = sym R.flow ∙ f in
-      let pooled : Pooled w c.a = subst (Pooled w) (sym R.a) (Q (by-table (flow_at w p) three)) in
+      let by = sym R.flow ∙ ap flow_of f in
+      let pooled : Pooled w c.a = subst (Pooled w) (sym R.a) (Q by) in
       did-same w (λ a. come m (enter w c.a m a) (table_node w c.a)) (hand_on (flow_at w p) w p m) l l₁
-      (ap (λ (i : ℕ). come m (enter w i m (marks_of w l)) (table_node w i)) R.a ∙ is-table (flow_at w p) w p m (marks_of w l) three)
+      (ap (λ (i : ℕ). come m (enter w i m (marks_of w l)) (table_node w i)) R.a ∙ is-table (flow_at w p) w p m (marks_of w l) by)
       (D P pooled h)
 
-  pub hand-branch : (l₁ l₂ : List ℕ) → c.flow ≡ 2 → Left size m (p + 1) l l₁ → Left size m c.a l₁ l₂
+  pub hand-branch : (l₁ l₂ : List ℕ) → c.flow ≡ Branch → Left size m (p + 1) l l₁ → Left size m c.a l₁ l₂
       → Placed w o → Read w p c → PooledAt w p → 0 < m → Does w (hand_on (flow_at w p) w p m) l l₂
+  unfolding flow_of
   hand-branch l₁ l₂ f D E P R Q h =
       let sz = size_is w o size s P in
       did-same w (λ a. come m (come m a (p + 1)) c.a) (hand_on (flow_at w p) w p m) l l₂
-      (ap (come m (come m (marks_of w l) (p + 1))) R.a ∙ is-branch (flow_at w p) w p m (marks_of w l) (sym R.flow ∙ f))
+      (ap (come m (come m (marks_of w l) (p + 1))) R.a ∙ is-branch (flow_at w p) w p m (marks_of w l) (sym R.flow ∙ ap flow_of f))
       (did-both w (λ a. come m a (p + 1)) (λ a. come m a c.a) l l₁ l₂ (did-come w size m (p + 1) l l₁ sz D)
       (did-come w size m c.a l₁ l₂ sz E))
 
-  pub hand-jump : (l₁ : List ℕ) → c.flow ≡ 1 → Left size m c.a l l₁
+  pub hand-jump : (l₁ : List ℕ) → c.flow ≡ Jump → Left size m c.a l l₁
       → Placed w o → Read w p c → PooledAt w p → 0 < m → Does w (hand_on (flow_at w p) w p m) l l₁
+  unfolding flow_of
   hand-jump l₁ f D P R Q h =
       did-same w (λ a. come m a c.a) (hand_on (flow_at w p) w p m) l l₁
-      (ap (come m (marks_of w l)) R.a ∙ is-jump (flow_at w p) w p m (marks_of w l) (sym R.flow ∙ f))
+      (ap (come m (marks_of w l)) R.a ∙ is-jump (flow_at w p) w p m (marks_of w l) (sym R.flow ∙ ap flow_of f))
       (did-come w size m c.a l l₁ (size_is w o size s P) D)
 
-  pub hand-on : (l₁ : List ℕ) → (c.flow ≡ 3 → ⊥) → (c.flow ≡ 2 → ⊥) → (c.flow ≡ 1 → ⊥) → Left size m (p + 1) l l₁
+  pub hand-on : (l₁ : List ℕ) → c.flow ≡ On → Left size m (p + 1) l l₁
       → Placed w o → Read w p c → PooledAt w p → 0 < m → Does w (hand_on (flow_at w p) w p m) l l₁
-  hand-on l₁ x y z D P R Q h =
+  unfolding flow_of
+  hand-on l₁ f D P R Q h =
       did-same w (λ a. come m a (p + 1)) (hand_on (flow_at w p) w p m) l l₁
-      (is-on (flow_at w p) w p m (marks_of w l) (λ e. x (R.flow ∙ e)) (λ e. y (R.flow ∙ e)) (λ e. z (R.flow ∙ e)))
+      (is-on (flow_at w p) w p m (marks_of w l) (sym R.flow ∙ ap flow_of f))
       (did-come w size m (p + 1) l l₁ (size_is w o size s P) D)
 
 -- the pass at one place

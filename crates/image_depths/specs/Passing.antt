@@ -2,7 +2,7 @@
 use Rattle.std.specs.Prelude.{ℕ, suc, ◌<◌, ◌≡◌, Bool, true, false, List, eqb}
 use Rattle.words.specs.Count.{all_below}
 use Rattle.bytecode.specs.Effect.{Flow, table}
-use Rattle.bytecode.specs.Table.{flow_number}
+use Rattle.bytecode.specs.Coded.{flow_of}
 use Rattle.lowering.specs.Words.{instructions, a_at}
 use Rattle.lowering.specs.Run.{pops, pushes, needs}
 use Rattle.image_rule.specs.Rules.{tables}
@@ -14,7 +14,7 @@ use Rattle.image_depths.specs.declared.Code.{Code}
 -- what was read of the instruction at p
 pub record Read (w : List ℕ) (p : ℕ) (c : Code) : Type 0 where
   pub a : c.a ≡ a_at w p
-  pub flow : c.flow ≡ flow_number (flow_at w p)
+  pub flow : flow_of c.flow ≡ flow_at w p
   pub pushes : c.pushes ≡ pushes w p
   pub pops : c.pops ≡ pops w p
   pub needs : c.needs ≡ needs w p

@@ -1,9 +1,9 @@
 // The depth at each place of an image, found in one pass over its code in the lent scratch, and checked in a second one.
 #![tactic(auto)]
 
-ghost use Rattle.std.specs.Prelude.{◌≡◌, List, ℕ, ◌+◌, ◌-◌, ◌<◌, ◌≤◌, max, length, take};
-ghost use Rattle.bytecode.specs.Table.{effect_table};
-ghost use Rattle.bytecode.specs.Table as table;
+ghost use Rattle.std.specs.Prelude.{◌≡◌, List, ℕ, ◌+◌, ◌-◌, ◌<◌, ◌≤◌, length, take};
+ghost use Rattle.bytecode.specs.Coded.{count_of};
+ghost use Rattle.bytecode.specs.Effect.{popped};
 ghost use Rattle.lowering.specs.Words as words;
 ghost use Rattle.lowering.specs.Run as runs;
 ghost use Rattle.image_rule.specs.Marks as marks;
@@ -13,7 +13,7 @@ ghost use Rattle.image_rows.specs.Scratch.{marks_of, Does, Runs};
 ghost use Rattle.image_depths.specs.Checked.{Checked, RowsPooled};
 ghost use Rattle.image_depths.specs.Passing.{Read, PooledAt, Passed, MarkedAll, leads, places_right, tables_right};
 
-use bytecode::{counted, effects, entry, kept};
+use bytecode::{Flow, Top, effect_of};
 use image_read::word_of;
 use image_rows::{
     Starts, come, come_rows, count_runs, mark_of, marks_there, rows_right, starts_of, table_word,
@@ -26,7 +26,7 @@ use zeros::zero;
 #[derive(Clone, Copy)]
 struct Code {
     pub a: u32,
-    pub flow: u32,
+    pub flow: Flow,
     pub pushes: u32,
     pub pops: u64,
     pub needs: u64,
@@ -45,34 +45,35 @@ fn chain_takes(image: &[u32], o: Starts, i: u32) -> u64
 }
 
 // The count that is popped on top; the chain is looked at only where it counts.
-fn on_top(image: &[u32], o: Starts, which: u32, a: u32, b: u32) -> u64
+fn on_top(image: &[u32], o: Starts, top: Top, a: u32, b: u32) -> u64
     ensures value { let image = image.now in
-        (Placed image o → result ≡ table.counted which a b (runs.chain_takes image a)) }
+        (Placed image o → result ≡ popped (count_of top) a b (runs.chain_takes image a)) }
     ensures small { result ≤ 4294967296 }
 {
-    if which == 5 {
-        return chain_takes(image, o, a);
+    match top {
+        Top::Operands => chain_takes(image, o, a),
+        Top::Nothing | Top::Argc | Top::RefArgc | Top::PopsA | Top::NeedsA => top.popped(a, b, 0),
     }
-    counted(which, a, b, 0)
 }
 
 // The instruction at `p`.
-fn code_at(image: &[u32], o: Starts, t: &[u8; 125], p: u32) -> Code
-    ensures { Placed image.now o → t.now ≡ effect_table → Read image.now p result }
+fn code_at(image: &[u32], o: Starts, p: u32) -> Code
+    ensures { Placed image.now o → Read image.now p result }
 {
     let at = SIZES + OP_WIDTH * (p as usize);
     let kind = word_of(image, at);
     let a = word_of(image, at + 1);
-    let which = entry(t, kind, 3);
-    let top = on_top(image, o, which, a, word_of(image, at + 2));
-    let pops = (entry(t, kind, 0) as u64) + top;
-    let needs = pops + (entry(t, kind, 2) as u64) + (kept(which, a) as u64);
+    let b = word_of(image, at + 2);
+    let effect = effect_of(kind);
+    let top = on_top(image, o, effect.top, a, b);
+    let pops = (effect.pops as u64) + top;
+    let needs = pops + (effect.keeps as u64) + (effect.top.kept(a) as u64);
     Code {
-        a: a,
-        flow: entry(t, kind, 4),
-        pushes: entry(t, kind, 1),
-        pops: pops,
-        needs: needs,
+        a,
+        flow: effect.flow,
+        pushes: effect.pushes,
+        pops,
+        needs,
     }
 }
 
@@ -116,33 +117,28 @@ fn hand_on(image: &[u32], o: Starts, c: Code, p: u32, m: u32, scratch: &mut [u32
 {
     let size = marks_there(o);
     let next = (p as usize) + 1;
-    if c.flow == 3 {
-        open_table(image, o, m, scratch, c.a);
-        return;
+    match c.flow {
+        Flow::Table => open_table(image, o, m, scratch, c.a),
+        Flow::Branch => {
+            come(m, scratch, size, next);
+            come(m, scratch, size, c.a as usize);
+        }
+        Flow::Jump => come(m, scratch, size, c.a as usize),
+        Flow::On => come(m, scratch, size, next),
     }
-    if c.flow == 2 {
-        come(m, scratch, size, next);
-        come(m, scratch, size, c.a as usize);
-        return;
-    }
-    if c.flow == 1 {
-        come(m, scratch, size, c.a as usize);
-        return;
-    }
-    come(m, scratch, size, next);
 }
 
 // Place `p` hands on its mark; false where the mark to hand on has no room in a word.
-fn pass(image: &[u32], o: Starts, t: &[u8; 125], p: u32, scratch: &mut [u32]) -> bool
+fn pass(image: &[u32], o: Starts, p: u32, scratch: &mut [u32]) -> bool
     ensures { let image = image.now in
         let done = Passed image p scratch.old scratch.new result in
-        (Placed image o → t.now ≡ effect_table → PooledAt image p → done) }
+        (Placed image o → PooledAt image p → done) }
 {
     let m = mark_of(scratch, marks_there(o), p as usize);
     if m == 0 {
         return true;
     }
-    let c = code_at(image, o, t, p);
+    let c = code_at(image, o, p);
     let n = after(c, m - 1) + 1;
     if 4294967295 < n {
         return false;
@@ -152,10 +148,9 @@ fn pass(image: &[u32], o: Starts, t: &[u8; 125], p: u32, scratch: &mut [u32]) ->
 }
 
 // The marks of the whole code.
-fn mark_all(image: &[u32], o: Starts, t: &[u8; 125], scratch: &mut [u32]) -> bool
+fn mark_all(image: &[u32], o: Starts, scratch: &mut [u32]) -> bool
     ensures { let image = image.now in
         (Placed image o
-        → t.now ≡ effect_table
         → TablesNamed image
         → RowsPooled image
         → marks.marks_there image ≤ length scratch.old
@@ -163,12 +158,8 @@ fn mark_all(image: &[u32], o: Starts, t: &[u8; 125], scratch: &mut [u32]) -> boo
 {
     zero(scratch);
     come(1, scratch, marks_there(o), 0);
-    let n = o.places;
-    let mut p: u32 = 0;
-    while p < n {
-        if pass(image, o, t, p, scratch) {
-            p += 1;
-        } else {
+    for p in 0..o.places {
+        if !pass(image, o, p, scratch) {
             return false;
         }
     }
@@ -181,44 +172,39 @@ fn leads(o: Starts, c: Code, scratch: &[u32], p: u32, m: u64) -> bool
 {
     let size = marks_there(o);
     let next = (p as usize) + 1;
-    if c.flow == 3 {
-        return (mark_of(scratch, size, (o.places as usize) + 1 + (c.a as usize)) as u64) == m;
+    match c.flow {
+        Flow::Table => (mark_of(scratch, size, (o.places as usize) + 1 + (c.a as usize)) as u64)
+            == m,
+        Flow::Branch => {
+            ((mark_of(scratch, size, next) as u64) == m)
+                & ((mark_of(scratch, size, c.a as usize) as u64) == m)
+        }
+        Flow::Jump => (mark_of(scratch, size, c.a as usize) as u64) == m,
+        Flow::On => (mark_of(scratch, size, next) as u64) == m,
     }
-    if c.flow == 2 {
-        return ((mark_of(scratch, size, next) as u64) == m)
-            & ((mark_of(scratch, size, c.a as usize) as u64) == m);
-    }
-    if c.flow == 1 {
-        return (mark_of(scratch, size, c.a as usize) as u64) == m;
-    }
-    (mark_of(scratch, size, next) as u64) == m
 }
 
 // Place `p` finds what it needs, and leads to its own mark.
-fn place_right(image: &[u32], o: Starts, t: &[u8; 125], scratch: &[u32], p: u32) -> bool
+fn place_right(image: &[u32], o: Starts, scratch: &[u32], p: u32) -> bool
     ensures { let image = image.now in
         let found = marks_of image scratch.now in
-        (Placed image o → t.now ≡ effect_table → result ≡ marks.place_by (marks.mark found p) image found p) }
+        (Placed image o → result ≡ marks.place_by (marks.mark found p) image found p) }
 {
     let m = mark_of(scratch, marks_there(o), p as usize);
     if m == 0 {
         return true;
     }
-    let c = code_at(image, o, t, p);
+    let c = code_at(image, o, p);
     let n = after(c, m - 1) + 1;
     (c.needs <= ((m - 1) as u64)) & leads(o, c, scratch, p, n)
 }
 
-fn places_right(image: &[u32], o: Starts, t: &[u8; 125], scratch: &[u32]) -> bool
+fn places_right(image: &[u32], o: Starts, scratch: &[u32]) -> bool
     ensures { let image = image.now in
-        (Placed image o → t.now ≡ effect_table → result ≡ places_right image (marks_of image scratch.now)) }
+        (Placed image o → result ≡ places_right image (marks_of image scratch.now)) }
 {
-    let n = o.places;
-    let mut p: u32 = 0;
-    while p < n {
-        if place_right(image, o, t, scratch, p) {
-            p += 1;
-        } else {
+    for p in 0..o.places {
+        if !place_right(image, o, scratch, p) {
             return false;
         }
     }
@@ -247,22 +233,12 @@ fn tables_right(image: &[u32], o: Starts, scratch: &[u32]) -> bool
         let found = marks_of image scratch.now in
         (Placed image o → RowsPooled image → Runs image scratch.now → result ≡ tables_right image found) }
 {
-    let n = o.tables;
-    let mut i: u32 = 0;
-    while i < n {
-        if table_right(image, o, scratch, i) {
-            i += 1;
-        } else {
+    for i in 0..o.tables {
+        if !table_right(image, o, scratch, i) {
             return false;
         }
     }
     true
-}
-
-fn larger(x: u32, y: u32) -> u32
-    ensures { result ≡ max x y }
-{
-    if x < y { y } else { x }
 }
 
 // The greatest of the marks 0 to `n`.
@@ -270,19 +246,16 @@ fn most(scratch: &[u32], size: usize, n: u32) -> u32
     ensures { result ≡ marks.most (take size scratch.now) n }
 {
     let mut x = mark_of(scratch, size, 0);
-    let mut i: u32 = 0;
-    while i < n {
-        i += 1;
-        x = larger(x, mark_of(scratch, size, i as usize));
+    for i in 0..n {
+        x = x.max(mark_of(scratch, size, (i as usize) + 1));
     }
     x
 }
 
 // The marks agree everywhere, one value remains, and the reported depth is the greatest.
-fn marks_right(image: &[u32], o: Starts, t: &[u8; 125], scratch: &[u32]) -> bool
+fn marks_right(image: &[u32], o: Starts, scratch: &[u32]) -> bool
     ensures { let image = image.now in
         (Placed image o
-        → t.now ≡ effect_table
         → RowsPooled image
         → Runs image scratch.now
         → result ≡ marks.marks_right image (marks_of image scratch.now)) }
@@ -290,7 +263,7 @@ fn marks_right(image: &[u32], o: Starts, t: &[u8; 125], scratch: &[u32]) -> bool
     let size = marks_there(o);
     let n = o.places;
     let d = (word_of(image, 11) as u64) + 1;
-    let places = places_right(image, o, t, scratch);
+    let places = places_right(image, o, scratch);
     let tables = tables_right(image, o, scratch);
     places
         & tables
@@ -306,10 +279,9 @@ pub fn depths_right(image: &[u32], scratch: &mut [u32]) -> bool
         (Checked image → length scratch.old ≡ length image → result ≡ marks.marks_right image marked) }
 {
     let o = starts_of(image);
-    let t = effects();
-    if mark_all(image, o, &t, scratch) {
+    if mark_all(image, o, scratch) {
         count_runs(image, o, scratch);
-        return marks_right(image, o, &t, scratch);
+        return marks_right(image, o, scratch);
     }
     false
 }

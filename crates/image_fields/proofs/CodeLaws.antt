@@ -9,17 +9,15 @@ use lib.Dec.{ltb, leb, eqb, leb-suc-suc}
 use lib.ListN.{get_or}
 use Rattle.sheet.specs.Sections.{local_count}
 use Rattle.lowering.specs.Limits.{max_args, max_elements, sizes_words, op_width}
-use Rattle.lowering.specs.Words.{word, code_at}
-use Rattle.image_rule.specs.Rules.{constants, names, tokens, residuals, chains, tables, receiver_rule, only, code_table, code_rules}
+use Rattle.lowering.specs.Words.{word, kind_at, a_at, b_at}
+use Rattle.image_read.specs.Placed.{c_at}
+use Rattle.image_fields.specs.Records.{instruction_right}
+use Rattle.image_rule.specs.Rules.{constants, names, tokens, residuals, chains, tables, receiver_rule, only, code_table}
 use Rattle.image_rule.specs.Rules.{Rule, free, unused, below, up_to, between, packed}
 use Rattle.image_rule.specs.Test.{fits, obeys}
 use Rattle.image_fields.specs.Fields.{any, bounds_by, code_bounds, ref_fits, rest_fits, code_fits}
 use Rattle.image_fields.proofs.FitLaws.{code-none}
 use Rattle.image_fields.proofs.ObeysLaws.{obeys-4, obeys-none}
-
--- instruction p obeys its rules
-abbrev pub instruction_right : List ℕ → List ℕ → ℕ → Bool
-instruction_right s w p = obeys (code_rules s w p) w (code_at + op_width * p)
 
 -- being below a bound is fitting a rule
 unused-is : (a : ℕ) → ltb a 1 ≡ eqb a 0
@@ -209,10 +207,8 @@ module _ (s w : List ℕ) (at a b c : ℕ) (small : a < any)
           let h = ltb-false 24 (suc j) e in
           kind_row (suc j) (omega arith) h e₀ (each_at (rows s w b) (suc j) (omega arith) (omega arith))
 
--- the answer for instruction p, over the words that were read
+-- the answer for instruction p, by the words that were read
 pub code-right : (s w : List ℕ) (p : ℕ) {bounds : List ℕ} {tokens' k a b c : ℕ} {r : Bool}
     → r ≡ code_fits bounds tokens' k a b c → bounds ≡ code_bounds s w → tokens' ≡ tokens w
-    → k ≡ word w (sizes_words + op_width * p) → a ≡ word w (sizes_words + op_width * p + 1) → b ≡ word w (sizes_words + op_width * p + 2)
-    → c ≡ word w (sizes_words + op_width * p + 3)
-    → a < any → r ≡ instruction_right s w p
+    → k ≡ kind_at w p → a ≡ a_at w p → b ≡ b_at w p → c ≡ c_at w p → a < any → r ≡ instruction_right s w p
 code-right s w p {k = k} {a} {b} {c} q m t e₀ e₁ e₂ e₃ small = cc (kind-any s w (sizes_words + op_width * p) a b c small e₁ e₂ e₃ k e₀)

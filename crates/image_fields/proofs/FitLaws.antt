@@ -1,11 +1,12 @@
 -- The tests of an instruction's words, and of all sections, in the code's shapes: one law for each way through the code.
 use Prim.Native.Nat.{ℕ, ◌+◌, ◌/◌, ◌%◌, ◌≤◌, ◌<◌}
-use mathlib.Core.Path.{◌≡◌, refl, ap}
+use mathlib.Core.Path.{◌≡◌, refl, ap, ◌∙◌}
 use mathlib.Core.Bool.{Bool, false, ◌&&◌}
 use mathlib.Core.List.{List}
 use lib.Dec.{leb, ltb, eqb}
 use lib.ListN.{get_or}
 use borrow.Author.Tests.{eq-eqb, ne_eqb, lt-ltb, le-ltb}
+use Rattle.words.specs.Count.{all_below}
 use Rattle.sheet.specs.Sections.{local_count}
 use Rattle.image_rule.specs.Rules.{constants, names, tables, chains, residuals}
 use Rattle.image_rule.specs.Test.{code_right, consts_right, names_right, tokens_right, residuals_right}
@@ -55,6 +56,10 @@ module _ (t : List ℕ) (tokens k b c : ℕ) where
   pub code-some : (a : ℕ) {r : Bool} → k ≤ 24 → r ≡ rest_fits t tokens k b c → (ltb a (get_or t k 0) && r) ≡ code_fits t tokens k a b c
   unfolding code_fits
   code-some a h e = rw (le-ltb 24 k h, code_fits) (ap (λ (x : Bool). ltb a (get_or t k 0) && x) e)
+
+-- a section of which each record was tested
+pub section : (f : ℕ → Bool) {n m : ℕ} {r : Bool} → r ≡ all_below n f → n ≡ m → r ≡ all_below m f
+section f e q = e ∙ ap (λ (k : ℕ). all_below k f) q
 
 -- all sections
 pub all-right : (s w : List ℕ) {code consts named tokened residual chained stepped tabled cased ranged : Bool}

@@ -11,42 +11,20 @@ use lib.ListN.{get_or}
 use Rattle.sheet.specs.Sections.{node_count, text_count, local_count}
 use Rattle.lowering.specs.Limits.{max_args, max_elements, const_width, name_width, chain_width, step_width, switch_width, case_width, range_width}
 use Rattle.lowering.specs.Words.{word, instructions, consts_at, chains_at, switches_at, cases_at, ranges_at, const_word, chain_word, switch_word}
+use Rattle.lowering.specs.Words.{case_word, range_word}
+use Rattle.image_read.specs.Placed.{name_word, token, residual}
+use Rattle.image_fields.specs.Records.{const_right, name_right, token_right, residual_right, chain_right, step_right, table_right}
+use Rattle.image_fields.specs.Records.{case_right, range_right}
 use Rattle.image_rule.specs.Rules.{Rule, free, unused, below, up_to, between, scalar, within}
 use Rattle.image_rule.specs.Rules.{constants, names, steps, cases, ranges, names_at, tokens_at, residuals_at, steps_at, step_word, rows_there}
-use Rattle.image_rule.specs.Rules.{const_table, const_rules, name_rules, token_rules, residual_rules, root_table, chain_rules, step_table}
-use Rattle.image_rule.specs.Rules.{step_rules}
-use Rattle.image_rule.specs.Rules.{table_rules, case_rules, range_rules}
+use Rattle.image_rule.specs.Rules.{const_table, root_table, step_table}
 use Rattle.image_rule.specs.Test.{fits, obeys}
 use Rattle.image_fields.specs.Fields.{const_fits, run_fits, root_fits, step_fits, rows_fit}
 use Rattle.image_fields.proofs.ObeysLaws.{obeys-1, obeys-2, obeys-3, obeys-4, obeys-6, obeys-none}
 
--- record i of each section obeys its rules
-abbrev pub const_right : List ℕ → List ℕ → ℕ → Bool
-const_right s w i = obeys (const_rules s w i) w (consts_at w + const_width * i)
-
-abbrev pub name_right : List ℕ → List ℕ → ℕ → Bool
-name_right s w i = obeys (name_rules s) w (names_at w + name_width * i)
-
-abbrev pub token_right : List ℕ → ℕ → Bool
-token_right w i = obeys token_rules w (tokens_at w + i)
-
-abbrev pub residual_right : List ℕ → List ℕ → ℕ → Bool
-residual_right s w i = obeys (residual_rules s) w (residuals_at w + i)
-
-abbrev pub chain_right : List ℕ → List ℕ → ℕ → Bool
-chain_right s w i = obeys (chain_rules s w i) w (chains_at w + chain_width * i)
-
-abbrev pub step_right : List ℕ → ℕ → Bool
-step_right w i = obeys (step_rules w i) w (steps_at w + step_width * i)
-
-abbrev pub table_right : List ℕ → ℕ → Bool
-table_right w i = obeys (table_rules w i) w (switches_at w + switch_width * i)
-
-abbrev pub case_right : List ℕ → ℕ → Bool
-case_right w i = obeys (case_rules w) w (cases_at w + case_width * i)
-
-abbrev pub range_right : List ℕ → ℕ → Bool
-range_right w i = obeys (range_rules w) w (ranges_at w + range_width * i)
+-- the first word of a record
+first-of : (w : List ℕ) (at : ℕ) {x : ℕ} → x ≡ word w (at + 0) → x ≡ word w at
+first-of w at e = e ∙ ap (word w) (add-zero at)
 
 -- constants, by their kind
 const-past : (texts k a b : ℕ) → 6 < k → const_fits texts k a b ≡ false
@@ -70,43 +48,41 @@ const-by s w at (suc (suc (suc (suc (suc (suc (suc k))))))) a b e₀ e₁ e₂ =
     const-past (text_count s) k7 a b (omega arith)
     ∙ obeys-none w at e₀ (between 3 6) [] (ap (λ (x : Bool). leb 3 k7 && x) (lt-leb k7 6 (omega arith)) ∙ and-false (leb 3 k7))
 
--- the answer for record i; so in each section below
-pub const-right : (s w : List ℕ) (i : ℕ) {first texts k a b : ℕ} {r : Bool} → r ≡ const_fits texts k a b
-    → texts ≡ text_count s → first ≡ consts_at w
-    → k ≡ word w (first + const_width * i) → a ≡ word w (first + const_width * i + 1) → b ≡ word w (first + const_width * i + 2)
-    → r ≡ const_right s w i
+-- the answer for record i, by the words that were read; so in each section below
+pub const-right : (s w : List ℕ) (i : ℕ) {texts k a b : ℕ} {r : Bool} → r ≡ const_fits texts k a b → texts ≡ text_count s
+    → k ≡ const_word w i 0 → a ≡ const_word w i 1 → b ≡ const_word w i 2 → r ≡ const_right s w i
 unfolding const_word
-const-right s w i {first} {texts} {k} {a} {b} q t f e₀ e₁ e₂ =
-    cc (const-by s w (first + const_width * i) k a b e₀ e₁ e₂, add-zero (consts_at w + const_width * i))
+const-right s w i {texts} {k} {a} {b} q t e₀ e₁ e₂ =
+    let at = consts_at w + const_width * i in
+    cc (const-by s w at k a b (first-of w at e₀) e₁ e₂)
 
-pub name-right : (s w : List ℕ) (i : ℕ) {first texts a b : ℕ} → texts ≡ text_count s → first ≡ names_at w
-    → a ≡ word w (first + name_width * i) → b ≡ word w (first + name_width * i + 1)
+pub name-right : (s w : List ℕ) (i : ℕ) {texts a b : ℕ} → texts ≡ text_count s → a ≡ name_word w i 0 → b ≡ name_word w i 1
     → (ltb a texts && leb b 1) ≡ name_right s w i
-unfolding fits
-name-right s w i {first} {texts} t f e₀ e₁ = cc (obeys-2 w (first + name_width * i) e₀ (below texts) (up_to 1) e₁)
+unfolding fits name_word
+name-right s w i {texts} t e₀ e₁ =
+    let at = names_at w + name_width * i in
+    cc (obeys-2 w at (first-of w at e₀) (below texts) (up_to 1) e₁)
 
-pub token-right : (w : List ℕ) (i : ℕ) {first a : ℕ} → first ≡ tokens_at w → a ≡ word w (first + i)
-    → (leb 1 a && leb a 65535) ≡ token_right w i
-unfolding fits
-token-right w i {first} f e₀ = cc (obeys-1 w (first + i) e₀ (between 1 65535))
+pub token-right : (w : List ℕ) (i : ℕ) {a : ℕ} → a ≡ token w i → (leb 1 a && leb a 65535) ≡ token_right w i
+unfolding fits token
+token-right w i e₀ = obeys-1 w (tokens_at w + i) e₀ (between 1 65535)
 
-pub residual-right : (s w : List ℕ) (i : ℕ) {first nodes a : ℕ} → nodes ≡ node_count s → first ≡ residuals_at w → a ≡ word w (first + i)
-    → ltb a nodes ≡ residual_right s w i
-unfolding fits
-residual-right s w i {first} {nodes} t f e₀ = cc (obeys-1 w (first + i) e₀ (below nodes))
+pub residual-right : (s w : List ℕ) (i : ℕ) {nodes a : ℕ} → nodes ≡ node_count s → a ≡ residual w i → ltb a nodes ≡ residual_right s w i
+unfolding fits residual
+residual-right s w i {nodes} t e₀ = cc (obeys-1 w (residuals_at w + i) e₀ (below nodes))
 
-pub case-right : (w : List ℕ) (i : ℕ) {first code consts a b : ℕ} → code ≡ instructions w → consts ≡ constants w → first ≡ cases_at w
-    → a ≡ word w (first + case_width * i) → b ≡ word w (first + case_width * i + 1)
-    → (leb a code && ltb b consts) ≡ case_right w i
-unfolding fits
-case-right w i {first} {code} {consts} p q f e₀ e₁ = cc (obeys-2 w (first + case_width * i) e₀ (up_to code) (below consts) e₁)
+pub case-right : (w : List ℕ) (i : ℕ) {code consts a b : ℕ} → code ≡ instructions w → consts ≡ constants w
+    → a ≡ case_word w i 0 → b ≡ case_word w i 1 → (leb a code && ltb b consts) ≡ case_right w i
+unfolding fits case_word
+case-right w i {code} {consts} p q e₀ e₁ =
+    let at = cases_at w + case_width * i in
+    cc (obeys-2 w at (first-of w at e₀) (up_to code) (below consts) e₁)
 
-pub range-right : (w : List ℕ) (i : ℕ) {first code a b : ℕ} → code ≡ instructions w → first ≡ ranges_at w
-    → a ≡ word w (first + range_width * i + 4) → b ≡ word w (first + range_width * i + 5)
+pub range-right : (w : List ℕ) (i : ℕ) {code a b : ℕ} → code ≡ instructions w → a ≡ range_word w i 4 → b ≡ range_word w i 5
     → (leb a 1 && leb b code) ≡ range_right w i
-unfolding fits
-range-right w i {first} {code} p f e₄ e₅ =
-    cc (obeys-6 w (first + range_width * i) refl free free free free (up_to 1) (up_to code) refl refl refl e₄ e₅)
+unfolding fits range_word
+range-right w i {code} p e₄ e₅ =
+    cc (obeys-6 w (ranges_at w + range_width * i) refl free free free free (up_to 1) (up_to code) refl refl refl e₄ e₅)
 
 -- chains, by their root
 root-past : (locals names k x y : ℕ) → 3 < k → root_fits locals names k x y ≡ false
@@ -140,16 +116,15 @@ module _ (s w : List ℕ) (at x y first count operands : ℕ)
       (root-past (local_count s) (names w) k4 x y (omega arith))
       ∙ obeys-none w at e₀ (up_to 3) (free ∷ within first (steps w) ∷ up_to max_elements ∷ []) (lt-leb k4 3 (omega arith))
 
-pub chain-right : (s w : List ℕ) (i : ℕ) {at₀ locals names' steps' k x y first count operands : ℕ} {root run : Bool}
-    → locals ≡ local_count s → names' ≡ names w → steps' ≡ steps w → at₀ ≡ chains_at w
-    → k ≡ word w (at₀ + chain_width * i) → x ≡ word w (at₀ + chain_width * i + 1) → y ≡ word w (at₀ + chain_width * i + 2)
-    → root ≡ root_fits locals names' k x y
-    → first ≡ word w (at₀ + chain_width * i + 3) → count ≡ word w (at₀ + chain_width * i + 4) → run ≡ run_fits first count steps'
-    → operands ≡ word w (at₀ + chain_width * i + 5)
+pub chain-right : (s w : List ℕ) (i : ℕ) {locals names' steps' k x y first count operands : ℕ} {root run : Bool}
+    → locals ≡ local_count s → names' ≡ names w → steps' ≡ steps w
+    → k ≡ chain_word w i 0 → x ≡ chain_word w i 1 → y ≡ chain_word w i 2 → root ≡ root_fits locals names' k x y
+    → first ≡ chain_word w i 3 → count ≡ chain_word w i 4 → run ≡ run_fits first count steps' → operands ≡ chain_word w i 5
     → (root && run && leb operands max_elements) ≡ chain_right s w i
 unfolding chain_word
-chain-right s w i {at₀} {k = k} {x} {y} {first} {count} {operands} l m n f e₀ e₁ e₂ r e₃ e₄ q e₅ =
-    cc (chain-by s w (at₀ + chain_width * i) x y first count operands e₁ e₂ e₃ e₄ e₅ k e₀, add-zero (chains_at w + chain_width * i))
+chain-right s w i {k = k} {x} {y} {first} {count} {operands} l m n e₀ e₁ e₂ r e₃ e₄ q e₅ =
+    let at = chains_at w + chain_width * i in
+    cc (chain-by s w at x y first count operands e₁ e₂ e₃ e₄ e₅ k (first-of w at e₀))
 
 -- steps, by their kind
 step_past : (names k a b c d e : ℕ) → 2 < k → step_fits names k a b c d e ≡ false
@@ -173,14 +148,13 @@ step-by w at (suc (suc (suc k))) a b c d e e₀ e₁ e₂ e₃ e₄ e₅ =
     let k3 = suc (suc (suc k)) in
     step_past (names w) k3 a b c d e (omega arith) ∙ obeys-none w at e₀ (up_to 2) [] (lt-leb k3 2 (omega arith))
 
-pub step-right : (w : List ℕ) (i : ℕ) {first names' k a b c d e : ℕ} {r : Bool} → r ≡ step_fits names' k a b c d e
-    → names' ≡ names w → first ≡ steps_at w
-    → k ≡ word w (first + step_width * i) → a ≡ word w (first + step_width * i + 1) → b ≡ word w (first + step_width * i + 2)
-    → c ≡ word w (first + step_width * i + 3) → d ≡ word w (first + step_width * i + 4) → e ≡ word w (first + step_width * i + 5)
+pub step-right : (w : List ℕ) (i : ℕ) {names' k a b c d e : ℕ} {r : Bool} → r ≡ step_fits names' k a b c d e → names' ≡ names w
+    → k ≡ step_word w i 0 → a ≡ step_word w i 1 → b ≡ step_word w i 2 → c ≡ step_word w i 3 → d ≡ step_word w i 4 → e ≡ step_word w i 5
     → r ≡ step_right w i
 unfolding step_word
-step-right w i {first} {k = k} {a} {b} {c} {d} {e} q m f e₀ e₁ e₂ e₃ e₄ e₅ =
-    cc (step-by w (first + step_width * i) k a b c d e e₀ e₁ e₂ e₃ e₄ e₅, add-zero (steps_at w + step_width * i))
+step-right w i {k = k} {a} {b} {c} {d} {e} q m e₀ e₁ e₂ e₃ e₄ e₅ =
+    let at = steps_at w + step_width * i in
+    cc (step-by w at k a b c d e (first-of w at e₀) e₁ e₂ e₃ e₄ e₅)
 
 -- tables, by their kind
 rows-past : (cases ranges k first rows : ℕ) → 1 < k → rows_fit cases ranges k first rows ≡ false
@@ -202,11 +176,12 @@ table-by w at (suc (suc k)) first rows default e₀ e₁ e₂ e₃ =
     ap (λ (t : Bool). t && leb default (instructions w)) (rows-past (cases w) (ranges w) k2 first rows (omega arith))
     ∙ obeys-none w at e₀ (up_to 1) (free ∷ within first (rows_there w k2) ∷ up_to (instructions w) ∷ []) (lt-leb k2 1 (omega arith))
 
-pub table-right : (w : List ℕ) (i : ℕ) {at₀ code cases' ranges' k first rows default : ℕ} {r : Bool}
-    → code ≡ instructions w → cases' ≡ cases w → ranges' ≡ ranges w → at₀ ≡ switches_at w
-    → k ≡ word w (at₀ + switch_width * i) → first ≡ word w (at₀ + switch_width * i + 1) → rows ≡ word w (at₀ + switch_width * i + 2)
-    → r ≡ rows_fit cases' ranges' k first rows → default ≡ word w (at₀ + switch_width * i + 3)
+pub table-right : (w : List ℕ) (i : ℕ) {code cases' ranges' k first rows default : ℕ} {r : Bool}
+    → code ≡ instructions w → cases' ≡ cases w → ranges' ≡ ranges w
+    → k ≡ switch_word w i 0 → first ≡ switch_word w i 1 → rows ≡ switch_word w i 2
+    → r ≡ rows_fit cases' ranges' k first rows → default ≡ switch_word w i 3
     → (r && leb default code) ≡ table_right w i
 unfolding switch_word
-table-right w i {at₀} {k = k} {first} {rows} {default} p c g f e₀ e₁ e₂ q e₃ =
-    cc (table-by w (at₀ + switch_width * i) k first rows default e₀ e₁ e₂ e₃, add-zero (switches_at w + switch_width * i))
+table-right w i {k = k} {first} {rows} {default} p c g e₀ e₁ e₂ q e₃ =
+    let at = switches_at w + switch_width * i in
+    cc (table-by w at k first rows default (first-of w at e₀) e₁ e₂ e₃)

@@ -3,18 +3,13 @@
 #![tactic(auto)]
 
 ghost use Rattle.std.specs.Prelude.{◌≡◌};
-ghost use Rattle.image_rule.specs.Test as tests;
+ghost use Rattle.sheet.specs.Sections.{text_count, local_count, node_count};
 ghost use Rattle.image_fields.specs.Fields as fields;
+ghost use Rattle.image_fields.specs.Records as records;
 
 use check_shape::scalar;
-use image_read::{
-    cases_at, chains_at, consts_at, names_at, ranges_at, residuals_at, size_of, steps_at,
-    switches_at, tokens_at, word_of,
-};
-use lowering::{
-    CASE_WIDTH, CHAIN_WIDTH, CONST_WIDTH, MAX_ARGS, MAX_ELEMENTS, NAME_WIDTH, OP_WIDTH,
-    RANGE_TARGET, RANGE_WIDTH, SIZES, STEP_WIDTH, SWITCH_WIDTH,
-};
+use image_read::Image;
+use lowering::{MAX_ARGS, MAX_ELEMENTS, RANGE_TARGET};
 use sheet::{local_count, node_count, text_count};
 
 // Greatest token.
@@ -31,18 +26,18 @@ const CALL_REF: u32 = 13;
 const CALL_FN_PTR: u32 = 17;
 
 // For the kinds 0 to 24: what a must be below. Kind 0 is none.
-fn code_bounds(sheet: &[u8], image: &[u32]) -> [u64; 25]
-    ensures { result ≡ fields.code_bounds sheet.now image.now }
+fn code_bounds(sheet: &[u8], image: &Image) -> [u64; 25]
+    ensures { result ≡ fields.code_bounds sheet.now image.now.words.now }
 {
-    let names = word_of(image, 2) as u64;
-    let args = (MAX_ARGS as u64) + 1;
-    let elements = (MAX_ELEMENTS as u64) + 1;
+    let names = u64::from(image.sizes.names);
+    let args = MAX_ARGS as u64 + 1;
+    let elements = MAX_ELEMENTS as u64 + 1;
     [
         0,
-        word_of(image, 1) as u64, // Const
+        u64::from(image.sizes.consts), // Const
         1, // Unit
         2, // Bool
-        local_count(sheet) as u64, // LoadLocal
+        u64::from(local_count(sheet)), // LoadLocal
         names, // LoadNamed
         1, // LoadThis
         1, // Pop
@@ -53,7 +48,7 @@ fn code_bounds(sheet: &[u8], image: &[u32]) -> [u64; 25]
         names, // Call
         names, // CallRef
         args, // Rotate
-        word_of(image, 7) as u64, // Switch
+        u64::from(image.sizes.tables), // Switch
         1, // MakeFnPtr
         args, // CallFnPtr
         1, // InterpolateStart
@@ -61,69 +56,9 @@ fn code_bounds(sheet: &[u8], image: &[u32]) -> [u64; 25]
         1, // InterpolateEnd
         elements, // MakeArray
         elements, // CheckSize
-        word_of(image, 5) as u64, // Chain
-        word_of(image, 4) as u64, // EvalAst
+        u64::from(image.sizes.chains), // Chain
+        u64::from(image.sizes.residuals), // EvalAst
     ]
-}
-
-// A CallRef has an argument, and its c is what LoadLocal, LoadNamed or LoadThis (kinds 4 to 6) may have as a.
-fn ref_fits(bounds: &[u64; 25], b: u32, c: u32) -> bool
-    ensures { result ≡ fields.ref_fits bounds.now b c }
-{
-    let receiver = b / 256;
-    if 2 < receiver {
-        return false;
-    }
-    let below = bounds[4 + (receiver as usize)];
-    (1 <= b % 256) & ((c as u64) < below)
-}
-
-// Words b and c of an instruction.
-fn rest_fits(bounds: &[u64; 25], tokens: u32, kind: u32, b: u32, c: u32) -> bool
-    ensures { result ≡ fields.rest_fits bounds.now tokens kind b c }
-{
-    if kind == CALL {
-        return (b / 256 < 2) & (c <= tokens);
-    }
-    if kind == CALL_REF {
-        return ref_fits(bounds, b, c);
-    }
-    if kind == CALL_FN_PTR {
-        return (b <= 1) & (c == 0);
-    }
-    (b == 0) & (c == 0)
-}
-
-fn code_fits(bounds: &[u64; 25], tokens: u32, kind: u32, a: u32, b: u32, c: u32) -> bool
-    ensures { result ≡ fields.code_fits bounds.now tokens kind a b c }
-{
-    if 24 < kind {
-        return false;
-    }
-    let below = bounds[kind as usize];
-    ((a as u64) < below) & rest_fits(bounds, tokens, kind, b, c)
-}
-
-fn code_right(sheet: &[u8], image: &[u32]) -> bool
-    ensures { result ≡ tests.code_right sheet.now image.now }
-{
-    let bounds = code_bounds(sheet, image);
-    let tokens = word_of(image, 3);
-    let n = size_of(image, 0);
-    let mut p: usize = 0;
-    while p < n {
-        let at = SIZES + OP_WIDTH * p;
-        let kind = word_of(image, at);
-        let a = word_of(image, at + 1);
-        let b = word_of(image, at + 2);
-        let c = word_of(image, at + 3);
-        if code_fits(&bounds, tokens, kind, a, b, c) {
-            p += 1;
-        } else {
-            return false;
-        }
-    }
-    true
 }
 
 // Int, Float: any 64 bits; Char; String.
@@ -133,82 +68,6 @@ fn const_fits(texts: u32, kind: u32, a: u32, b: u32) -> bool
     let char = (kind == 5) & scalar(a) & (b == 0);
     let string = (kind == 6) & (a < texts) & (b == 0);
     (kind == 3) | (kind == 4) | char | string
-}
-
-fn consts_right(sheet: &[u8], image: &[u32]) -> bool
-    ensures { result ≡ tests.consts_right sheet.now image.now }
-{
-    let texts = text_count(sheet);
-    let first = consts_at(image);
-    let n = size_of(image, 1);
-    let mut i: usize = 0;
-    while i < n {
-        let at = first + CONST_WIDTH * i;
-        let kind = word_of(image, at);
-        let a = word_of(image, at + 1);
-        let b = word_of(image, at + 2);
-        if const_fits(texts, kind, a, b) {
-            i += 1;
-        } else {
-            return false;
-        }
-    }
-    true
-}
-
-fn names_right(sheet: &[u8], image: &[u32]) -> bool
-    ensures { result ≡ tests.names_right sheet.now image.now }
-{
-    let texts = text_count(sheet);
-    let first = names_at(image);
-    let n = size_of(image, 2);
-    let mut i: usize = 0;
-    while i < n {
-        let at = first + NAME_WIDTH * i;
-        let text = word_of(image, at);
-        let mark = word_of(image, at + 1);
-        if (text < texts) & (mark <= 1) {
-            i += 1;
-        } else {
-            return false;
-        }
-    }
-    true
-}
-
-fn tokens_right(image: &[u32]) -> bool
-    ensures { result ≡ tests.tokens_right image.now }
-{
-    let first = tokens_at(image);
-    let n = size_of(image, 3);
-    let mut i: usize = 0;
-    while i < n {
-        let token = word_of(image, first + i);
-        if (1 <= token) & (token <= MAX_TOKEN) {
-            i += 1;
-        } else {
-            return false;
-        }
-    }
-    true
-}
-
-fn residuals_right(sheet: &[u8], image: &[u32]) -> bool
-    ensures { result ≡ tests.residuals_right sheet.now image.now }
-{
-    let nodes = node_count(sheet);
-    let first = residuals_at(image);
-    let n = size_of(image, 4);
-    let mut i: usize = 0;
-    while i < n {
-        let node = word_of(image, first + i);
-        if node < nodes {
-            i += 1;
-        } else {
-            return false;
-        }
-    }
-    true
 }
 
 // A run of `count` from `first` on lies among `n`.
@@ -229,31 +88,6 @@ fn root_fits(locals: u32, names: u32, root: u32, x: u32, y: u32) -> bool
     local | named | this | temporary
 }
 
-fn chains_right(sheet: &[u8], image: &[u32]) -> bool
-    ensures { result ≡ tests.chains_right sheet.now image.now }
-{
-    let locals = local_count(sheet);
-    let names = word_of(image, 2);
-    let steps = word_of(image, 6);
-    let first = chains_at(image);
-    let n = size_of(image, 5);
-    let mut i: usize = 0;
-    while i < n {
-        let at = first + CHAIN_WIDTH * i;
-        let root = word_of(image, at);
-        let x = word_of(image, at + 1);
-        let y = word_of(image, at + 2);
-        let run = run_fits(word_of(image, at + 3), word_of(image, at + 4), steps);
-        let operands = word_of(image, at + 5);
-        if root_fits(locals, names, root, x, y) & run & (operands <= MAX_ELEMENTS) {
-            i += 1;
-        } else {
-            return false;
-        }
-    }
-    true
-}
-
 // Index: operand, flags, two positions, 0; property: three names, flags, position; method: name, argc, operand, flags, position.
 fn step_fits(names: u32, kind: u32, a: u32, b: u32, c: u32, d: u32, e: u32) -> bool
     ensures { result ≡ fields.step_fits names kind a b c d e }
@@ -264,30 +98,6 @@ fn step_fits(names: u32, kind: u32, a: u32, b: u32, c: u32, d: u32, e: u32) -> b
     index | property | method
 }
 
-fn steps_right(image: &[u32]) -> bool
-    ensures { result ≡ tests.steps_right image.now }
-{
-    let names = word_of(image, 2);
-    let first = steps_at(image);
-    let n = size_of(image, 6);
-    let mut i: usize = 0;
-    while i < n {
-        let at = first + STEP_WIDTH * i;
-        let kind = word_of(image, at);
-        let a = word_of(image, at + 1);
-        let b = word_of(image, at + 2);
-        let c = word_of(image, at + 3);
-        let d = word_of(image, at + 4);
-        let e = word_of(image, at + 5);
-        if step_fits(names, kind, a, b, c, d, e) {
-            i += 1;
-        } else {
-            return false;
-        }
-    }
-    true
-}
-
 // A table's rows are a run of the cases (kind 0) or of the ranges (kind 1).
 fn rows_fit(cases: u32, ranges: u32, kind: u32, first: u32, rows: u32) -> bool
     ensures { result ≡ fields.rows_fit cases ranges kind first rows }
@@ -295,83 +105,195 @@ fn rows_fit(cases: u32, ranges: u32, kind: u32, first: u32, rows: u32) -> bool
     ((kind == 0) & run_fits(first, rows, cases)) | ((kind == 1) & run_fits(first, rows, ranges))
 }
 
-fn switches_right(image: &[u32]) -> bool
-    ensures { result ≡ tests.switches_right image.now }
-{
-    let code = word_of(image, 0);
-    let cases = word_of(image, 8);
-    let ranges = word_of(image, 9);
-    let first = switches_at(image);
-    let n = size_of(image, 7);
-    let mut i: usize = 0;
-    while i < n {
-        let at = first + SWITCH_WIDTH * i;
-        let kind = word_of(image, at);
-        let from = word_of(image, at + 1);
-        let rows = word_of(image, at + 2);
-        let default = word_of(image, at + 3);
-        if rows_fit(cases, ranges, kind, from, rows) & (default <= code) {
-            i += 1;
-        } else {
-            return false;
-        }
-    }
-    true
+// An image beside its sheet, with what is asked of the sheet and the bounds of a by kind, read once.
+#[derive(Drop)]
+struct Pair<'a> {
+    sheet: &'a [u8],
+    image: Image<'a>,
+    texts: u32,
+    locals: u32,
+    nodes: u32,
+    bounds: [u64; 25],
+    ghost texted: { texts ≡ text_count sheet.now },
+    ghost local: { locals ≡ local_count sheet.now },
+    ghost noded: { nodes ≡ node_count sheet.now },
+    ghost bounded: { bounds ≡ fields.code_bounds sheet.now image.words.now },
 }
 
-fn cases_right(image: &[u32]) -> bool
-    ensures { result ≡ tests.cases_right image.now }
-{
-    let code = word_of(image, 0);
-    let consts = word_of(image, 1);
-    let first = cases_at(image);
-    let n = size_of(image, 8);
-    let mut i: usize = 0;
-    while i < n {
-        let at = first + CASE_WIDTH * i;
-        let target = word_of(image, at);
-        let value = word_of(image, at + 1);
-        if (target <= code) & (value < consts) {
-            i += 1;
-        } else {
-            return false;
+impl<'a> Pair<'a> {
+    fn of(sheet: &'a [u8], image: &'a [u32]) -> Pair<'a>
+        ensures sheet { result.sheet.now ≡ sheet.now }
+        ensures image { result.image.words.now ≡ image.now }
+    {
+        let image = Image::of(image);
+        let bounds = code_bounds(sheet, &image);
+        let texts = text_count(sheet);
+        let locals = local_count(sheet);
+        let nodes = node_count(sheet);
+        Pair {
+            sheet,
+            image,
+            texts,
+            locals,
+            nodes,
+            bounds,
         }
     }
-    true
-}
 
-fn ranges_right(image: &[u32]) -> bool
-    ensures { result ≡ tests.ranges_right image.now }
-{
-    let code = word_of(image, 0);
-    let first = ranges_at(image);
-    let n = size_of(image, 9);
-    let mut i: usize = 0;
-    while i < n {
-        let at = first + RANGE_WIDTH * i;
-        let inclusive = word_of(image, at + 4);
-        let target = word_of(image, at + RANGE_TARGET);
-        if (inclusive <= 1) & (target <= code) {
-            i += 1;
-        } else {
+    // A CallRef has an argument, and its c is what LoadLocal, LoadNamed or LoadThis (kinds 4 to 6) may have as a.
+    fn ref_fits(&self, b: u32, c: u32) -> bool
+        ensures { result ≡ fields.ref_fits self.now.bounds b c }
+    {
+        let receiver = b / 256;
+        if 2 < receiver {
             return false;
         }
+        let below = self.bounds[4 + (receiver as usize)];
+        (1 <= b % 256) & (u64::from(c) < below)
     }
-    true
+
+    // Words b and c of an instruction.
+    fn rest_fits(&self, kind: u32, b: u32, c: u32) -> bool
+        ensures { result ≡ fields.rest_fits self.now.bounds self.now.image.sizes.tokens kind b c }
+    {
+        if kind == CALL {
+            return (b / 256 < 2) & (c <= self.image.sizes.tokens);
+        }
+        if kind == CALL_REF {
+            return self.ref_fits(b, c);
+        }
+        if kind == CALL_FN_PTR {
+            return (b <= 1) & (c == 0);
+        }
+        (b == 0) & (c == 0)
+    }
+
+    fn code_fits(&self, kind: u32, a: u32, b: u32, c: u32) -> bool
+        ensures { result ≡ fields.code_fits self.now.bounds self.now.image.sizes.tokens kind a b c }
+    {
+        if 24 < kind {
+            return false;
+        }
+        let below = self.bounds[kind as usize];
+        (u64::from(a) < below) & self.rest_fits(kind, b, c)
+    }
+
+    // Whether record `i` of a section obeys its rules: one test for each section.
+    fn instruction_right(&self, p: u32) -> bool
+        ensures { result ≡ records.instruction_right self.now.sheet.now self.now.image.words.now p }
+    {
+        let image = &self.image;
+        self.code_fits(
+            image.kind_at(p),
+            image.a_at(p),
+            image.b_at(p),
+            image.c_at(p),
+        )
+    }
+
+    fn const_right(&self, i: u32) -> bool
+        ensures { result ≡ records.const_right self.now.sheet.now self.now.image.words.now i }
+    {
+        let image = &self.image;
+        const_fits(
+            self.texts,
+            image.const_word(i, 0),
+            image.const_word(i, 1),
+            image.const_word(i, 2),
+        )
+    }
+
+    fn name_right(&self, i: u32) -> bool
+        ensures { result ≡ records.name_right self.now.sheet.now self.now.image.words.now i }
+    {
+        (self.image.name_word(i, 0) < self.texts) & (self.image.name_word(i, 1) <= 1)
+    }
+
+    fn token_right(&self, i: u32) -> bool
+        ensures { result ≡ records.token_right self.now.image.words.now i }
+    {
+        let token = self.image.token(i);
+        (1 <= token) & (token <= MAX_TOKEN)
+    }
+
+    fn residual_right(&self, i: u32) -> bool
+        ensures { result ≡ records.residual_right self.now.sheet.now self.now.image.words.now i }
+    {
+        self.image.residual(i) < self.nodes
+    }
+
+    fn chain_right(&self, i: u32) -> bool
+        ensures { result ≡ records.chain_right self.now.sheet.now self.now.image.words.now i }
+    {
+        let image = &self.image;
+        let kind = image.chain_word(i, 0);
+        let x = image.chain_word(i, 1);
+        let y = image.chain_word(i, 2);
+        let root = root_fits(self.locals, image.sizes.names, kind, x, y);
+        let run = run_fits(
+            image.chain_word(i, 3),
+            image.chain_word(i, 4),
+            image.sizes.steps,
+        );
+        root & run & (image.chain_word(i, 5) <= MAX_ELEMENTS)
+    }
+
+    fn step_right(&self, i: u32) -> bool
+        ensures { result ≡ records.step_right self.now.image.words.now i }
+    {
+        let image = &self.image;
+        step_fits(
+            image.sizes.names,
+            image.step_word(i, 0),
+            image.step_word(i, 1),
+            image.step_word(i, 2),
+            image.step_word(i, 3),
+            image.step_word(i, 4),
+            image.step_word(i, 5),
+        )
+    }
+
+    fn table_right(&self, i: u32) -> bool
+        ensures { result ≡ records.table_right self.now.image.words.now i }
+    {
+        let image = &self.image;
+        let kind = image.table_word(i, 0);
+        let from = image.table_word(i, 1);
+        let rows = image.table_word(i, 2);
+        let run = rows_fit(image.sizes.cases, image.sizes.ranges, kind, from, rows);
+        run & (image.table_word(i, 3) <= image.sizes.places)
+    }
+
+    fn case_right(&self, i: u32) -> bool
+        ensures { result ≡ records.case_right self.now.image.words.now i }
+    {
+        let image = &self.image;
+        (image.case_word(i, 0) <= image.sizes.places) & (image.case_word(i, 1) < image.sizes.consts)
+    }
+
+    fn range_right(&self, i: u32) -> bool
+        ensures { result ≡ records.range_right self.now.image.words.now i }
+    {
+        let image = &self.image;
+        (image.range_word(i, 4) <= 1)
+            & (image.range_word(i, RANGE_TARGET as u32) <= image.sizes.places)
+    }
 }
 
 // Every word of every record is right, but for what steps ask of their chain's operands.
 pub fn fields_right(sheet: &[u8], image: &[u32]) -> bool
     ensures { result ≡ fields.fields_right sheet.now image.now }
 {
-    code_right(sheet, image)
-        & consts_right(sheet, image)
-        & names_right(sheet, image)
-        & tokens_right(image)
-        & residuals_right(sheet, image)
-        & chains_right(sheet, image)
-        & steps_right(image)
-        & switches_right(image)
-        & cases_right(image)
-        & ranges_right(image)
+    let pair = Pair::of(sheet, image);
+    let sizes = pair.image.sizes;
+    (0..sizes.places).all(|p| pair.instruction_right(p))
+        & (0..sizes.consts).all(|i| pair.const_right(i))
+        & (0..sizes.names).all(|i| pair.name_right(i))
+        & (0..sizes.tokens).all(|i| pair.token_right(i))
+        & (0..sizes.residuals).all(|i| pair.residual_right(i))
+        & (0..sizes.chains).all(|i| pair.chain_right(i))
+        & (0..sizes.steps).all(|i| pair.step_right(i))
+        & (0..sizes.tables).all(|i| pair.table_right(i))
+        & (0..sizes.cases).all(|i| pair.case_right(i))
+        & (0..sizes.ranges).all(|i| pair.range_right(i))
 }

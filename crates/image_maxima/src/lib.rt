@@ -1,14 +1,8 @@
 // Ranges of numbers asked for their maximum, each in as many steps as a tree over the numbers is high.
 #![tactic(auto)]
 
-ghost use Rattle.std.specs.Prelude.{◌≡◌, ◌*◌, ◌≤◌, max, length};
+ghost use Rattle.std.specs.Prelude.{◌≡◌, ◌*◌, ◌≤◌, length};
 ghost use Rattle.image_maxima.specs.Tree.{Tree, Built, leaves_up_to};
-
-fn greater(a: u32, b: u32) -> u32
-    ensures { result ≡ max a b }
-{
-    if a < b { b } else { a }
-}
 
 // The tree over the leaves that stand in words `size` to 2 `size` - 1, which are kept.
 pub fn build(t: &mut [u32], size: usize)
@@ -17,10 +11,8 @@ pub fn build(t: &mut [u32], size: usize)
     if t.len() / 2 < size {
         return;
     }
-    let mut k = size;
-    while 1 < k {
-        k -= 1;
-        t[k] = greater(t[2 * k], t[2 * k + 1]);
+    for k in (1..size).rev() {
+        t[k] = t[2 * k].max(t[2 * k + 1]);
     }
 }
 
@@ -37,6 +29,7 @@ pub fn all_at_most(t: &[u32], size: usize, a: usize, b: usize, x: u32) -> bool
     if b <= a {
         return true;
     }
+    // Kept: the loop counts no index. Both ends are halved together, level by level, so there is no range or item to go over.
     let mut l = a + size;
     let mut r = b + size;
     while l < r {

@@ -5,7 +5,6 @@ use mathlib.Core.Bool.{Bool, true, false}
 use mathlib.Core.List.{List}
 use native.Mathlib.Omega.{arith}
 use lib.Dec.{eqb}
-use borrow.Author.Tests.{eq-eqb, ne_eqb}
 use Rattle.lowering.specs.Limits.{case_width, range_width, range_target}
 use Rattle.lowering.specs.Words.{word, cases_at, ranges_at, case_word, range_word, switch_word}
 use Rattle.lowering.specs.Run.{row_target}
@@ -33,20 +32,3 @@ row-target w i r = by (eqb (switch_word w i 0) 0) refl
     by : (b : Bool) → eqb (switch_word w i 0) 0 ≡ b → row_target w i r ≡ target_of w (switch_word w i 0) (switch_word w i 1 + r)
     by true e = rw (e, row_target) (sym (target-case w (switch_word w i 0) j e))
     by false e = rw (e, row_target) (sym (target-range w (switch_word w i 0) j e))
-
--- in the code's shapes
-pub at-cases : (w : List ℕ) (kind r : ℕ) → kind ≡ 0 → r ≡ cases_at w → r ≡ targets_at w kind
-unfolding targets_at
-at-cases w kind r z e = rw (eq-eqb kind 0 z, targets_at) e
-
-pub at-ranges : (w : List ℕ) (kind r : ℕ) → (kind ≡ 0 → ⊥) → r ≡ ranges_at w → r + 5 ≡ targets_at w kind
-unfolding targets_at
-at-ranges w kind r z e = rw (ne_eqb kind 0 z, targets_at) (ap (λ (n : ℕ). n + 5) e)
-
-pub apart-cases : (kind : ℕ) → kind ≡ 0 → 2 ≡ apart kind
-unfolding apart
-apart-cases kind z = rw (eq-eqb kind 0 z, apart) refl
-
-pub apart-ranges : (kind : ℕ) → (kind ≡ 0 → ⊥) → 6 ≡ apart kind
-unfolding apart
-apart-ranges kind z = rw (ne_eqb kind 0 z, apart) refl

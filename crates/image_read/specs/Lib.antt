@@ -1,2 +1,4 @@
 pub mod Most
 pub mod Targets
+pub mod Pools
+pub mod Placed

@@ -175,6 +175,7 @@ pub fn come_rows(image: &[u32], o: Starts, m: u32, scratch: &mut [u32], i: u32)
 {
     let first = first_row(image, o, i);
     let rows = table_word(image, o, i, 2);
+    // Kept: the loop counts no index. Each step passes over as many rows as were seen, so no range has its places.
     let mut r: u32 = 0;
     while r < rows {
         r += come_row(image, o, m, scratch, first + (r as usize), rows - r);
@@ -195,13 +196,11 @@ fn run_on(run: u32, before: u32, m: u32) -> u32
     ensures same { m ≡ before → result ≡ min (run + 1) 4294967295 }
     ensures other { (m ≡ before → ⊥) → result ≡ 1 }
 {
-    if m != before {
-        return 1;
+    if m == before {
+        run.saturating_add(1)
+    } else {
+        1
     }
-    if run < 4294967295 {
-        return run + 1;
-    }
-    run
 }
 
 // The word of each row becomes the length of the run of rows with one mark that ends there.
@@ -212,14 +211,12 @@ pub fn count_runs(image: &[u32], o: Starts, scratch: &mut [u32])
     let total = (o.cases as usize) + (o.ranges as usize);
     let mut before: u32 = 0;
     let mut run: u32 = 0;
-    let mut q: usize = 0;
-    while q < total {
+    for q in 0..total {
         let t = row_target(image, o, q);
         let m = mark_of(scratch, size, t as usize);
         run = run_on(run, before, m);
         put(scratch, size + q, run);
         before = m;
-        q += 1;
     }
 }
 

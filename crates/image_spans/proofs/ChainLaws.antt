@@ -9,8 +9,8 @@ use lib.Dec.{leb, ltb}
 use lib.ListN.{get_or}
 use Rattle.words.specs.Count.{all_below}
 use Rattle.words.proofs.CountLaws.{all_same}
-use Rattle.lowering.specs.Limits.{chain_width, step_width}
-use Rattle.lowering.specs.Words.{word, chains_at, chain_word}
+use Rattle.lowering.specs.Limits.{step_width}
+use Rattle.lowering.specs.Words.{chain_word}
 use Rattle.image_rule.specs.Rules.{chains, steps, steps_at, step_word, operand_table}
 use Rattle.image_rule.specs.Test.{fits, obeys, operands_by}
 use Rattle.image_maxima.specs.Tree.{leaf, Tree, leaves_up_to}
@@ -53,21 +53,19 @@ pub run-leaves : (t : List ℕ) (size a n x : ℕ) → leaves_up_to t size a (a 
 unfolding leaves_up_to
 run-leaves t size a n x = let e : a + n - a ≡ n = omega arith in rw e refl
 
--- chain i's answer by the tree, its words read from `at` on
+-- chain i's answer by the tree, from the words that were read
 pub chain_fits :
-    {w t : List ℕ} (size i at a n x : ℕ) (r : Bool)
+    {w t : List ℕ} (size i a n x : ℕ) (r : Bool)
     → size ≡ steps w
-    → at ≡ chains_at w + chain_width * i
-    → a ≡ word w (at + 3)
-    → n ≡ word w (at + 4)
-    → x ≡ word w (at + 5)
+    → a ≡ chain_word w i 3
+    → n ≡ chain_word w i 4
+    → x ≡ chain_word w i 5
     → (Tree t size → a + n ≤ size → r ≡ all_below n (λ k. leb (leaf t size (a + k)) x))
-    → i < chains w
     → NeedTree w t
+    → i < chains w
     → r ≡ operands_by w i
-unfolding chain_word
-chain_fits {w} {t} size i at a n x r es e ha hn hx says h T =
-    rw (es, ha, hn, hx, e) at says T.tree (T.lie.runs i h)
+chain_fits {w} {t} size i a n x r es ha hn hx says T h =
+    rw (es, ha, hn, hx) at says T.tree (T.lie.runs i h)
     ∙ all_same (λ k. leb (leaf t (steps w) (first + k)) most) (λ k. obeys_by w (first + k) most (step_word w (first + k) 0)) count same
   where
     first : ℕ

@@ -4,14 +4,12 @@ use mathlib.Core.Path.{◌≡◌, refl, sym, ap, ◌∙◌, subst}
 use mathlib.Core.Bool.{Bool, true, false}
 use mathlib.Core.List.{List}
 use native.Mathlib.Omega.{arith}
-use native.Mathlib.Nat.{add-zero}
 use borrow.Author.Tests.{eqb-true, eqb-false, eq-eqb, ne_eqb}
 use lib.Dec.{eqb}
 use lib.ListN.{length, get_or, set}
 use lib.Seq.{get_or-set_same, get_or-set_other}
-use Rattle.lowering.specs.Limits.{step_width}
-use Rattle.lowering.specs.Words.{word, switches_at, cases_at, ranges_at}
-use Rattle.image_rule.specs.Rules.{steps, steps_at, step_word, end_at}
+use Rattle.lowering.specs.Words.{switches_at, cases_at, ranges_at}
+use Rattle.image_rule.specs.Rules.{steps, step_word, end_at}
 use Rattle.image_maxima.specs.Tree.{leaf, Built}
 use Rattle.image_spans.specs.Premises.{Sized, ChainsLie}
 use Rattle.image_spans.specs.Needs.{cut, need_of, step_need, NeedsIn, NeedTree}
@@ -29,18 +27,17 @@ pub need-none : (kind a b c : ℕ) → (kind ≡ 0 → ⊥) → (kind ≡ 2 → 
 unfolding need_of
 need-none kind a b c z m = rw (ne_eqb kind 0 z, ne_eqb kind 2 m, need_of) refl
 
--- the need of step j by words read from `at` on
+-- the need of step j by the words that were read
 pub step-need :
-    (w : List ℕ) (j at r a b c d : ℕ)
-    → at ≡ steps_at w + step_width * j
+    (w : List ℕ) (j r a b c d : ℕ)
     → r ≡ need_of a b c d
-    → a ≡ word w at
-    → b ≡ word w (at + 1)
-    → c ≡ word w (at + 2)
-    → d ≡ word w (at + 3)
+    → a ≡ step_word w j 0
+    → b ≡ step_word w j 1
+    → c ≡ step_word w j 2
+    → d ≡ step_word w j 3
     → r ≡ step_need w j
-unfolding step_need step_word
-step-need w j at r a b c d e q ha hb hc hd = rw (q, ha, hb, hc, hd, e, add-zero) refl
+unfolding step_need
+step-need w j r a b c d e ha hb hc hd = e ∙ rw (ha, hb, hc, hd) refl
 
 -- no step is put
 pub needs-none : (w l : List ℕ) → NeedsIn w l 0

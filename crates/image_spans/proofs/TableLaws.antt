@@ -1,20 +1,20 @@
 -- A table's targets are all above p just where the least is; the tree tells it of the rows.
-use Prim.Native.Nat.{ℕ, zero, suc, ◌+◌, ◌*◌, ◌-◌, ◌≤◌, ◌<◌, min}
+use Prim.Native.Nat.{ℕ, zero, suc, ◌+◌, ◌-◌, ◌≤◌, ◌<◌, min}
 use mathlib.Core.Path.{◌≡◌, refl, sym, ap, ap₂, ◌∙◌}
 use mathlib.Core.Bool.{Bool, true, false, ◌&&◌, and-true, and_assoc}
 use mathlib.Core.List.{List}
 use native.Mathlib.Omega.{arith}
-use native.Mathlib.Nat.{add-zero}
 use borrow.Author.Tests.{ltb-true, ltb-false, lt-ltb, le-ltb, le-leb, lt-leb, eq-eqb, ne_eqb, eqb-true, eqb-false}
 use lib.Dec.{eqb, ltb, leb}
 use Rattle.words.specs.Count.{all_below}
 use Rattle.words.proofs.CountLaws.{all_none, all-suc, all_same}
-use Rattle.lowering.specs.Limits.{switch_width}
-use Rattle.lowering.specs.Words.{word, switches_at, switch_word}
+use Rattle.lowering.specs.Words.{switch_word}
 use Rattle.lowering.specs.Run.{row_target}
 use Rattle.image_rule.specs.Rules.{cases, ranges, tables, rows_there}
 use Rattle.image_rule.specs.Test.{least, least_target}
 use Rattle.image_read.specs.Targets.{target_of}
+use Rattle.image_read.specs.Pools.{kind_of, rows_of}
+use Rattle.image_read.specs.declared.Rows.{Rows}
 use Rattle.image_read.proofs.TargetLaws.{target-range, row-target}
 use Rattle.image_maxima.specs.Tree.{leaf, Tree, leaves_up_to}
 use Rattle.image_spans.specs.Leaves.{turned, row_count, rows_before, TargetTree}
@@ -47,11 +47,11 @@ below-least f d (suc k) p =
     ∙ ap (λ (b : Bool). ltb p d && b) (sym (all-suc (λ r. ltb p (f r)) k))
 
 -- cases come first among the leaves, ranges behind them
-pub before-first : (kind n : ℕ) → kind ≡ 0 → 0 ≡ rows_before kind n
+before-first : (kind n : ℕ) → kind ≡ 0 → 0 ≡ rows_before kind n
 unfolding rows_before
 before-first kind n z = rw (eq-eqb kind 0 z, rows_before) refl
 
-pub before-second : (kind n : ℕ) → (kind ≡ 0 → ⊥) → n ≡ rows_before kind n
+before-second : (kind n : ℕ) → (kind ≡ 0 → ⊥) → n ≡ rows_before kind n
 unfolding rows_before
 before-second kind n z = rw (ne_eqb kind 0 z, rows_before) refl
 
@@ -91,41 +91,47 @@ module _ {w t : List ℕ} (T : TargetTree w t) (i : ℕ) (h : i < tables w) wher
           ∙ sym (target-range w (switch_word w i 0) (switch_word w i 1 + r) e)
           ∙ sym (row-target w i r))
 
--- the answer of table i, its words read from `at` on, `a` leaves before those of its kind
+-- the leaves before the rows of a table, by its pool
+before_pool : (kind n : ℕ) → rows_before (kind_of (rows_of kind)) n ≡ rows_before kind n
+unfolding rows_before kind_of rows_of
+before_pool kind n = by (eqb kind 0) refl
+  where
+    by : (b : Bool) → eqb kind 0 ≡ b → rows_before (kind_of (rows_of kind)) n ≡ rows_before kind n
+    by true e = rw (e, rows_of, rows_before) refl
+    by false e = rw (e, rows_of, rows_before) refl
+
+-- the answer of table i, from the words that were read, `a` leaves before those of its pool
 pub table-aims :
-    {w t : List ℕ} (p i at n m kind a b k d : ℕ) (r : Bool)
-    → at ≡ switches_at w + switch_width * i
+    {w t : List ℕ} (p i n m kind a b k d : ℕ) {pool : Rows} (r : Bool)
     → n ≡ cases w
     → m ≡ ranges w
-    → kind ≡ word w at
-    → a ≡ rows_before kind n
-    → b ≡ word w (at + 1)
-    → k ≡ word w (at + 2)
-    → d ≡ word w (at + 3)
+    → kind ≡ switch_word w i 0
+    → pool ≡ rows_of kind
+    → a ≡ rows_before (kind_of pool) n
+    → b ≡ switch_word w i 1
+    → k ≡ switch_word w i 2
+    → d ≡ switch_word w i 3
     → (Tree t (n + m) → a + b + k ≤ n + m → r ≡ leaves_up_to t (n + m) (a + b) (a + b + k) (4294967294 - p))
     → TargetTree w t
     → p < 4294967295
     → i < tables w
     → (ltb p d && r) ≡ ltb p (least_target w i)
-unfolding switch_word least_target
-table-aims {w} {t} p i at n m kind a b k d r eat en em ekind ea eb ek ed says T small h =
-    ap₂ ◌&&◌ (ap (ltb p) default) rows ∙ sym (below-least (row_target w i) (switch_word w i 3) (switch_word w i 2) p)
+unfolding least_target
+table-aims {w} {t} p i n m kind a b k d {pool} r en em ekind epool ea eb ek ed says T small h =
+    ap₂ ◌&&◌ (ap (ltb p) ed) rows ∙ sym (below-least (row_target w i) (switch_word w i 3) (switch_word w i 2) p)
   where
-    default : d ≡ switch_word w i 3
-    default = ed ∙ rw eat refl
+    before : a ≡ rows_before (switch_word w i 0) (cases w)
+    before = ea ∙ rw (epool, en) (before_pool kind (cases w) ∙ ap (λ (x : ℕ). rows_before x (cases w)) ekind)
 
     first : a + b ≡ first_leaf w i
-    first = rw (ea, ekind, eb, eat, en, add-zero) refl
-
-    count : k ≡ switch_word w i 2
-    count = ek ∙ rw eat refl
+    first = rw (before, eb) refl
 
     size : n + m ≡ row_count w
     size = omega arith
 
     rows : r ≡ all_below (switch_word w i 2) (λ j. ltb p (row_target w i j))
     rows =
-        rw (size, first, count) at says T.tree (rows_inside T i h)
+        rw (size, first, ek) at says T.tree (rows_inside T i h)
         ∙ run-leaves t (row_count w) (first_leaf w i) (switch_word w i 2) (4294967294 - p)
         ∙ all_same (λ j. leb (leaf t (row_count w) (first_leaf w i + j)) (4294967294 - p)) (λ j. ltb p (row_target w i j)) (switch_word w i 2)
         (λ j q. ap (λ (x : ℕ). leb x (4294967294 - p)) (row-leaf T i h j q) ∙ turned-above p (row_target w i j) small)

@@ -7,9 +7,8 @@ use native.Mathlib.Omega.{arith}
 use lib.Dec.{eqb}
 use borrow.Author.Tests.{eqb-true}
 use Rattle.sheet.specs.Node.{kind}
-use Rattle.checks.specs.Checked.{verdict_number, checked}
-use Rattle.checks.specs.declared.Verdict.{Verdict}
-use Rattle.checks.specs.declared.Verdict.TheVariants.{Accepted, Refused}
+use Rattle.checks.specs.Checked.{Verdict, verdict_number, checked}
+use Rattle.std.specs.Prelude.{Ok, Err}
 use Rattle.lowering.specs.Limits.{max_levels}
 use Rattle.lowering.specs.Kinds.{switch_kind}
 use Rattle.lowering.specs.Expression.{expression}
@@ -29,8 +28,8 @@ pub not_image : (s : List ℕ) (image_length scratch_length : ℕ) (v : Verdict)
     → outcome_after s image_length scratch_length v ≡ image w
     → verdict_number v ≡ 0
 unfolding outcome_after
-not_image s image_length scratch_length Accepted w e = refl
-not_image s image_length scratch_length (Refused r) w e = let z : ◌≡◌ {A = ℕ} 0 1 = cc in absurd (omega arith)
+not_image s image_length scratch_length (Ok x) w e = refl
+not_image s image_length scratch_length (Err r) w e = let z : ◌≡◌ {A = ℕ} 0 1 = cc in absurd (omega arith)
 
 module _ (s : List ℕ) (a : verdict_number (checked s) ≡ 0) where
   pub lower-typed : WellTyped (lower s)

@@ -10,9 +10,8 @@ use Rattle.sheet.specs.Node.{kind}
 use Rattle.switch_split.specs.Split as Split
 use Rattle.bytecode.specs.declared.SwitchCase.{SwitchCase}
 use Rattle.bytecode.specs.declared.SwitchRange.{SwitchRange}
-use Rattle.checks.specs.Checked.{checked}
-use Rattle.checks.specs.declared.Verdict.{Verdict}
-use Rattle.checks.specs.declared.Verdict.TheVariants.{Accepted, Refused}
+use Rattle.checks.specs.Checked.{Verdict, checked}
+use Rattle.std.specs.Prelude.{Ok, Err}
 use Rattle.lowering.specs.Kinds.{switch_kind}
 use Rattle.lowering.specs.Limits.{max_levels, max_emitted}
 use Rattle.lowering.specs.Pools.{Pools, no_pools, emits}
@@ -107,8 +106,8 @@ lowered-carries s image_length scratch_length r =
 
 after-carries : (s : List ℕ) (image_length scratch_length : ℕ) (v : Verdict) → Carries (lower s) (outcome_after s image_length scratch_length v)
 unfolding outcome_after
-after-carries s image_length scratch_length Accepted = lowered-carries s image_length scratch_length (lower s)
-after-carries s image_length scratch_length (Refused r) = tt
+after-carries s image_length scratch_length (Ok x) = lowered-carries s image_length scratch_length (lower s)
+after-carries s image_length scratch_length (Err r) = tt
 
 pub image_is : (s : List ℕ) (image_length scratch_length : ℕ) (w : List ℕ) → outcome s image_length scratch_length ≡ image w
     → words (lower s) ≡ w

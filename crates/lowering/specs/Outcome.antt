@@ -1,10 +1,8 @@
 -- The outcome for a sheet and the lengths of the image and of the scratch, in words: the refusal that fits first, or the image's words.
-use Rattle.std.specs.Prelude.{ℕ, ◌+◌, ◌*◌, true, false, List, ltb, eqb, length}
+use Rattle.std.specs.Prelude.{ℕ, ◌+◌, ◌*◌, true, false, List, ltb, eqb, length, Ok, Err}
 use Rattle.sheet.specs.Sections.{node_count}
 use Rattle.sheet.specs.Node.{kind}
-use Rattle.checks.specs.Checked.{checked}
-use Rattle.checks.specs.declared.Verdict.{Verdict}
-use Rattle.checks.specs.declared.Verdict.TheVariants.{Accepted, Refused}
+use Rattle.checks.specs.Checked.{Verdict, checked}
 use Rattle.refusals.specs.declared.Refusal.{Refusal}
 use Rattle.refusals.specs.declared.Refusal.TheVariants.{Eval, Emitted, ScratchShort, ImageLong}
 use Rattle.lowering.specs.Limits.{max_levels, max_emitted, scratch_per_emitted, scratch_per_node, scratch_besides}
@@ -53,8 +51,8 @@ lowered s image_length scratch_length r =
 
 -- a sheet that the check of 1 to 8 accepts is lowered
 unfoldable pub outcome_after : List ℕ → ℕ → ℕ → Verdict → Outcome
-outcome_after s image_length scratch_length Accepted = lowered s image_length scratch_length (lower s)
-outcome_after s image_length scratch_length (Refused r) = refused r
+outcome_after s image_length scratch_length (Ok x) = lowered s image_length scratch_length (lower s)
+outcome_after s image_length scratch_length (Err r) = refused r
 
 unfoldable pub outcome : List ℕ → ℕ → ℕ → Outcome
 outcome s image_length scratch_length = outcome_after s image_length scratch_length (checked s)

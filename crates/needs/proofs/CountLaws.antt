@@ -9,9 +9,8 @@ use borrow.Author.Tests.{lt-ltb, le-ltb, ltb-true, ltb-false, eq-eqb, ne_eqb}
 use Rattle.refusals.specs.declared.Refusal.{Refusal}
 use Rattle.refusals.specs.declared.Refusal.TheVariants.{Eval, Emitted, ScratchShort}
 use Rattle.refusals.proofs.RefusalLaws.{number-some}
-use Rattle.checks.specs.Checked.{verdict_number}
-use Rattle.checks.specs.declared.Verdict.{Verdict}
-use Rattle.checks.specs.declared.Verdict.TheVariants.{Accepted, Refused}
+use Rattle.checks.specs.Checked.{verdict_number, Verdict}
+use Rattle.std.specs.Prelude.{Ok, Err}
 use Rattle.sheet.specs.Limits.{max_depth}
 use Rattle.sheet.specs.Node.{kind}
 use Rattle.expr_count.specs.declared.tallies.Tally.{Tally}
@@ -27,9 +26,9 @@ use Rattle.needs.specs.Counts.{Counts, over, early}
 
 -- the refusal is k: an `eval` is reached, too many instructions, or none of these
 pub data Over (d : Bool) (e : ℕ) : Verdict → Type 0 where
-  reached : d ≡ true → Over d e (Refused Eval)
-  above : d ≡ false → max_emitted < e → Over d e (Refused Emitted)
-  within : d ≡ false → e ≤ max_emitted → Over d e Accepted
+  reached : d ≡ true → Over d e (Err Eval)
+  above : d ≡ false → max_emitted < e → Over d e (Err Emitted)
+  within : d ≡ false → e ≤ max_emitted → Over d e (Ok tt)
 
 module _ {d : Bool} {e : ℕ} where
   pub over-is : {k : Verdict} → Over d e k → k ≡ over d e
@@ -44,7 +43,7 @@ module _ {d : Bool} {e : ℕ} where
   over-capped (above h g) = above h (omega arith)
   over-capped (within h g) = within h (omega arith)
 
-  pub over-few : {k : Verdict} → Over d e k → k ≡ Accepted → e ≤ max_emitted
+  pub over-few : {k : Verdict} → Over d e k → k ≡ Ok tt → e ≤ max_emitted
   over-few (reached h) z = let n = ap verdict_number z in absurd (omega arith)
   over-few (above h g) z = let n = ap verdict_number z in absurd (omega arith)
   over-few (within h g) z = g
@@ -64,11 +63,11 @@ over-told d e k k-is = by d refl (ltb max_emitted e) refl
 
 -- the refusal is k: an `eval` is reached, too many instructions, too little scratch, or none of these
 pub data Early (d : Bool) (e m n : ℕ) : Verdict → Type 0 where
-  eval : d ≡ true → Early d e m n (Refused Eval)
-  many : d ≡ false → max_emitted < e → Early d e m n (Refused Emitted)
+  eval : d ≡ true → Early d e m n (Err Eval)
+  many : d ≡ false → max_emitted < e → Early d e m n (Err Emitted)
   short : d ≡ false → e ≤ max_emitted → m < scratch_per_emitted * e + scratch_per_node * n + scratch_besides
-      → Early d e m n (Refused ScratchShort)
-  none : d ≡ false → e ≤ max_emitted → scratch_per_emitted * e + scratch_per_node * n + scratch_besides ≤ m → Early d e m n Accepted
+      → Early d e m n (Err ScratchShort)
+  none : d ≡ false → e ≤ max_emitted → scratch_per_emitted * e + scratch_per_node * n + scratch_besides ≤ m → Early d e m n (Ok tt)
 
 module _ {d : Bool} {e m n : ℕ} where
   pub early-is : {k : Verdict} → Early d e m n k → k ≡ early d e m n
@@ -85,7 +84,7 @@ module _ {d : Bool} {e m n : ℕ} where
   early-capped (short h g l) = short h (omega arith) (omega arith)
   early-capped (none h g l) = none h (omega arith) (omega arith)
 
-  pub few-emitted : {k : Verdict} → Early d e m n k → k ≡ Accepted → e ≤ max_emitted
+  pub few-emitted : {k : Verdict} → Early d e m n k → k ≡ Ok tt → e ≤ max_emitted
   few-emitted (eval h) z = let n = ap verdict_number z in absurd (omega arith)
   few-emitted (many h g) z = let n = ap verdict_number z in absurd (omega arith)
   few-emitted (short h g l) z = g
@@ -109,18 +108,18 @@ early-told d e m n k k-is = by d refl (ltb max_emitted e) refl (ltb m (scratch_p
 -- ---- in the shapes of the code: k by the counts, w words of scratch
 
 module _ {d : Bool} {e : ℕ} (m n : ℕ) where
-  pub early-over : {k : Verdict} {r : Refusal} → Over d e k → k ≡ Refused r → Refused r ≡ early d e m n
+  pub early-over : {k : Verdict} {r : Refusal} → Over d e k → k ≡ Err r → Err r ≡ early d e m n
   early-over (reached h) q = sym q ∙ early-is (eval h)
   early-over (above h g) q = sym q ∙ early-is (many h g)
   early-over {r = r} (within h g) q = let n = ap verdict_number q in absurd (omega (arith, number-some r))
 
   module _ {w : ℕ} (w-is : w ≡ scratch_per_emitted * e + scratch_per_node * n + scratch_besides) where
-    pub early-short : {k : Verdict} → Over d e k → k ≡ Accepted → m < w → Refused ScratchShort ≡ early d e m n
+    pub early-short : {k : Verdict} → Over d e k → k ≡ Ok tt → m < w → Err ScratchShort ≡ early d e m n
     early-short (reached h) z l = let n = ap verdict_number z in absurd (omega arith)
     early-short (above h g) z l = let n = ap verdict_number z in absurd (omega arith)
     early-short (within h g) z l = early-is (short h g (omega arith))
 
-    pub early-none : {k : Verdict} → Over d e k → k ≡ Accepted → w ≤ m → Accepted ≡ early d e m n
+    pub early-none : {k : Verdict} → Over d e k → k ≡ Ok tt → w ≤ m → Ok tt ≡ early d e m n
     early-none (reached h) z l = let n = ap verdict_number z in absurd (omega arith)
     early-none (above h g) z l = let n = ap verdict_number z in absurd (omega arith)
     early-none (within h g) z l = early-is (none h g (omega arith))

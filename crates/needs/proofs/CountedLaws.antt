@@ -1,10 +1,8 @@
 -- What the counts of a Switch tell, by its own locals and by others.
 use Prim.Native.Nat.{ℕ}
 use mathlib.Core.Path.{◌≡◌, refl, subst}
-use mathlib.Core.Bool.{Bool, true}
+use mathlib.Core.Bool.{Bool}
 use mathlib.Core.List.{List, [], ◌∷◌}
-use lib.Dec.{eqb}
-use Rattle.checks.specs.Checked.{verdict_number}
 use Rattle.sheet.specs.Limits.{max_depth}
 use Rattle.sheet.specs.Sections.{node_count}
 use Rattle.sheet.specs.Node.{kind}
@@ -42,13 +40,12 @@ module _ (s w : List ℕ) (r : Tally) where
     exact-switch m h = exact-decides s m (switch-counted s r h exact-total)
 
 -- with no Variable a local, and with all of them
-pub greater-switch : (s w v : List ℕ) (m : ℕ) (t u : Tally) {k : Bool} {nodes : ℕ} → kind s 0 ≡ switch_kind
+pub greater-switch : (s w v : List ℕ) (m : ℕ) (t u : Tally) {nodes : ℕ} → kind s 0 ≡ switch_kind
     → Counted s (tally_by (answer (0 ∷ []) s) max_depth s) w u → Counted s (tally_by (answer (1 ∷ []) s) max_depth s) v t
     → nodes ≡ node_count s
-    → k ≡ eqb (verdict_number (early t.defeated t.emitted m nodes)) (verdict_number (early u.defeated u.emitted m nodes))
-    → k ≡ true
+    → early t.defeated t.emitted m nodes ≡ early u.defeated u.emitted m nodes
     → Decides s m u
-greater-switch s w v m t u h high low n-is k-is same =
+greater-switch s w v m t u h high low n-is same =
     let between = switch-between s h in
     greater-decides s m _ _ t u between.0 between.1 (by-locals s v t (all-locals s) low).total
-    (by-locals s w u (no-locals s) high).total n-is k-is same
+    (by-locals s w u (no-locals s) high).total n-is same

@@ -5,9 +5,8 @@ use mathlib.Core.Bool.{Bool, true, false}
 use mathlib.Core.List.{List}
 use native.Mathlib.Omega.{arith}
 use lib.Dec.{eqb}
-use borrow.Author.Tests.{ne_eqb, eqb-true}
-use Rattle.checks.specs.Checked.{verdict_number}
-use Rattle.checks.specs.declared.Verdict.{Verdict}
+use borrow.Author.Tests.{ne_eqb}
+use Rattle.checks.specs.Checked.{verdict_number, Verdict}
 use Rattle.sheet.specs.Limits.{max_depth}
 use Rattle.sheet.specs.Sections.{node_count}
 use Rattle.sheet.specs.Node.{kind}
@@ -60,13 +59,12 @@ module _ (s : List ℕ) (m : ℕ) where
   }
 
   -- the greater of two between which they lie, where both are refused alike
-  pub greater-decides : (a b t u : Tally) {k : Bool} {nodes : ℕ} → Less a (total s) → Less (total s) b → taken_back t ≡ capped (taken_back a)
+  pub greater-decides : (a b t u : Tally) {nodes : ℕ} → Less a (total s) → Less (total s) b → taken_back t ≡ capped (taken_back a)
       → taken_back u ≡ capped (taken_back b) → nodes ≡ node_count s
-      → k ≡ eqb (verdict_number (early t.defeated t.emitted m nodes)) (verdict_number (early u.defeated u.emitted m nodes))
-      → k ≡ true
+      → early t.defeated t.emitted m nodes ≡ early u.defeated u.emitted m nodes
       → Decides s m u
   unfolding capped taken_back
-  greater-decides a b t u {nodes = nodes} low high t-is u-is n-is k-is same =
+  greater-decides a b t u {nodes = nodes} low high t-is u-is n-is same =
       let d = (total s).defeated in
       let e = (total s).emitted in
       let n = node_count s in
@@ -80,14 +78,10 @@ module _ (s : List ℕ) (m : ℕ) where
       ap (λ (v : Tally). early v.defeated v.emitted m n) u-is ∙ ap (λ c. early c y m n) (sym high.defeated) in
       let g = low.emitted in
       let h = high.emitted in
-      let x-is = early t.defeated t.emitted m nodes in
-      let y-is = early u.defeated u.emitted m nodes in
-      let equal = eqb-true (verdict_number x-is) (verdict_number y-is) (sym k-is ∙ same) in
-      let alike =
-      ap verdict_number (sym down) ∙ equal ∙ ap verdict_number (ap (early u.defeated u.emitted m) n-is ∙ up) in
+      let alike = sym down ∙ same ∙ ap (early u.defeated u.emitted m) n-is ∙ up in
       let way =
       early-between {e = x} {f = min e cap} {g = y} (omega arith) (omega arith) (early-told d x m n _ refl) (early-told d y m n _ refl)
-      alike in
+      (ap verdict_number alike) in
       record {
         refusal_is = up ∙ early-is way ∙ sym (early-cut d e m n);
         enough = let f = ap (λ (v : Tally). v.emitted) u-is in omega arith;

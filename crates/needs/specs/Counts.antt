@@ -1,15 +1,14 @@
 -- The counts of a sheet, cut off as the code has them, and the refusals by counts. The need of a sheet does not speak of these.
-use Rattle.std.specs.Prelude.{ℕ, ◌+◌, ◌*◌, ◌≤◌, min, ◌≡◌, Bool, true, false, List, ltb}
+use Rattle.std.specs.Prelude.{ℕ, ◌+◌, ◌*◌, ◌≤◌, min, ◌≡◌, Bool, true, false, List, ltb, Ok, Err}
 use Rattle.sheet.specs.Sections.{node_count}
 use Rattle.lowering.specs.Limits.{max_emitted, scratch_per_emitted, scratch_per_node, scratch_besides}
 use Rattle.refusals.specs.declared.Refusal.TheVariants.{Eval, Emitted, ScratchShort}
-use Rattle.checks.specs.declared.Verdict.{Verdict}
-use Rattle.checks.specs.declared.Verdict.TheVariants.{Accepted, Refused}
 use Rattle.expr_count.specs.declared.tallies.Tally.{Tally}
 use Rattle.expr_count.specs.Limits.{cap}
 use Rattle.expr_count.specs.Tally.{taken_back, capped}
 use Rattle.switch_count.specs.Total.{total, switch_total}
 use Rattle.switch_tables.specs.Planned.{Tables, Placed}
+use Rattle.checks.specs.Checked.{Verdict}
 
 -- t has what the sheet emits, and whether it reaches an `eval`
 pub record Counts (s : List ℕ) (t : Tally) : Type 0 where
@@ -17,19 +16,19 @@ pub record Counts (s : List ℕ) (t : Tally) : Type 0 where
 
 -- the refusal whatever is lent: d that an `eval` is reached, e instructions
 unfoldable pub over : Bool → ℕ → Verdict
-over d e = elim d [ true ↦ Refused Eval | false ↦ elim (ltb max_emitted e) [ true ↦ Refused Emitted | false ↦ Accepted ] ]
+over d e = elim d [ true ↦ Err Eval | false ↦ elim (ltb max_emitted e) [ true ↦ Err Emitted | false ↦ Ok tt ] ]
 
 -- the refusal by counts: m words of scratch, n nodes besides
 unfoldable pub early : Bool → ℕ → ℕ → ℕ → Verdict
 early d e m n =
     elim d [
-      | true ↦ Refused Eval
+      | true ↦ Err Eval
       | false ↦
           elim (ltb max_emitted e) [
-            | true ↦ Refused Emitted
+            | true ↦ Err Emitted
             | false ↦ elim (ltb m (scratch_per_emitted * e + scratch_per_node * n + scratch_besides)) [
-              | true ↦ Refused ScratchShort
-              | false ↦ Accepted
+              | true ↦ Err ScratchShort
+              | false ↦ Ok tt
             ]
           ]
     ]

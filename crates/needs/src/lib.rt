@@ -1,7 +1,7 @@
 // What a sheet needs before buffers are lent: its counts, the refusals by counts, and the words of scratch that its lowering asks for.
 #![tactic(auto)]
 
-ghost use Rattle.std.specs.Prelude.{◌+◌, ◌*◌, ◌≤◌, ◌≡◌, eqb, length};
+ghost use Rattle.std.specs.Prelude.{◌+◌, ◌*◌, ◌≤◌, ◌≡◌, ◌↔◌, IsTrue, length};
 ghost use Rattle.checks.specs.Checked as Checked;
 ghost use Rattle.sheet.specs.Limits.{max_depth};
 ghost use Rattle.sheet.specs.Sections.{local_count};
@@ -15,7 +15,7 @@ ghost use Rattle.switch_places.specs.Counted.{Counted};
 ghost use Rattle.needs.specs.Counts.{Counts, Decides, Exact, over, early};
 ghost use Rattle.needs.specs.Needed.{needed};
 
-use checks::{Verdict, check, number};
+use checks::check;
 use expr_count::tallies::Tally;
 use expr_count::{exact, greatest, least};
 use lowering::MAX_EMITTED;
@@ -26,14 +26,6 @@ use sheet::{kind, local_count, node_count};
 use switch_places::{count, read};
 use switch_tables::SIZE;
 
-// What a sheet needs: so many words of scratch; or it is refused, whatever is lent.
-#[derive(Clone, Copy)]
-pub enum Need {
-    Scratch { words: u64 },
-    Refused { by: Refusal },
-}
-
-// The kind of a Switch.
 // Words of scratch for each emitted instruction, for each node, and besides, as lowering/specs/Limits has them.
 pub const PER_EMITTED: u64 = 16;
 
@@ -52,40 +44,34 @@ fn scratch_words(emitted: u32, nodes: u32) -> u64
 }
 
 // Refusal 9 or 10 by counts alone.
-fn over_limits(t: Tally) -> Verdict
+fn over_limits(t: Tally) -> Result<(), Refusal>
     ensures { result ≡ over t.defeated t.emitted }
 {
     if t.defeated {
-        return Verdict::Refused(Refusal::Eval);
+        return Err(Refusal::Eval);
     }
     if MAX_EMITTED < t.emitted {
-        return Verdict::Refused(Refusal::Emitted);
+        return Err(Refusal::Emitted);
     }
-    Verdict::Accepted
+    Ok(())
 }
 
 // Refusal 9, 10 or 11 by counts alone.
-pub fn refusal(t: Tally, scratch: usize, nodes: u32) -> Verdict
+pub fn refusal(t: Tally, scratch: usize, nodes: u32) -> Result<(), Refusal>
     ensures { result ≡ early t.defeated t.emitted scratch nodes }
 {
-    let k = over_limits(t);
-    match k {
-        Verdict::Refused(by) => Verdict::Refused(by),
-        Verdict::Accepted => {
-            if (scratch as u64) < scratch_words(t.emitted as u32, nodes) {
-                return Verdict::Refused(Refusal::ScratchShort);
-            }
-            Verdict::Accepted
-        }
+    over_limits(t)?;
+    if (scratch as u64) < scratch_words(t.emitted as u32, nodes) {
+        return Err(Refusal::ScratchShort);
     }
+    Ok(())
 }
 
 // Both counts are refused alike, or neither is refused.
 fn alike(a: Tally, b: Tally, scratch: usize, nodes: u32) -> bool
-    ensures { result ≡ eqb (Checked.verdict_number (early a.defeated a.emitted scratch nodes))
-        (Checked.verdict_number (early b.defeated b.emitted scratch nodes)) }
+    ensures { IsTrue result ↔ (early a.defeated a.emitted scratch nodes ≡ early b.defeated b.emitted scratch nodes) }
 {
-    number(refusal(a, scratch, nodes)) == number(refusal(b, scratch, nodes))
+    refusal(a, scratch, nodes) == refusal(b, scratch, nodes)
 }
 
 // The counts of an accepted expression.
@@ -127,29 +113,21 @@ fn counts(sheet: &[u8]) -> Tally
     count_plain(sheet)
 }
 
-// What an accepted sheet needs.
-fn need_of(sheet: &[u8]) -> Need
+// The words of scratch that an accepted sheet needs, or why it is refused.
+fn need_of(sheet: &[u8]) -> Result<u64, Refusal>
     ensures { let sheet = sheet.now in (Checked.verdict_number (Checked.checked sheet) ≡ 0 → result ≡ needed sheet) }
 {
     let t = counts(sheet);
-    let k = over_limits(t);
-    match k {
-        Verdict::Refused(by) => Need::Refused { by },
-        Verdict::Accepted => Need::Scratch {
-            words: scratch_words(t.emitted as u32, node_count(sheet)),
-        },
-    }
+    over_limits(t)?;
+    Ok(scratch_words(t.emitted as u32, node_count(sheet)))
 }
 
-// What a sheet needs. Whatever the sheet is, the answer is the definition's.
-pub fn needs(sheet: &[u8]) -> Need
+// The words of scratch that a sheet needs; or it is refused, whatever is lent. Whatever the sheet is, the answer is the definition's.
+pub fn needs(sheet: &[u8]) -> Result<u64, Refusal>
     ensures { result ≡ needed sheet.now }
 {
-    let v = check(sheet);
-    match v {
-        Verdict::Refused(by) => Need::Refused { by },
-        Verdict::Accepted => need_of(sheet),
-    }
+    check(sheet)?;
+    need_of(sheet)
 }
 
 // The counts by which an expression is refused or built. Beside many locals no name is looked up, where all of them or none as receivers

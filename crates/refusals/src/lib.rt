@@ -2,51 +2,52 @@
 #![tactic(auto)]
 
 ghost use Rattle.std.specs.Prelude.{◌≡◌};
-ghost use Rattle.refusals.specs.Refusal.{refusal_number};
+ghost use Rattle.refusals.specs.Refusal.{refusal_number, number_of};
+
+use std::error::Error;
+use std::fmt;
 
 // The cause: in the sheet (Size to Unsupported), of its lowering (Eval, Emitted), in a lent buffer (ScratchShort,
-// ImageLong), in a lent image (IllMade).
-#[derive(Clone, Copy)]
+// ImageLong), in a lent image (IllMade). Each has the number of its refusal; 0 is no refusal.
+#[derive(Clone, Copy, Debug, PartialEq, Eq)]
 pub enum Refusal {
-    Size,
-    Shape,
-    Text,
-    Number,
-    Depth,
-    Arms,
-    Twice,
-    Unsupported,
-    Eval,
-    Emitted,
-    ScratchShort,
-    ImageLong,
-    IllMade,
+    Size = 1,
+    Shape = 2,
+    Text = 3,
+    Number = 4,
+    Depth = 5,
+    Arms = 6,
+    Twice = 7,
+    Unsupported = 8,
+    Eval = 9,
+    Emitted = 10,
+    ScratchShort = 11,
+    ImageLong = 12,
+    IllMade = 13,
 }
 
-// Numbers that programs name.
-pub const SCRATCH_SHORT: u32 = 11;
+impl From<Refusal> for u32 {
+    ghost from_gives = { λ r n. n ≡ refusal_number r };
 
-pub const IMAGE_LONG: u32 = 12;
+    fn from(r: Refusal) -> u32 {
+        r as u32
+    }
+}
 
-pub const ILL_MADE: u32 = 13;
+impl fmt::Display for Refusal {
+    fn fmt<W: fmt::Write>(&self, f: &mut fmt::Formatter<W>) -> fmt::Result {
+        write!(f, "refused {}", u32::from(*self))
+    }
+}
 
-// The number of a refusal.
-pub fn refusal_number(r: Refusal) -> u32
-    ensures { result ≡ refusal_number r }
+impl Error for Refusal {}
+
+// The number of an answer: 0, or that of its refusal.
+pub fn number<T>(answer: &Result<T, Refusal>) -> u32
+    ensures { result ≡ number_of answer.now }
 {
-    match r {
-        Refusal::Size => 1,
-        Refusal::Shape => 2,
-        Refusal::Text => 3,
-        Refusal::Number => 4,
-        Refusal::Depth => 5,
-        Refusal::Arms => 6,
-        Refusal::Twice => 7,
-        Refusal::Unsupported => 8,
-        Refusal::Eval => 9,
-        Refusal::Emitted => 10,
-        Refusal::ScratchShort => SCRATCH_SHORT,
-        Refusal::ImageLong => IMAGE_LONG,
-        Refusal::IllMade => ILL_MADE,
+    match answer {
+        Ok(_) => 0,
+        Err(r) => u32::from(*r),
     }
 }

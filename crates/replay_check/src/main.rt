@@ -11,7 +11,7 @@ use std::io::Read;
 // The answer for the first `len` bytes of `buf` is `expected`.
 fn agrees(buf: &[u8], len: usize, expected: u32) -> bool {
     if len <= buf.len() {
-        return checks::number(checks::check(&buf[..len])) == expected;
+        return refusals::number(&checks::check(&buf[..len])) == expected;
     }
     false
 }

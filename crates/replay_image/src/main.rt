@@ -6,7 +6,7 @@
 ghost use Rattle.std.specs.Prelude.{◌≤◌, length, ◌≡◌, IfOk};
 
 use image_check::check_image;
-use refusals::ILL_MADE;
+use refusals::Refusal;
 use replay_records::{fill, left_as, print_result, put_noise};
 use std::io;
 use std::io::Read;
@@ -30,8 +30,11 @@ fn put_words(image: &mut [u32], bytes: &[u8]) {
 // The check of `image` beside `sheet` answers and leaves what it must.
 fn checks_as(sheet: &[u8], image: &[u32], scratch: &mut [u32], number: u32) -> bool {
     put_noise(scratch);
-    let answer = checks::number(check_image(sheet, image, scratch)) == number;
-    let rest = left_as(&scratch[..], (number == 0) | (number == ILL_MADE));
+    let answer = refusals::number(&check_image(sheet, image, scratch)) == number;
+    let rest = left_as(
+        &scratch[..],
+        (number == 0) | (number == u32::from(Refusal::IllMade)),
+    );
     answer & rest
 }
 

@@ -4,41 +4,35 @@
 // records were the same, and how many were not.
 #![tactic(auto)]
 
-ghost use Rattle.std.specs.Prelude.{◌≤◌, ◌<◌, length, get_or, eqb, ◌≡◌, IfOk};
+ghost use Rattle.std.specs.Prelude.{length, get_or, eqb, ◌≡◌};
 ghost use Rattle.words.specs.Count.{all_below};
 ghost use Rattle.replay_lower.specs.Left as left;
 
-use needs::{Need, needs};
-use refusals::{IMAGE_LONG, SCRATCH_SHORT, refusal_number};
-use replay_records::{fill, left_as, noise, print_result, put_noise};
+use needs::needs;
+use refusals::{Refusal, number};
+use replay_records::{agreeing, fill, left_as, noise, print_result, put_noise, word};
 use std::io;
 use std::io::Read;
-use to_image::{Answer, lower};
-
-// Room for the image or the scratch of a record.
-fn room() -> [u32; 20480]
-    ensures { 20480 ≡ length result }
-{
-    [0; 20480]
-}
+use to_image::lower;
 
 // The answer has this number and this word count.
-fn answered(a: Answer, number: u32, count: usize) -> bool
-    ensures { result ≡ left.answered a number count }
+fn answered(a: Result<usize, Refusal>, expected: u32, count: usize) -> bool
+    ensures { result ≡ left.answered a expected count }
 {
-    (to_image::number(a) == number) & (to_image::words(a) == count)
+    (number(&a) == expected) & (a.unwrap_or(0) == count)
 }
 
 // With `room` words of scratch the need of the sheet foretells this number.
-fn foretold(n: Need, room: usize, number: u32) -> bool
-    ensures { result ≡ left.foretold n room number }
+fn foretold(need: Result<u64, Refusal>, room: usize, expected: u32) -> bool
+    ensures { result ≡ left.foretold need room expected }
 {
-    match n {
-        Need::Scratch { words } => {
-            (((room as u64) < words) & (number == SCRATCH_SHORT))
-                | ((words <= (room as u64)) & ((number == 0) | (number == IMAGE_LONG)))
+    match need {
+        Ok(words) => {
+            (((room as u64) < words) & (expected == u32::from(Refusal::ScratchShort)))
+                | ((words <= (room as u64))
+                    & ((expected == 0) | (expected == u32::from(Refusal::ImageLong))))
         }
-        Need::Refused { by } => refusal_number(by) == number,
+        Err(by) => u32::from(by) == expected,
     }
 }
 
@@ -57,15 +51,7 @@ fn image_same(image: &[u32], wanted: &[u8], count: usize) -> bool
     ensures { result ≡ all_below (length image.now)
         (λ i. eqb (get_or image.now i 0) (left.image_word wanted.now count i)) }
 {
-    let mut i = 0;
-    while i < image.len() {
-        if image[i] == image_word(wanted, count, i) {
-            i += 1;
-        } else {
-            return false;
-        }
-    }
-    true
+    (0..image.len()).all(|i| word(image, i) == image_word(wanted, count, i))
 }
 
 // The lowering of `sheet` answers and leaves what it must, and the need of `sheet` foretells the number.
@@ -74,15 +60,18 @@ fn lowers(
     image: &mut [u32],
     scratch: &mut [u32],
     wanted: &[u8],
-    number: u32,
+    expected: u32,
     count: usize,
 ) -> bool {
     put_noise(image);
     put_noise(scratch);
-    let answer = answered(lower(sheet, image, scratch), number, count);
+    let answer = answered(lower(sheet, image, scratch), expected, count);
     let words = image_same(&image[..], wanted, count);
-    let rest = left_as(&scratch[..], (number == 0) | (number == IMAGE_LONG));
-    let need = foretold(needs(sheet), scratch.len(), number);
+    let rest = left_as(
+        &scratch[..],
+        (expected == 0) | (expected == u32::from(Refusal::ImageLong)),
+    );
+    let need = foretold(needs(sheet), scratch.len(), expected);
     answer & words & rest & need
 }
 
@@ -93,26 +82,21 @@ fn agrees(
     x: usize,
     y: usize,
     wanted: &[u8],
-    number: u32,
+    expected: u32,
     count: usize,
 ) -> bool {
-    let mut image = room();
-    let mut scratch = room();
-    if n <= sheet.len() {
-        if x <= image.len() {
-            if y <= scratch.len() {
-                return lowers(
-                    &sheet[..n],
-                    &mut image[..x],
-                    &mut scratch[..y],
-                    wanted,
-                    number,
-                    count,
-                );
-            }
-        }
-    }
-    false
+    let mut image = [0u32; 20480];
+    let mut scratch = [0u32; 20480];
+    let Some(sheet) = sheet.get(..n) else {
+        return false;
+    };
+    let Some(image) = image.get_mut(..x) else {
+        return false;
+    };
+    let Some(scratch) = scratch.get_mut(..y) else {
+        return false;
+    };
+    lowers(sheet, image, scratch, wanted, expected, count)
 }
 
 // Reads the rest of a record, behind its first four words, and compares. A record that is cut off, or too long, does not agree.
@@ -120,7 +104,7 @@ fn compare_rest<R: Read>(
     reader: &mut R,
     x: u32,
     y: u32,
-    number: u32,
+    expected: u32,
     count: u32,
 ) -> io::Result<bool> {
     let mut wanted = [0u8; 65536];
@@ -136,7 +120,7 @@ fn compare_rest<R: Read>(
                     x as usize,
                     y as usize,
                     &wanted,
-                    number,
+                    expected,
                     count as usize,
                 );
                 return Ok(same);
@@ -152,25 +136,10 @@ fn compare_one<R: Read>(reader: &mut R) -> io::Result<bool> {
     if fill(reader, &mut head, 16)? {
         let x = words::word_at(&head, 0);
         let y = words::word_at(&head, 1);
-        let number = words::word_at(&head, 2);
-        return compare_rest(reader, x, y, number, words::word_at(&head, 3));
+        let expected = words::word_at(&head, 2);
+        return compare_rest(reader, x, y, expected, words::word_at(&head, 3));
     }
     Ok(false)
-}
-
-// How many of `most` records agree.
-fn agreeing<R: Read>(reader: &mut R, most: u32) -> io::Result<u32>
-    ensures { IfOk result (λ same. same ≤ most) }
-{
-    let mut same: u32 = 0;
-    let mut i: u32 = 0;
-    while i < most {
-        if compare_one(reader)? {
-            same += 1;
-        }
-        i += 1;
-    }
-    Ok(same)
 }
 
 fn main(rt: HostRuntime) -> io::Result<()> {
@@ -178,7 +147,7 @@ fn main(rt: HostRuntime) -> io::Result<()> {
     let mut head = [0u8; 4];
     if fill(&mut reader, &mut head, 4)? {
         let most = words::word_at(&head, 0);
-        let same = agreeing(&mut reader, most)?;
+        let same = agreeing(most, || compare_one(&mut reader))?;
         print_result(&rt, same as u64, most as u64)?;
     }
     Ok(())

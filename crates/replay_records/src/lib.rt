@@ -1,4 +1,5 @@
-// What the programs that replay answers of the oracle share: reading a record, noise in lent buffers, and a line of the result.
+// What the programs that replay answers of the oracle share: reading a record, noise in lent buffers, how many records agree, and a line of
+// the result.
 #![tactic(auto)]
 
 ghost use Rattle.std.specs.Prelude.{◌-◌, ◌≤◌, length, get_or, eqb, ◌≡◌, true, IfOk};
@@ -20,6 +21,20 @@ pub fn fill<R: Read>(reader: &mut R, buf: &mut [u8], n: usize) -> io::Result<boo
     Ok(false)
 }
 
+// How many of `most` records agree, where `compare` reads one and says whether it does.
+pub fn agreeing<F: FnMut() -> io::Result<bool>>(most: u32, mut compare: F) -> io::Result<u32>
+    requires { F.IsAlwaysCallable compare }
+    ensures { IfOk result (λ same. same ≤ most) }
+{
+    let mut same = 0;
+    for _ in 0..most {
+        if compare()? {
+            same += 1;
+        }
+    }
+    Ok(same)
+}
+
 // What stands in word `i` of a buffer before it is lent.
 pub fn noise(i: usize) -> u32
     ensures { result ≡ left.noise i }
@@ -30,10 +45,8 @@ pub fn noise(i: usize) -> u32
 pub fn put_noise(buf: &mut [u32])
     ensures { left.Noisy (length buf.old) buf.new }
 {
-    let mut i = 0;
-    while i < buf.len() {
+    for i in 0..buf.len() {
         buf[i] = noise(i);
-        i += 1;
     }
 }
 
@@ -41,37 +54,26 @@ pub fn put_noise(buf: &mut [u32])
 fn word_left(zeroed: bool, i: usize) -> u32
     ensures { result ≡ left.word_left zeroed i }
 {
-    if zeroed {
-        return 0;
-    }
-    noise(i)
+    if zeroed { 0 } else { noise(i) }
+}
+
+// Word `i`, 0 past the end.
+pub fn word(words: &[u32], i: usize) -> u32
+    ensures { result ≡ get_or words.now i 0 }
+{
+    words.get(i).copied().unwrap_or(0)
 }
 
 // Each word of `buf` is as it must be.
 pub fn left_as(buf: &[u32], zeroed: bool) -> bool
     ensures { result ≡ all_below (length buf.now) (λ i. eqb (get_or buf.now i 0) (left.word_left zeroed i)) }
 {
-    let mut i = 0;
-    while i < buf.len() {
-        if buf[i] == word_left(zeroed, i) {
-            i += 1;
-        } else {
-            return false;
-        }
-    }
-    true
-}
-
-// `most` less `same`, at least 0.
-fn rest(most: u64, same: u64) -> u64
-    ensures { result ≡ most - same }
-{
-    if same < most { most - same } else { 0 }
+    (0..buf.len()).all(|i| word(buf, i) == word_left(zeroed, i))
 }
 
 // Prints how many records were the same, and how many of `most` were not.
 pub fn print_result(rt: &impl Print, same: u64, most: u64) -> io::Result<()> {
-    let different = rest(most, same);
+    let different = most.saturating_sub(same);
     println!(rt; "same {same}")?;
     println!(rt; "different {different}")
 }

@@ -1,18 +1,15 @@
--- Words that are set to 0, one by one: all of them are 0, no other word changes, and past the end nothing is left to do.
+-- Words that are set to 0, one by one: all of them are 0, and no other word changes; so a run that is filled at once is the same.
 use Prim.Native.Nat.{ℕ, zero, suc, ◌+◌, ◌-◌, ◌≤◌, ◌<◌, min}
 use mathlib.Core.Path.{◌≡◌, refl, sym, ap, ◌∙◌}
 use mathlib.Core.List.{List}
 use native.Mathlib.Omega.{arith}
 use native.Mathlib.Decide.{dec_lt}
-use native.Mathlib.Numerals.{add-one}
-use native.Mathlib.Nat.{zero-add, suc-add}
-use lib.ListN.{length, get_or, set, length-set}
-use lib.Seq.{get_or-set_same, get_or-set_other, set_out}
+use lib.ListN.{length, get_or, set, take, drop, length-set, replicate, length-replicate, get_or-replicate}
+use lib.Seq.{get_or-set_same, get_or-set_other}
+use borrow.Author.Rules.{rules}
+use borrow.Rule.Slice.PartMut.{put_mid}
+use Rattle.std.proofs.lemmas.List.{places, same_lists, get_or_default}
 use Rattle.scratch.specs.Clear.{cleared}
-
-cleared_more : (at n : ℕ) (xs ys zs : List ℕ) → ys ≡ cleared at n xs → zs ≡ set ys (at + n) 0 → zs ≡ cleared at (n + 1) xs
-unfolding cleared
-cleared_more at n xs ys zs e f = f ∙ ap (λ (l : List ℕ). set l (at + n) 0) e ∙ sym (ap (λ (m : ℕ). cleared at m xs) (add-one n))
 
 pub cleared-length : (at n : ℕ) (xs : List ℕ) → length (cleared at n xs) ≡ length xs
 unfolding cleared
@@ -27,69 +24,54 @@ cleared-other at (suc n) xs i off =
     get_or-set_other (cleared at n xs) (at + n) i 0 0 (λ q. off n (omega arith) (sym q))
     ∙ cleared-other at n xs i (λ k l q. off k (omega arith) q)
 
--- each is 0
-pub cleared-zero : (at n : ℕ) (xs : List ℕ) → at + n ≤ length xs → (k : ℕ) → k < n → get_or (cleared at n xs) (at + k) 0 ≡ 0
+-- each is 0, where it is there
+cleared-here : (at n : ℕ) (xs : List ℕ) (k : ℕ) → at ≤ k → k < at + n → k < length xs → get_or (cleared at n xs) k 0 ≡ 0
 unfolding cleared
-cleared-zero at zero xs room k l = absurd (omega arith)
-cleared-zero at (suc n) xs room k l = by (dec_lt k n) (λ d. cleared-zero at n xs (omega arith) k d)
+cleared-here at zero xs k low high room = absurd (omega arith)
+cleared-here at (suc n) xs k low high room = by (dec_lt k (at + n)) (λ d. cleared-here at n xs k low d room)
   where
-    by : Dec (k < n) → (k < n → get_or (cleared at n xs) (at + k) 0 ≡ 0) → get_or (set (cleared at n xs) (at + n) 0) (at + k) 0 ≡ 0
-    by (yes d) r = get_or-set_other (cleared at n xs) (at + n) (at + k) 0 0 (λ q. omega arith) ∙ r d
+    by : Dec (k < at + n) → (k < at + n → get_or (cleared at n xs) k 0 ≡ 0) → get_or (set (cleared at n xs) (at + n) 0) k 0 ≡ 0
+    by (yes d) r = get_or-set_other (cleared at n xs) (at + n) k 0 0 (λ q. omega arith) ∙ r d
     by (no d) r =
-        let z : k ≡ n = omega arith in
+        let z : k ≡ at + n = omega arith in
         let m = cleared-length at n xs in
-        ap (λ (i : ℕ). get_or (set (cleared at n xs) (at + n) 0) (at + i) 0) z ∙ get_or-set_same (cleared at n xs) (at + n) 0 0 (omega arith)
+        ap (λ (i : ℕ). get_or (set (cleared at n xs) (at + n) 0) i 0) z ∙ get_or-set_same (cleared at n xs) (at + n) 0 0 (omega arith)
 
--- past the end nothing is left to do
-cleared-out : (at m d : ℕ) (xs : List ℕ) → length xs ≤ at + m → cleared at (d + m) xs ≡ cleared at m xs
-unfolding cleared
-cleared-out at m zero xs h = ap (λ (k : ℕ). cleared at k xs) (zero-add m)
-cleared-out at m (suc d) xs h =
-    let l = cleared-length at (d + m) xs in
-    ap (λ (k : ℕ). cleared at k xs) (suc-add d m)
-    ∙ set_out (cleared at (d + m) xs) (at + (d + m)) 0 (omega arith)
-    ∙ cleared-out at m d xs h
+pub cleared-zero : (at n : ℕ) (xs : List ℕ) → at + n ≤ length xs → (k : ℕ) → k < n → get_or (cleared at n xs) (at + k) 0 ≡ 0
+cleared-zero at n xs room k l = cleared-here at n xs (at + k) (omega arith) (omega arith) (omega arith)
 
--- the loop: i words are passed, of which those from at on are 0, and it stops at the end of the run or of the words
-pub record Clearing (at n i : ℕ) (xs ys : List ℕ) : Type 0 where
-  pub from : at ≤ i
-  pub to : i ≤ at + n
-  pub front : ys ≡ cleared at (i - at) xs
+-- a run that is filled, cut off at the end of the words, where no word is left to set
+module _ (at n start stop : ℕ) (xs ys : List ℕ) (from : start ≡ min at (length xs)) (to : stop ≡ min (start + n) (length xs))
+    (filled : ys ≡ replicate (length (take (stop - start) (drop start xs))) 0) where
+  zeros : ys ≡ replicate (stop - start) 0
+  zeros =
+      let l : length (take (stop - start) (drop start xs)) ≡ stop - start = search (rules, places) in
+      filled ∙ ap (λ (m : ℕ). replicate m 0) l
 
-pub clearing-starts : (at n : ℕ) (xs : List ℕ) → Clearing at n at xs xs
-unfolding cleared
-clearing-starts at n xs =
-    let z : at - at ≡ 0 = omega arith in
-    record { from = omega arith; to = omega arith; front = sym (ap (λ (m : ℕ). cleared at m xs) z) }
+  run-length : length (put_mid start (stop - start) xs ys) ≡ length xs
+  run-length = let l : length ys ≡ stop - start = ap length zeros ∙ length-replicate (stop - start) 0 in search (rules, places)
 
-pub clearing-goes : (at n i : ℕ) (xs ys zs : List ℕ) → Clearing at n i xs ys → i < at + n → zs ≡ set ys i 0 → Clearing at n (i + 1) xs zs
-clearing-goes at n i xs ys zs c l e =
-    let f = c.from in
-    let k : i ≡ at + (i - at) = omega arith in
-    let z : (i - at) + 1 ≡ i + 1 - at = omega arith in
-    record {
-      from = omega arith;
-      to = omega arith;
-      front =
-          cleared_more at (i - at) xs ys zs c.front (e ∙ ap (λ (j : ℕ). set ys j 0) k)
-          ∙ ap (λ (m : ℕ). cleared at m xs) z;
-    }
+  run-at : (k : ℕ) → k < length xs → Dec (k < start) → Dec (k < stop)
+      → get_or (put_mid start (stop - start) xs ys) k 0 ≡ get_or (cleared at n xs) k 0
+  run-at k h (yes a) b =
+      let l : length ys ≡ stop - start = ap length zeros ∙ length-replicate (stop - start) 0 in
+      let e : get_or (put_mid start (stop - start) xs ys) k 0 ≡ get_or xs k 0 = search (rules, places) in
+      e ∙ sym (cleared-other at n xs k (λ i m q. omega arith))
+  run-at k h (no a) (yes b) =
+      let l : length ys ≡ stop - start = ap length zeros ∙ length-replicate (stop - start) 0 in
+      let e : get_or (put_mid start (stop - start) xs ys) k 0 ≡ get_or ys (k - start) 0 = search (rules, places) in
+      let z : get_or ys (k - start) 0 ≡ 0 =
+      ap (λ (l : List ℕ). get_or l (k - start) 0) zeros ∙ get_or-replicate (stop - start) (k - start) 0 0 (omega arith) in
+      e ∙ z ∙ sym (cleared-here at n xs k (omega arith) (omega arith) h)
+  run-at k h (no a) (no b) =
+      let l : length ys ≡ stop - start = ap length zeros ∙ length-replicate (stop - start) 0 in
+      let e : get_or (put_mid start (stop - start) xs ys) k 0 ≡ get_or xs k 0 = search (rules, places) in
+      e ∙ sym (cleared-other at n xs k (λ i m q. omega arith))
 
-pub clearing-length : (at n i : ℕ) (xs ys : List ℕ) → Clearing at n i xs ys → length ys ≡ length xs
-clearing-length at n i xs ys c = ap length c.front ∙ cleared-length at (i - at) xs
-
-pub clearing-ends :
-    (at n i stop : ℕ) (xs ys : List ℕ) → Clearing at n i xs ys → stop ≡ min (at + n) (length xs) → stop ≤ i → ys ≡ cleared at n xs
-clearing-ends at n i stop xs ys c e l = by (dec_lt i (at + n))
-  where
-    by : Dec (i < at + n) → ys ≡ cleared at n xs
-    by (yes d) =
-        let f = c.from in
-        let k : n ≡ (n - (i - at)) + (i - at) = omega arith in
-        let out : length xs ≤ i = omega arith in
-        c.front ∙ sym (cleared-out at (i - at) (n - (i - at)) xs (omega arith)) ∙ sym (ap (λ (m : ℕ). cleared at m xs) k)
-    by (no d) =
-        let f = c.from in
-        let t = c.to in
-        let k : i - at ≡ n = omega arith in
-        c.front ∙ ap (λ (m : ℕ). cleared at m xs) k
+  pub cleared-run : put_mid start (stop - start) xs ys ≡ cleared at n xs
+  cleared-run =
+      same_lists _ _ (run-length ∙ sym (cleared-length at n xs))
+      (λ k d h.
+      let m = run-length in
+      let c = cleared-length at n xs in
+      get_or_default _ k d 0 h ∙ run-at k (omega arith) (dec_lt k start) (dec_lt k stop) ∙ get_or_default _ k 0 d (omega arith))

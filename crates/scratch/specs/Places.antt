@@ -121,7 +121,8 @@ sums_from l = sums_at l % 4294967296
 -- no entry in any index, and nothing told by the memos of names
 unfoldable pub cleared_index : Layout → List ℕ → List ℕ
 cleared_index l xs =
-    cleared (heads_at l % 4294967296) ((name_heads l + const_heads l + 2 * token_heads l) % 4294967296) (cleared (memos_from l) memo_words xs)
+    cleared (heads_at l % 4294967296) ((name_heads l + const_heads l + 2 * token_heads l) % 4294967296)
+    (cleared (memos_from l) memo_words xs)
 
 -- the format's limits
 pub record Small (l : Layout) : Type 0 where

@@ -2,7 +2,7 @@
 // contracts). Places of an index are words, so their sums never wrap; within the format's limits none is cut off.
 #![tactic(auto)]
 
-ghost use Rattle.std.specs.Prelude.{◌≡◌, ◌+◌, ◌<◌, ◌%◌, min, set, get_or};
+ghost use Rattle.std.specs.Prelude.{◌≡◌, ◌+◌, ◌<◌, ◌%◌, set, get_or};
 ghost use Rattle.scratch.specs.Clear.{cleared};
 ghost use Rattle.scratch.specs.Places as places;
 
@@ -42,10 +42,7 @@ const BESIDE_WORDS: usize = 2048;
 pub fn get(scratch: &[u32], i: usize) -> u32
     ensures { result ≡ get_or scratch.now i 0 }
 {
-    if i < scratch.len() {
-        return scratch[i];
-    }
-    0
+    scratch.get(i).copied().unwrap_or(0)
 }
 
 // A word, where there is room.
@@ -57,75 +54,13 @@ pub fn put(scratch: &mut [u32], i: usize, v: u32)
     }
 }
 
-// The less of two numbers.
-fn less(a: usize, b: usize) -> usize
-    ensures { result ≡ min a b }
-{
-    if a <= b {
-        return a;
-    }
-    b
-}
-
 // The words from `at` on, `n` of them, are 0.
 fn clear(scratch: &mut [u32], at: u32, n: u32)
     ensures { scratch.new ≡ cleared at n scratch.old }
 {
-    let mut i = at as usize;
-    let stop = less(i + (n as usize), scratch.len());
-    while i < stop {
-        scratch[i] = 0;
-        i += 1;
-    }
-}
-
-// Where the positions start, behind the code.
-pub fn positions_at(layout: Layout) -> usize
-    ensures { result ≡ places.positions_at layout }
-{
-    OP_WIDTH * (layout.most as usize)
-}
-
-// The residuals.
-pub fn residuals_at(layout: Layout) -> usize
-    ensures { result ≡ places.residuals_at layout }
-{
-    CODE_WIDTH * (layout.most as usize)
-}
-
-// The keys of the constants.
-pub fn consts_at(layout: Layout) -> usize
-    ensures { result ≡ places.consts_at layout }
-{
-    PER_EMITTED * (layout.most as usize)
-}
-
-// The keys of the tokens.
-pub fn tokens_at(layout: Layout) -> usize
-    ensures { result ≡ places.tokens_at layout }
-{
-    PER_EMITTED * (layout.most as usize) + (layout.nodes as usize)
-}
-
-// The keys of the chains.
-pub fn chains_at(layout: Layout) -> usize
-    ensures { result ≡ places.chains_at layout }
-{
-    PER_EMITTED * (layout.most as usize) + 2 * (layout.nodes as usize)
-}
-
-// The keys of the names.
-pub fn names_at(layout: Layout) -> usize
-    ensures { result ≡ places.names_at layout }
-{
-    PER_EMITTED * (layout.most as usize) + 3 * (layout.nodes as usize)
-}
-
-// The words of all lists; the links of the indexes lie behind them.
-pub fn words_of(layout: Layout) -> usize
-    ensures { result ≡ places.words_of layout }
-{
-    PER_EMITTED * (layout.most as usize) + PER_NODE * (layout.nodes as usize)
+    let start = (at as usize).min(scratch.len());
+    let stop = (start + (n as usize)).min(scratch.len());
+    scratch[start..stop].fill(0);
 }
 
 // A number as a word.
@@ -135,174 +70,280 @@ fn word(n: usize) -> u32
     (n % 4294967296) as u32
 }
 
+impl Layout {
+    // Where the positions start, behind the code.
+    pub fn positions_at(self) -> usize
+        ensures { result ≡ places.positions_at self }
+    {
+        OP_WIDTH * (self.most as usize)
+    }
+
+    // The residuals.
+    pub fn residuals_at(self) -> usize
+        ensures { result ≡ places.residuals_at self }
+    {
+        CODE_WIDTH * (self.most as usize)
+    }
+
+    // The keys of the constants.
+    pub fn consts_at(self) -> usize
+        ensures { result ≡ places.consts_at self }
+    {
+        PER_EMITTED * (self.most as usize)
+    }
+
+    // The keys of the tokens.
+    pub fn tokens_at(self) -> usize
+        ensures { result ≡ places.tokens_at self }
+    {
+        PER_EMITTED * (self.most as usize) + (self.nodes as usize)
+    }
+
+    // The keys of the chains.
+    pub fn chains_at(self) -> usize
+        ensures { result ≡ places.chains_at self }
+    {
+        PER_EMITTED * (self.most as usize) + 2 * (self.nodes as usize)
+    }
+
+    // The keys of the names.
+    pub fn names_at(self) -> usize
+        ensures { result ≡ places.names_at self }
+    {
+        PER_EMITTED * (self.most as usize) + 3 * (self.nodes as usize)
+    }
+
+    // The words of all lists; the links of the indexes lie behind them.
+    pub fn links_at(self) -> usize
+        ensures { result ≡ places.links_at self }
+    {
+        PER_EMITTED * (self.most as usize) + PER_NODE * (self.nodes as usize)
+    }
+
+    // The memos.
+    pub fn memos_at(self) -> u32
+        ensures { result ≡ places.memos_from self }
+    {
+        word(PER_EMITTED * (self.most as usize) + (PER_NODE + 2) * (self.nodes as usize))
+    }
+
+    // The folds that are kept for long texts.
+    pub fn sums_at(self) -> u32
+        ensures { result ≡ places.sums_from self }
+    {
+        word(
+            PER_EMITTED * (self.most as usize)
+                + (PER_NODE + 2) * (self.nodes as usize)
+                + (MEMO_WORDS as usize),
+        )
+    }
+
+    // The heads of all indexes.
+    fn heads_at(self) -> usize
+        ensures { result ≡ places.heads_at self }
+    {
+        PER_EMITTED * (self.most as usize) + (PER_NODE + 2) * (self.nodes as usize) + BESIDE_WORDS
+    }
+
+    // How many heads the names have.
+    fn name_heads(self) -> usize
+        ensures { (result ≡ places.name_heads self) × (result < 10000000000) }
+    {
+        ((self.most as usize) + 1024).min(2 * (self.nodes as usize) + 64)
+    }
+
+    // How many the constants have.
+    fn const_heads(self) -> usize
+        ensures { (result ≡ places.const_heads self) × (result < 10000000000) }
+    {
+        ((self.most as usize) / 2 + 256).min((self.nodes as usize) + 64)
+    }
+
+    // How many the tokens have, and the chains as many.
+    fn token_heads(self) -> usize
+        ensures { (result ≡ places.token_heads self) × (result < 10000000000) }
+    {
+        ((self.most as usize) / 4 + 256).min((self.nodes as usize) + 64)
+    }
+
+    // An index with these heads, so many of them, and these keys.
+    fn index_at(self, heads: usize, count: usize, at: usize) -> Index
+        ensures { result ≡ places.index_at heads count at (places.links_at self) }
+    {
+        Index {
+            heads: word(heads),
+            count: word(count),
+            at: word(at),
+            links: word(self.links_at()),
+        }
+    }
+
+    // The index of the names.
+    pub fn name_index(self) -> Index
+        ensures { result ≡ places.name_index self }
+    {
+        self.index_at(self.heads_at(), self.name_heads(), self.names_at())
+    }
+
+    // The index of the constants.
+    pub fn const_index(self) -> Index
+        ensures { result ≡ places.const_index self }
+    {
+        let heads = self.heads_at() + self.name_heads();
+        self.index_at(heads, self.const_heads(), self.consts_at())
+    }
+
+    // The index of the tokens.
+    pub fn token_index(self) -> Index
+        ensures { result ≡ places.token_index self }
+    {
+        let heads = self.heads_at() + self.name_heads() + self.const_heads();
+        self.index_at(heads, self.token_heads(), self.tokens_at())
+    }
+
+    // The index of the chains.
+    pub fn chain_index(self) -> Index
+        ensures { result ≡ places.chain_index self }
+    {
+        let n = self.token_heads();
+        let heads = self.heads_at() + self.name_heads() + self.const_heads() + n;
+        self.index_at(heads, n, self.chains_at())
+    }
+
+    // No entry stands in any index, and nothing is told by the memos of names.
+    pub fn clear_index(self, scratch: &mut [u32])
+        ensures { scratch.new ≡ places.cleared_index self scratch.old }
+    {
+        let heads = self.heads_at();
+        let count = self.name_heads() + self.const_heads() + 2 * self.token_heads();
+        clear(scratch, self.memos_at(), MEMO_WORDS);
+        clear(scratch, word(heads), word(count));
+    }
+
+    // Where position `n` stands.
+    pub fn position_place(self, n: u32) -> usize
+        ensures { result ≡ places.positions_at self + n }
+    {
+        self.positions_at() + (n as usize)
+    }
+
+    // Where residual `n` stands.
+    pub fn residual_place(self, n: u32) -> usize
+        ensures { result ≡ places.residuals_at self + n }
+    {
+        self.residuals_at() + (n as usize)
+    }
+
+    // Where the key of constant `n` stands.
+    pub fn const_place(self, n: u32) -> usize
+        ensures { result ≡ places.consts_at self + n }
+    {
+        self.consts_at() + (n as usize)
+    }
+
+    // Where the key of token `n` stands.
+    pub fn token_place(self, n: u32) -> usize
+        ensures { result ≡ places.tokens_at self + n }
+    {
+        self.tokens_at() + (n as usize)
+    }
+
+    // Where the key of chain `n` stands.
+    pub fn chain_place(self, n: u32) -> usize
+        ensures { result ≡ places.chains_at self + n }
+    {
+        self.chains_at() + (n as usize)
+    }
+
+    // Where the key of name `n` stands.
+    pub fn name_place(self, n: u32) -> usize
+        ensures { result ≡ places.names_at self + n }
+    {
+        self.names_at() + (n as usize)
+    }
+}
+
+// The same as functions, for callers that name them so.
+// The words of all lists.
+pub fn words_of(layout: Layout) -> usize
+    ensures { result ≡ places.words_of layout }
+{
+    layout.links_at()
+}
+
 // The memos.
 pub fn memos_at(layout: Layout) -> u32
     ensures { result ≡ places.memos_from layout }
 {
-    word(PER_EMITTED * (layout.most as usize) + (PER_NODE + 2) * (layout.nodes as usize))
-}
-
-// The folds that are kept for long texts.
-pub fn sums_at(layout: Layout) -> u32
-    ensures { result ≡ places.sums_from layout }
-{
-    word(
-        PER_EMITTED * (layout.most as usize)
-            + (PER_NODE + 2) * (layout.nodes as usize)
-            + (MEMO_WORDS as usize),
-    )
-}
-
-// The heads of all indexes.
-fn heads_at(layout: Layout) -> usize
-    ensures { result ≡ places.heads_at layout }
-{
-    PER_EMITTED * (layout.most as usize) + (PER_NODE + 2) * (layout.nodes as usize) + BESIDE_WORDS
-}
-
-// How many heads the names have.
-fn name_heads(layout: Layout) -> usize
-    ensures { (result ≡ places.name_heads layout) × (result < 10000000000) }
-{
-    less(
-        (layout.most as usize) + 1024,
-        2 * (layout.nodes as usize) + 64,
-    )
-}
-
-// How many the constants have.
-fn const_heads(layout: Layout) -> usize
-    ensures { (result ≡ places.const_heads layout) × (result < 10000000000) }
-{
-    less(
-        (layout.most as usize) / 2 + 256,
-        (layout.nodes as usize) + 64,
-    )
-}
-
-// How many the tokens have, and the chains as many.
-fn token_heads(layout: Layout) -> usize
-    ensures { (result ≡ places.token_heads layout) × (result < 10000000000) }
-{
-    less(
-        (layout.most as usize) / 4 + 256,
-        (layout.nodes as usize) + 64,
-    )
+    layout.memos_at()
 }
 
 // The index of the names.
 pub fn name_index(layout: Layout) -> Index
     ensures { result ≡ places.name_index layout }
 {
-    let heads = word(heads_at(layout));
-    let count = word(name_heads(layout));
-    let at = word(names_at(layout));
-    let links = word(words_of(layout));
-    Index {
-        heads,
-        count,
-        at,
-        links,
-    }
+    layout.name_index()
 }
 
 // The index of the constants.
 pub fn const_index(layout: Layout) -> Index
     ensures { result ≡ places.const_index layout }
 {
-    let heads = word(heads_at(layout) + name_heads(layout));
-    let count = word(const_heads(layout));
-    let at = word(consts_at(layout));
-    let links = word(words_of(layout));
-    Index {
-        heads,
-        count,
-        at,
-        links,
-    }
+    layout.const_index()
 }
 
 // The index of the tokens.
 pub fn token_index(layout: Layout) -> Index
     ensures { result ≡ places.token_index layout }
 {
-    let heads = word(heads_at(layout) + name_heads(layout) + const_heads(layout));
-    let count = word(token_heads(layout));
-    let at = word(tokens_at(layout));
-    let links = word(words_of(layout));
-    Index {
-        heads,
-        count,
-        at,
-        links,
-    }
+    layout.token_index()
 }
 
 // The index of the chains.
 pub fn chain_index(layout: Layout) -> Index
     ensures { result ≡ places.chain_index layout }
 {
-    let n = token_heads(layout);
-    let heads = word(heads_at(layout) + name_heads(layout) + const_heads(layout) + n);
-    let count = word(n);
-    let at = word(chains_at(layout));
-    let links = word(words_of(layout));
-    Index {
-        heads,
-        count,
-        at,
-        links,
-    }
-}
-
-// No entry stands in any index, and nothing is told by the memos of names.
-pub fn clear_index(scratch: &mut [u32], layout: Layout)
-    ensures { scratch.new ≡ places.cleared_index layout scratch.old }
-{
-    let heads = heads_at(layout);
-    let count = name_heads(layout) + const_heads(layout) + 2 * token_heads(layout);
-    clear(scratch, memos_at(layout), MEMO_WORDS);
-    clear(scratch, word(heads), word(count));
+    layout.chain_index()
 }
 
 // Where position `n` stands.
 pub fn position_place(layout: Layout, n: u32) -> usize
     ensures { result ≡ places.positions_at layout + n }
 {
-    positions_at(layout) + (n as usize)
+    layout.position_place(n)
 }
 
 // Where residual `n` stands.
 pub fn residual_place(layout: Layout, n: u32) -> usize
     ensures { result ≡ places.residuals_at layout + n }
 {
-    residuals_at(layout) + (n as usize)
+    layout.residual_place(n)
 }
 
 // Where the key of constant `n` stands.
 pub fn const_place(layout: Layout, n: u32) -> usize
     ensures { result ≡ places.consts_at layout + n }
 {
-    consts_at(layout) + (n as usize)
+    layout.const_place(n)
 }
 
 // Where the key of token `n` stands.
 pub fn token_place(layout: Layout, n: u32) -> usize
     ensures { result ≡ places.tokens_at layout + n }
 {
-    tokens_at(layout) + (n as usize)
+    layout.token_place(n)
 }
 
 // Where the key of chain `n` stands.
 pub fn chain_place(layout: Layout, n: u32) -> usize
     ensures { result ≡ places.chains_at layout + n }
 {
-    chains_at(layout) + (n as usize)
+    layout.chain_place(n)
 }
 
 // Where the key of name `n` stands.
 pub fn name_place(layout: Layout, n: u32) -> usize
     ensures { result ≡ places.names_at layout + n }
 {
-    names_at(layout) + (n as usize)
+    layout.name_place(n)
 }

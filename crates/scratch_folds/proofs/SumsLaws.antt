@@ -227,7 +227,8 @@ module _ (s : List ℕ) (t at : ℕ) (xs : List ℕ) where
   text-read q r e f = record { is = λ sums. f ∙ ap (fold_hash 0) e }
 
   pub long_kept :
-      (i n : ℕ) (b : List ℕ) (r : ℕ) → t < text_count s → long ≤ text_length s t → i ≡ text_start s t → n ≡ text_length s t → b ≡ summed_bytes s
+      (i n : ℕ) (b : List ℕ) (r : ℕ) → t < text_count s → long ≤ text_length s t → i ≡ text_start s t → n ≡ text_length s t
+      → b ≡ summed_bytes s
       → i + n ≤ length b → ByEnds b at xs (fold_hash 0 (take n (drop i b))) r → BySums s at xs (fold_hash 0 (text s t)) r
   long_kept i n b r below m e f g l h = record {
     is = λ sums.

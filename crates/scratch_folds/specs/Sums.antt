@@ -1,6 +1,7 @@
 -- What is kept of a fold over long bytes b: its value at the end of each block of 1,024 bytes, one word for each block, from place at on.
 -- With it the fold over any part costs less than two blocks and a power of the fold's factor.
-use Rattle.std.specs.Prelude.{ℕ, zero, suc, ◌+◌, ◌-◌, ◌*◌, ◌/◌, ◌%◌, ◌≤◌, min, ◌≡◌, Bool, true, false, List, ltb, length, get_or, set, take, drop}
+use Rattle.std.specs.Prelude.{ℕ, zero, suc, ◌+◌, ◌-◌, ◌*◌, ◌/◌, ◌%◌, ◌≤◌, min, ◌≡◌, Bool, true, false, List, ltb, length, get_or, set, take}
+use Rattle.std.specs.Prelude.{drop}
 use Rattle.words.specs.Count.{all_below}
 use Rattle.sheet.specs.Limits.{max_bytes}
 use Rattle.sheet.specs.Sections.{text_count, byte_count, bytes_at}
@@ -23,11 +24,6 @@ times a b = (a * b) % 4294967296
 unfoldable pub power_of : ℕ → ℕ → ℕ
 power_of a zero = 1
 power_of a (suc n) = times (power_of a n) a
-
--- p, with the factor a where the bit is 1
-unfoldable pub taken : ℕ → ℕ → ℕ → ℕ
-taken zero p a = p
-taken (suc bit) p a = times p a
 
 -- the fold over what stands behind a front: p is that of the front, e that of both, and w the power by the length of what stands behind
 unfoldable pub behind : ℕ → ℕ → ℕ → ℕ

@@ -19,6 +19,9 @@ use words::part;
 // Bytes of a block.
 const BLOCK: usize = 1024;
 
+// The factor of the fold.
+const FACTOR: u32 = 16777619;
+
 // From this length on a text is folded by what is kept.
 const LONG: u32 = 1152;
 
@@ -47,16 +50,13 @@ fn four_steps(h: u32, a: u8, b: u8, c: u8, d: u8) -> u32
     ((w + (d as u64) + 1) % 4294967296) as u32
 }
 
-// All bytes from place `from` on more, one by one.
-fn fold_rest(x: &[u8], from: usize, start: u32) -> u32
-    requires { from ≤ length x.now }
-    ensures { result ≡ fold_hash start (drop from x.now) }
+// All bytes more, one by one.
+fn fold_rest(x: &[u8], start: u32) -> u32
+    ensures { result ≡ fold_hash start x.now }
 {
     let mut h = start;
-    let mut i = from;
-    while i < x.len() {
-        h = byte_step(h, x[i]);
-        i += 1;
+    for b in x {
+        h = byte_step(h, *b);
     }
     h
 }
@@ -68,11 +68,12 @@ fn fold_on(x: &[u8], start: u32) -> u32
     let n = x.len();
     let mut h = start;
     let mut i = 0;
+    // Kept: the library cuts a slice into slices, not into arrays of four, so a chain over them would index each part again: no plainer.
     while i + 4 <= n {
         h = four_steps(h, x[i], x[i + 1], x[i + 2], x[i + 3]);
         i += 4;
     }
-    fold_rest(x, i, h)
+    fold_rest(&x[i..], h)
 }
 
 // The fold over bytes, before it is spread.
@@ -96,29 +97,11 @@ fn times(a: u32, b: u32) -> u32
     (((a as u64) * (b as u64)) % 4294967296) as u32
 }
 
-// `p`, with the factor `a` where `left` is odd.
-fn taken(p: u32, a: u32, left: u32) -> u32
-    ensures { result ≡ sums.taken (left % 2) p a }
-{
-    if left % 2 == 0 {
-        return p;
-    }
-    times(p, a)
-}
-
 // The fold's factor to the power `n`, by squares.
 fn power(n: u32) -> u32
     ensures { result ≡ power_of factor n }
 {
-    let mut left = n;
-    let mut a: u32 = 16777619;
-    let mut p: u32 = 1;
-    while 0 < left {
-        p = taken(p, a, left);
-        a = times(a, a);
-        left = left / 2;
-    }
-    p
+    FACTOR.wrapping_pow(n)
 }
 
 // The fold over what stands behind a front, from that of both, `e`, that of the front, `p`, and the power `w`.
@@ -133,11 +116,7 @@ fn behind(e: u32, p: u32, w: u32) -> u32
 fn byte_size(sheet: &[u8]) -> usize
     ensures { result ≡ min (byte_count sheet.now) max_bytes }
 {
-    let n = byte_count(sheet);
-    if n <= MAX_BYTES {
-        return n as usize;
-    }
-    MAX_BYTES as usize
+    byte_count(sheet).min(MAX_BYTES) as usize
 }
 
 // They themselves.
@@ -153,12 +132,9 @@ fn fill_blocks(b: &[u8], scratch: &mut [u32], at: u32)
 {
     let n = b.len() / BLOCK;
     let mut h: u32 = 0;
-    let mut k = 0;
-    while k < n {
-        let g = fold_on(part(b, k * BLOCK, BLOCK), h);
-        put(scratch, (at as usize) + k, g);
-        h = g;
-        k += 1;
+    for k in 0..n {
+        h = fold_on(part(b, k * BLOCK, BLOCK), h);
+        put(scratch, (at as usize) + k, h);
     }
 }
 
@@ -167,15 +143,7 @@ fn all_short(sheet: &[u8]) -> bool
     ensures { result ≡ all_short sheet.now }
 {
     let n = text_count(sheet);
-    let mut t: u32 = 0;
-    while t < n {
-        if text_length(sheet, t) < LONG {
-            t += 1;
-        } else {
-            return false;
-        }
-    }
-    true
+    (0..n).all(|t| text_length(sheet, t) < LONG)
 }
 
 // What is kept for the texts of sheet `sheet` is written, from place `at` on: nothing where no text is long.

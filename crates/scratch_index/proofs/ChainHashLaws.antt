@@ -1,6 +1,7 @@
 -- The hash of a chain: the same chains have the same hash over any names (`chains-alike`), and a chain whose names stand keeps its hash
 -- when names are added (`chain-stays`).
-use Rattle.std.proofs.Common.{◌≡◌, ℕ, ◌<◌, Bool, true, false, ◌||◌, eqb, List, [], ◌∷◌, sym, refl, ap, ◌∙◌, ap₂, true≢false, arith, eq-eqb, ne_eqb, eqb-true}
+use Rattle.std.proofs.Common.{◌≡◌, ℕ, ◌<◌, Bool, true, false, ◌||◌, eqb, List, [], ◌∷◌, sym, refl, ap, ◌∙◌, ap₂, true≢false, arith, eq-eqb}
+use Rattle.std.proofs.Common.{ne_eqb, eqb-true}
 use borrow.Author.Tests.{eqb-false}
 use Rattle.expr_chains.proofs.RootLaws.{as-variable}
 use Rattle.laws.proofs.Bool.{lazy-true}

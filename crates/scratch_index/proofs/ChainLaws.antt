@@ -1,6 +1,7 @@
 -- Chains: the test of two chains by the sheet is symmetric and transitive (`nodes-swap`, `nodes-join`), and what it tells of the steps
 -- and of the roots. (A chain is the same as itself only where each of its links has a step.)
-use Rattle.std.proofs.Common.{◌≡◌, ℕ, Bool, true, false, ◌&&◌, eqb, List, [], ◌∷◌, sym, refl, ap, ◌∙◌, subst, true≢false, eq-eqb, ne_eqb, eqb-true}
+use Rattle.std.proofs.Common.{◌≡◌, ℕ, Bool, true, false, ◌&&◌, eqb, List, [], ◌∷◌, sym, refl, ap, ◌∙◌, subst, true≢false, eq-eqb, ne_eqb}
+use Rattle.std.proofs.Common.{eqb-true}
 use mathlib.Core.Bool.{and-eq-true_iff}
 use borrow.Author.Tests.{eqb-false}
 use Rattle.expr_chains.proofs.RootLaws.{as-variable}

@@ -169,7 +169,8 @@ module _ (s : List ℕ) (l : Layout) (n : ℕ) (xs : List ℕ) where
   -- the whole
   pub chain-read :
       (j : ℕ) {h f v r : ℕ} → v ≡ child j → ByNames s l n xs (links_hash s (names_held s l n xs) 1 (links max_depth s j)) h
-      → ByNames s l n xs (root_hash s (names_held s l n xs) h v) f → r ≡ spread f → ByNames s l n xs (chain_hash s (names_held s l n xs) j) r
+      → ByNames s l n xs (root_hash s (names_held s l n xs) h v) f → r ≡ spread f
+      → ByNames s l n xs (chain_hash s (names_held s l n xs) j) r
   unfolding chain_hash
   chain-read j {h} {f} {v} e a b t = record {
     is = λ w. t ∙ ap spread (b.is w ∙ ap₂ (root_hash s held) (a.is w) e);

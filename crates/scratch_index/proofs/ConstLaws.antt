@@ -1,6 +1,7 @@
 -- Constants: the test of the definition is an equivalence and the same constants have the same hash (`consts-alike`), tokens too
 -- (`tokens-alike`); and one law for each answer of the code.
-use Rattle.std.proofs.Common.{◌≡◌, ℕ, ◌+◌, ◌%◌, ◌<◌, Bool, true, false, ◌&&◌, eqb, List, sym, refl, ap, ◌∙◌, subst, ap₂, true≢false, arith, eq-eqb, ne_eqb, eqb-true}
+use Rattle.std.proofs.Common.{◌≡◌, ℕ, ◌+◌, ◌%◌, ◌<◌, Bool, true, false, ◌&&◌, eqb, List, sym, refl, ap, ◌∙◌, subst, ap₂, true≢false, arith}
+use Rattle.std.proofs.Common.{eq-eqb, ne_eqb, eqb-true}
 use mathlib.Core.Bool.{and-eq-true_iff}
 use borrow.Author.Tests.{eqb-false}
 use Rattle.text.specs.Same.{same}

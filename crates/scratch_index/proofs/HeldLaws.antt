@@ -1,5 +1,6 @@
 -- The place of a name: what a search answers, and what a memo tells, is where the name stands among those that the scratch holds.
-use Rattle.std.proofs.Common.{◌≡◌, ℕ, ◌+◌, Bool, true, eqb, List, length, get_or, sym, ap, ◌∙◌, subst, eqb-true}
+use Rattle.std.proofs.Common.{◌≡◌, ℕ, ◌+◌, Bool, true, false, eqb, List, length, get_or, sym, refl, ap, ◌∙◌, subst, eqb-true}
+use Rattle.std.specs.Prelude.{Option, Some, None}
 use lib.ListN.{length-map}
 use Rattle.lowering.specs.Pools.{Name, name, first_where, same_name}
 use Rattle.scratch_keys.specs.Keys.{name_of}
@@ -10,11 +11,11 @@ use Rattle.scratch.proofs.PlaceLaws.{name-lies, memos-lie}
 use Rattle.scratch_folds.specs.Sums.{BySums}
 use Rattle.scratch_index.specs.Lookup.{Sought, Finds}
 use Rattle.scratch_index.specs.Names.{is_name, name_hash_of, name_hash, name_slot}
-use Rattle.scratch_index.specs.Memo.{memo_at}
+use Rattle.scratch_index.specs.Memo.{memo_at, recalled}
 use Rattle.scratch_index.specs.Held.{names_held, NamesHold, FindsName}
 use Rattle.scratch_index.proofs.PoolLaws.{pool-length, pool-asked}
 use Rattle.scratch_index.proofs.NameLaws.{name-one, name-hashed}
-use Rattle.scratch_index.proofs.MemoLaws.{told-hit}
+use Rattle.scratch_index.proofs.MemoLaws.{told-hit, recalled-known, recalled-unknown}
 
 -- among names and among keys
 pub name_keys :
@@ -57,6 +58,17 @@ module _ (s : List ℕ) (l : Layout) (n : ℕ) (xs : List ℕ) where
         let hit = ap (λ (m : ℕ). get_or xs (memo_at m t) 0) (sym is) ∙ eqb-true (get_or xs (memo_at ms t) 0) (t + 1) (sym f ∙ k) in
         e ∙ ap (λ (m : ℕ). get_or xs (memo_at m t + 1) 0) is ∙ (told-hit h.memos t hit).place;
   }
+
+  -- by what is recalled
+  pub name-told :
+      (t p ms : ℕ) (o : Option ℕ) → ms ≡ memos_from l → o ≡ recalled ms t xs → o ≡ Some p → FindsName s l n (name t 0) xs p
+  name-told t p ms o at e f = by (eqb (get_or xs (memo_at ms t) 0) (t + 1)) refl
+    where
+      by : (b : Bool) → eqb (get_or xs (memo_at ms t) 0) (t + 1) ≡ b → FindsName s l n (name t 0) xs p
+      by true k =
+          let q : Some p ≡ Some (get_or xs (memo_at ms t + 1) 0) = sym f ∙ e ∙ sym (recalled-known ms t xs _ k refl) in
+          name-recalled t p ms true at (sym k) refl cc
+      by false k = let q : Some p ≡ None = sym f ∙ e ∙ sym (recalled-unknown ms t xs k) in cc
 
   -- the same name in other words
   pub name-same : {nm other : Name} {r : ℕ} → nm ≡ other → FindsName s l n nm xs r → FindsName s l n other xs r

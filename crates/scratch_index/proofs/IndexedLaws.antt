@@ -1,6 +1,7 @@
 -- The index of a pool: it holds of no entries where all heads are 0, `noted` keeps it, words elsewhere may change, and what a search
 -- reads. The keys in use have different places, all before the heads, and the bucket of each is below H.
-use Rattle.std.proofs.Common.{◌≡◌, ℕ, suc, ◌+◌, ◌/◌, ◌%◌, ◌<◌, ◌≤◌, Bool, true, false, eqb, List, [], ◌∷◌, ◌++◌, length, get_or, set, sym, refl, ap, ◌∙◌, arith, length-append, length-set, get_or-set_other, get_or-set_same, eqb-true}
+use Rattle.std.proofs.Common.{◌≡◌, ℕ, suc, ◌+◌, ◌/◌, ◌%◌, ◌<◌, ◌≤◌, Bool, true, false, eqb, List, [], ◌∷◌, ◌++◌, length, get_or, set, sym}
+use Rattle.std.proofs.Common.{refl, ap, ◌∙◌, arith, length-append, length-set, get_or-set_other, get_or-set_same, eqb-true}
 use native.Mathlib.Decide.{dec_lt}
 use lib.ListN.{get_or-append}
 use lib.Seq.{get_or-append_seam}
@@ -28,7 +29,8 @@ module _ {bucket tag place : ℕ → ℕ} {hs H : ℕ} {ks xs : List ℕ} (ix : 
   -- the words of the index are the same
   indexed-same :
       (ys : List ℕ) → ((b : ℕ) → b < H → get_or ys (hs + b) 0 ≡ get_or xs (hs + b) 0)
-      → ((e : ℕ) → e < length ks → get_or ys (place (get_or ks e 0)) 0 ≡ get_or xs (place (get_or ks e 0)) 0) → Indexed bucket tag place hs H ks ys
+      → ((e : ℕ) → e < length ks → get_or ys (place (get_or ks e 0)) 0 ≡ get_or xs (place (get_or ks e 0)) 0)
+      → Indexed bucket tag place hs H ks ys
   indexed-same ys h l = record {
     heads = λ b m. h b m ∙ ix.heads b m;
     links = λ e m. l e m ∙ ix.links e m;

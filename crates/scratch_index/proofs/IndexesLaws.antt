@@ -1,6 +1,7 @@
 -- All indexes together: they stay where words before them are written, and grow by one entry where it is added. In each law the words are
 -- those that the code leaves.
-use Rattle.std.proofs.Common.{◌≡◌, ℕ, zero, suc, ◌+◌, ◌*◌, ◌<◌, ◌≤◌, Bool, true, List, [], ◌∷◌, ◌++◌, map, length, get_or, set, sym, ap, ◌∙◌, subst, arith}
+use Rattle.std.proofs.Common.{◌≡◌, ℕ, zero, suc, ◌+◌, ◌*◌, ◌<◌, ◌≤◌, Bool, true, List, [], ◌∷◌, ◌++◌, map, length, get_or, set, sym, ap}
+use Rattle.std.proofs.Common.{◌∙◌, subst, arith}
 use mathlib.Core.List.{map-append}
 use lib.Seq.{sets}
 use Rattle.expr_chains.proofs.NameLaws.{name-self}
@@ -15,7 +16,8 @@ use Rattle.scratch_keys.specs.Keys.{name_of}
 use Rattle.scratch_keys.specs.Used.{ConstKey, TokenKey, ChainKey, NameKey}
 use Rattle.scratch.specs.declared.Layout.{Layout}
 use Rattle.scratch.specs.declared.Index.{Index}
-use Rattle.scratch.specs.Places.{Small, links_at, consts_at, tokens_at, chains_at, names_at, memos_at, memos_from, sums_from, index_end, region}
+use Rattle.scratch.specs.Places.{Small, links_at, consts_at, tokens_at, chains_at, names_at, memos_at, memos_from, sums_from, index_end}
+use Rattle.scratch.specs.Places.{region}
 use Rattle.scratch.specs.Places.{const_index, token_index, chain_index, name_index}
 use Rattle.scratch.proofs.RegionLaws.{region-before, region-behind}
 use Rattle.scratch.proofs.PlaceLaws.{name-lies, const-lies, token-lies, chain-lies, memos-lie}

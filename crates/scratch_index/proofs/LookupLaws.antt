@@ -1,6 +1,9 @@
 -- A search as the code makes it: heads, keys and links are words. Each step of its loop from what is read, and its answers, where
 -- `Sought` holds.
-use Rattle.std.proofs.Common.{◌≡◌, ℕ, suc, ◌+◌, ◌-◌, ◌/◌, ◌%◌, ◌<◌, ◌≤◌, Bool, true, false, eqb, List, length, get_or, sym, refl, ap, ◌∙◌, subst, true≢false, arith, eq-eqb, ne_eqb, eqb-true}
+use Rattle.std.proofs.Common.{◌≡◌, ℕ, suc, ◌+◌, ◌-◌, ◌/◌, ◌%◌, ◌<◌, ◌≤◌, Bool, true, false, eqb, List, length, get_or, sym, refl, ap, ◌∙◌}
+use Rattle.std.proofs.Common.{subst, true≢false, arith, eq-eqb, ne_eqb, eqb-true}
+use Rattle.std.specs.Prelude.{Option, Some, None}
+use Rattle.std.specs.Option.{unwrap_or}
 use borrow.Author.Tests.{eqb-false}
 use Rattle.laws.proofs.Bool.{false-unless}
 use Rattle.scratch.specs.declared.Index.{Index}
@@ -9,7 +12,7 @@ use Rattle.scratch.proofs.RegionLaws.{region-length, region-at}
 use Rattle.scratch_index.specs.Prev.{prev}
 use Rattle.scratch_index.specs.Indexed.{ranked}
 use Rattle.scratch_index.specs.Table.{bucket_of, tag_of, head_at, link_at}
-use Rattle.scratch_index.specs.Lookup.{bucket_by, tag_by, place_by, Sought, Finds, hit_by}
+use Rattle.scratch_index.specs.Lookup.{bucket_by, tag_by, place_by, Sought, Finds, Seeks, hit_by}
 use Rattle.scratch_index.proofs.PrevLaws.{prev-within}
 use Rattle.scratch_index.proofs.SearchLaws.{Seek, seek-starts, seek-goes, seek-ends, seek_finds}
 use Rattle.scratch_index.proofs.IndexedLaws.{link-next, link_tag}
@@ -34,6 +37,27 @@ pub finds-at :
     {P : ℕ → Bool} {hash slot : ℕ → ℕ} {ix iy : Index} {n h : ℕ} {xs : List ℕ} {r : ℕ} → ix ≡ iy → Finds P hash slot ix n h xs r
     → Finds P hash slot iy n h xs r
 finds-at {P} {hash} {slot} {ix} {iy} {n} {h} {xs} {r} e f = subst (λ (i : Index). Finds P hash slot i n h xs r) e f
+
+-- the same answer in other words
+pub finds-as :
+    {P : ℕ → Bool} {hash slot : ℕ → ℕ} {ix : Index} {n h : ℕ} {xs : List ℕ} {r t : ℕ} → t ≡ r → Finds P hash slot ix n h xs r
+    → Finds P hash slot ix n h xs t
+finds-as {P} {hash} {slot} {ix} {n} {h} {xs} {r} {t} e f = record { found = λ q. e ∙ f.found q }
+
+-- the answer, or none
+module _ {P : ℕ → Bool} {hash slot : ℕ → ℕ} {ix : Index} {n h : ℕ} {xs : List ℕ} where
+  pub seeks-some : {r : ℕ} → Finds P hash slot ix n h xs r → (Sought P hash slot ix n h xs → r < n) → Seeks P hash slot ix n h xs (Some r)
+  seeks-some {r} f l = record { found = f; there = λ q t e. let k = l q in let z : t ≡ r = cc in omega arith }
+
+  pub seeks-none : Finds P hash slot ix n h xs n → Seeks P hash slot ix n h xs None
+  seeks-none f = record { found = f; there = λ q t e. cc }
+
+  -- the answer, as a match tells it
+  pub finds-some : {o : Option ℕ} {r : ℕ} → Seeks P hash slot ix n h xs o → o ≡ Some r → Finds P hash slot ix n h xs r
+  finds-some {o} {r} s e = subst (λ (a : Option ℕ). Finds P hash slot ix n h xs (unwrap_or a n)) e s.found
+
+  pub finds-none : {o : Option ℕ} → Seeks P hash slot ix n h xs o → o ≡ None → Finds P hash slot ix n h xs n
+  finds-none {o} s e = subst (λ (a : Option ℕ). Finds P hash slot ix n h xs (unwrap_or a n)) e s.found
 
 module _ (P : ℕ → Bool) (hash slot : ℕ → ℕ) (ix : Index) (n h : ℕ) (xs : List ℕ) where
   same-bucket : Sought P hash slot ix n h xs → (k : ℕ) → P k ≡ true → bucket_by hash ix k ≡ bucket_of ix.count h
@@ -119,6 +143,10 @@ module _ (P : ℕ → Bool) (hash slot : ℕ → ℕ) (ix : Index) (n h : ℕ) (
             (seek-goes P (bucket_by hash ix) (bucket_of ix.count h) (region ix.at n xs) (same-bucket q) e (here q)
             (ap P (key-is q) ∙ fails q p));
       }
+
+      -- what is found is there
+      pub lookup-there : Sought P hash slot ix n h xs → e < n
+      lookup-there q = let l = count q in let i = inside q in omega arith
 
       -- a link that does not lead back is not met
       pub lookup-falls : c ≤ v % 524288 → Finds P hash slot ix n h xs n

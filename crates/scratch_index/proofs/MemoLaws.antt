@@ -1,11 +1,24 @@
 -- Memos: a hit is right, a write keeps the others, all zeros are true, and what is right stays so where the answers only grow.
-use Rattle.std.proofs.Common.{◌≡◌, ℕ, ◌+◌, ◌*◌, ◌%◌, ◌<◌, ◌≤◌, Bool, true, false, eqb, List, length, get_or, set, sym, refl, ap, ◌∙◌, subst, arith, length-set, get_or-set_other, get_or-set_same, eqb-true}
+use Rattle.std.proofs.Common.{◌≡◌, ℕ, ◌+◌, ◌*◌, ◌%◌, ◌<◌, ◌≤◌, Bool, true, false, eqb, List, length, get_or, set, sym, refl, ap, ◌∙◌, subst}
+use Rattle.std.proofs.Common.{arith, length-set, get_or-set_other, get_or-set_same, eqb-true}
 use borrow.Author.Tests.{eqb-false}
 use Rattle.lowering.specs.Pools.{Name, name, same_name}
 use Rattle.scratch.specs.Places.{memo_pairs, memo_words}
 use Rattle.expr_chains.proofs.Grow.{Grows}
 use Rattle.expr_chains.proofs.FindLaws.{grown-same, grown-within}
-use Rattle.scratch_index.specs.Memo.{Told, memo_at, remembered, NameAt}
+use Rattle.std.specs.Prelude.{Some, None}
+use Rattle.scratch_index.specs.Memo.{Told, memo_at, remembered, recalled, NameAt}
+
+-- what a memo tells, by whether it knows the text
+module _ (ms t : ℕ) (xs : List ℕ) where
+  pub recalled-known : (p : ℕ) → eqb (get_or xs (memo_at ms t) 0) (t + 1) ≡ true → p ≡ get_or xs (memo_at ms t + 1) 0
+      → Some p ≡ recalled ms t xs
+  unfolding recalled
+  recalled-known p k e = rw (k, recalled) (ap Some e)
+
+  pub recalled-unknown : eqb (get_or xs (memo_at ms t) 0) (t + 1) ≡ false → None ≡ recalled ms t xs
+  unfolding recalled
+  recalled-unknown k = rw (k, recalled)
 
 module _ {Right : ℕ → ℕ → Type 0} {ms : ℕ} {xs : List ℕ} where
   -- nothing is told yet

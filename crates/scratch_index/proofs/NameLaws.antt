@@ -65,7 +65,8 @@ module _ (s : List ℕ) where
   name-whole k = refl
 
   -- from what the code read of key k: its text t, and whether it is marked
-  pub name-read : (k : ℕ) {t : ℕ} {b : Bool} → t ≡ (name_of s k).text → b ≡ is_marked s (key_node k) (key_field k) → name_with s t b ≡ name_of s k
+  pub name-read : (k : ℕ) {t : ℕ} {b : Bool} → t ≡ (name_of s k).text → b ≡ is_marked s (key_node k) (key_field k)
+      → name_with s t b ≡ name_of s k
   name-read k e f = ap₂ (name_with s) e f ∙ sym (name-whole k)
 
   pub with-plain : (t : ℕ) → name_with s t false ≡ name t 0

@@ -45,7 +45,8 @@ name-slots s i j a b e =
         let dot = ap (kind s) p ∙ y.setter (last_end (key_field m) (key_field n) l (below-three n) q) in
         omega arith
 
-    by : key_node i ≡ key_node j → (key_field i + 1) % 2 ≡ (key_field j + 1) % 2 → Dec (key_field i < key_field j) → Dec (key_field j < key_field i)
+    by : key_node i ≡ key_node j → (key_field i + 1) % 2 ≡ (key_field j + 1) % 2 → Dec (key_field i < key_field j)
+        → Dec (key_field j < key_field i)
         → i ≡ j
     by p q (yes l) m = absurd (never i j a b p q l)
     by p q (no l) (yes m) = absurd (never j i b a (sym p) (sym q) m)

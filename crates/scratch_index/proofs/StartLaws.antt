@@ -5,7 +5,8 @@ use Rattle.expr_chains.specs.Same.{same_nodes}
 use Rattle.scratch.specs.declared.Layout.{Layout}
 use Rattle.scratch.specs.declared.Index.{Index}
 use Rattle.scratch.specs.Clear.{cleared}
-use Rattle.scratch.specs.Places.{Small, memo_pairs, memo_words, memos_at, memos_from, sums_from, heads_at, index_end, name_heads, const_heads}
+use Rattle.scratch.specs.Places.{Small, memo_pairs, memo_words, memos_at, memos_from, sums_from, heads_at, index_end, name_heads}
+use Rattle.scratch.specs.Places.{const_heads}
 use Rattle.scratch.specs.Places.{token_heads, cleared_index}
 use Rattle.scratch.proofs.ClearLaws.{cleared-length, cleared-other, cleared-zero}
 use Rattle.scratch.proofs.PlaceLaws.{memos-lie, sums-lie, index-fits}

@@ -7,7 +7,8 @@ use Rattle.expr_chains.specs.Same.{same_nodes}
 use Rattle.scratch_keys.specs.Used.{ConstKey, TokenKey, ChainKey}
 use Rattle.scratch.specs.declared.Layout.{Layout}
 use Rattle.scratch.specs.declared.Index.{Index}
-use Rattle.scratch.specs.Places.{Small, consts_at, tokens_at, chains_at, names_at, sums_from, const_index, token_index, chain_index, name_index}
+use Rattle.scratch.specs.Places.{Small, consts_at, tokens_at, chains_at, names_at, sums_from, const_index, token_index, chain_index}
+use Rattle.scratch.specs.Places.{name_index}
 use Rattle.scratch_folds.specs.Sums.{Sums}
 use Rattle.scratch_index.specs.Table.{head_at, link_at, tag_of, noted_by}
 use Rattle.scratch_index.specs.Pool.{Pool}

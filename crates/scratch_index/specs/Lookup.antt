@@ -1,6 +1,7 @@
 -- A search as a contract: where the index holds, the first key that passes a test is found. `hash` and `slot` are functions of the keys,
 -- n of which stand from `ix.at` on.
-use Rattle.std.specs.Prelude.{◌≡◌, ℕ, ◌+◌, ◌<◌, ◌≤◌, Bool, true, false, List, length, ◌==◌, slice_index}
+use Rattle.std.specs.Prelude.{◌≡◌, ℕ, ◌+◌, ◌<◌, ◌≤◌, Bool, true, false, Option, Some, List, length, ◌==◌, slice_index}
+use Rattle.std.specs.Option.{unwrap_or}
 use Rattle.lowering.specs.Pools.{first_where}
 use Rattle.scratch.specs.declared.Index.{Index}
 use Rattle.scratch.specs.Places.{region}
@@ -38,6 +39,11 @@ pub record Sought (P : ℕ → Bool) (hash slot : ℕ → ℕ) (ix : Index) (n h
 -- the answer r
 pub record Finds (P : ℕ → Bool) (hash slot : ℕ → ℕ) (ix : Index) (n h : ℕ) (xs : List ℕ) (r : ℕ) : Type 0 where
   pub found : Sought P hash slot ix n h xs → r ≡ first_where P (region ix.at n xs)
+
+-- the answer o, if there is one: it is below n
+pub record Seeks (P : ℕ → Bool) (hash slot : ℕ → ℕ) (ix : Index) (n h : ℕ) (xs : List ℕ) (o : Option ℕ) : Type 0 where
+  pub found : Finds P hash slot ix n h xs (unwrap_or o n)
+  pub there : Sought P hash slot ix n h xs → (r : ℕ) → o ≡ Some r → r < n
 
 -- an entry is the one: the tag is looked at first
 unfoldable pub hit_by : ℕ → ℕ → Bool → Bool

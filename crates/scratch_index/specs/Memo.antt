@@ -1,5 +1,5 @@
 -- Memos: pairs (text + 1, answer), that of text t at place t mod their number, all of which are true.
-use Rattle.std.specs.Prelude.{◌≡◌, ℕ, ◌+◌, ◌*◌, ◌%◌, ◌<◌, List, length, slice_index, slice_set}
+use Rattle.std.specs.Prelude.{◌≡◌, ℕ, ◌+◌, ◌*◌, ◌%◌, ◌<◌, ◌==◌, true, false, Option, Some, None, List, length, slice_index, slice_set}
 use Rattle.lowering.specs.Pools.{Name, name, first_where, same_name}
 use Rattle.scratch.specs.Places.{memo_pairs}
 
@@ -10,6 +10,11 @@ pub record Told (Right : ℕ → ℕ → Type 0) (ms : ℕ) (xs : List ℕ) : Ty
 -- where the memo of text t stands
 abbrev pub memo_at : ℕ → ℕ → ℕ
 memo_at ms t = ms + 2 * (t % memo_pairs)
+
+-- what is told of text t, if anything is
+unfoldable pub recalled : ℕ → ℕ → List ℕ → Option ℕ
+recalled ms t xs =
+    elim (slice_index xs (memo_at ms t) == t + 1) [ true ↦ Some (slice_index xs (memo_at ms t + 1)) | false ↦ None ]
 
 -- text t has answer p
 unfoldable pub remembered : ℕ → ℕ → ℕ → List ℕ → List ℕ

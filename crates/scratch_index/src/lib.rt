@@ -2,7 +2,7 @@
 // at every place; what a search answers is known where the index holds (`Finds`, `FindsName`).
 #![tactic(auto)]
 
-ghost use Rattle.std.specs.Prelude.{◌≡◌, ◌+◌, ◌/◌, ◌==◌, slice_index};
+ghost use Rattle.std.specs.Prelude.{◌≡◌, ◌+◌, ℕ, ◌/◌, ◌==◌, Bool, slice_index};
 ghost use Rattle.sheet.specs.Limits.{max_depth};
 ghost use Rattle.sheet.specs.Node as nodes;
 ghost use Rattle.lowering.specs.Pools.{name};
@@ -13,10 +13,10 @@ ghost use Rattle.scratch.specs.Places as places;
 ghost use Rattle.scratch_folds.specs.Hash.{mix};
 ghost use Rattle.scratch_folds.specs.Sums.{BySums};
 ghost use Rattle.scratch_index.specs.Table.{head_at, link_at, tag_of, noted_by};
-ghost use Rattle.scratch_index.specs.Lookup.{hit_by, Finds};
+ghost use Rattle.scratch_index.specs.Lookup.{hit_by, Finds, Seeks};
 ghost use Rattle.scratch_index.specs.Consts.{const_slot, same_const_of, const_hash, same_token_of, token_hash};
 ghost use Rattle.scratch_index.specs.Names.{is_name, name_with, name_hash_of, name_hash, name_slot};
-ghost use Rattle.scratch_index.specs.Memo.{memo_at, remembered};
+ghost use Rattle.scratch_index.specs.Memo.{memo_at, remembered, recalled};
 ghost use Rattle.scratch_index.specs.Held.{FindsName, names_held};
 ghost use Rattle.scratch_index.specs.Chains.{ByNames, FindsChain};
 ghost use Rattle.scratch_index.specs.Chains as chains;
@@ -24,9 +24,7 @@ ghost use Rattle.scratch_index.specs.Chains as chains;
 use expr_chains::same_chain;
 use expr_rules::chains::{Read, StepRule, read_link};
 use lowering::NAMES_PER_NODE;
-use scratch::{
-    Index, Layout, MEMO_PAIRS, chain_index, get, memos_at, name_index, put, sums_at, token_index,
-};
+use scratch::{Index, Layout, MEMO_PAIRS, get, put};
 use scratch_folds::{byte_step, fold_text, hash_text, more, spread_out};
 use scratch_keys::{is_marked, same_marked, text_of};
 use sheet::kinds::{STRING, THIS, VARIABLE};
@@ -40,7 +38,6 @@ pub const RANKS: u32 = 524288;
 
 pub const TAGS: u32 = 8192;
 
-// The kind of a String.
 // `!`
 const BANG: u8 = 33;
 
@@ -99,6 +96,16 @@ pub fn recall(scratch: &[u32], ms: u32, t: u32) -> u32
     get(scratch, (ms as usize) + 2 * ((t % MEMO_PAIRS) as usize) + 1)
 }
 
+// What they say of it, if they know it.
+pub fn recalled(scratch: &[u32], ms: u32, t: u32) -> Option<u32>
+    ensures { result ≡ recalled ms t scratch.now }
+{
+    if knows(scratch, ms, t) {
+        return Some(recall(scratch, ms, t));
+    }
+    None
+}
+
 // Text `t` has answer `p`.
 pub fn remember(scratch: &mut [u32], ms: u32, t: u32, p: u32)
     ensures { scratch.new ≡ remembered ms t p scratch.old }
@@ -116,7 +123,7 @@ pub fn const_hash(sheet: &[u8], scratch: &[u32], layout: Layout, j: u32) -> u32
     let k = kind(sheet, j);
     let a = field_a(sheet, j);
     if k == STRING {
-        return hash_text(sheet, scratch, sums_at(layout), a);
+        return hash_text(sheet, scratch, layout.sums_at(), a);
     }
     number_hash(k, a, field_b(sheet, j))
 }
@@ -140,38 +147,6 @@ fn same_const(sheet: &[u8], i: u32, c: u32) -> bool
     false
 }
 
-// The entry of node `c` with link `v` has the constant of node `j`: the tag is looked at first.
-fn const_hit(sheet: &[u8], v: u32, h: u32, j: u32, c: u32) -> bool
-    ensures { result ≡ hit_by (v / 524288) (tag_of h) (same_const_of sheet.now j c) }
-{
-    if v / RANKS == h % TAGS {
-        return same_const(sheet, j, c);
-    }
-    false
-}
-
-// Where the constant of node `j`, with hash `h`, stands among the first `n`; `n` where it does not. A link that does not lead back ends the
-// search: there is none where the index holds.
-pub fn seek_const(sheet: &[u8], scratch: &[u32], ix: Index, n: u32, j: u32, h: u32) -> u32
-    ensures { Finds (same_const_of sheet.now j) (const_hash sheet.now) const_slot ix n h scratch.now result }
-{
-    let mut c = get(scratch, head(ix, h));
-    while 0 < c {
-        let e = c - 1;
-        let k = get(scratch, (ix.at as usize) + (e as usize));
-        let v = get(scratch, link(ix, k));
-        if const_hit(sheet, v, h, j, k) {
-            return e;
-        }
-        let d = v % RANKS;
-        if c <= d {
-            return n;
-        }
-        c = d;
-    }
-    n
-}
-
 // The hash of the token of node `j`.
 pub fn token_hash(sheet: &[u8], j: u32) -> u32
     ensures { result ≡ token_hash sheet.now j }
@@ -180,42 +155,12 @@ pub fn token_hash(sheet: &[u8], j: u32) -> u32
     spread_out(((t as u64 + 1) % 4294967296) as u32)
 }
 
-// The entry of node `c` with link `v` has token `t`: the tag is looked at first.
-fn token_hit(sheet: &[u8], v: u32, h: u32, j: u32, c: u32) -> bool
-    ensures { result ≡ hit_by (v / 524288) (tag_of h) (same_token_of sheet.now j c) }
-{
-    if v / RANKS == h % TAGS {
-        return field_c(sheet, j) == field_c(sheet, c);
-    }
-    false
-}
-
-// Where the token of node `j`, with hash `h`, stands among the first `n`; `n` where it does not.
-fn seek_token(sheet: &[u8], scratch: &[u32], ix: Index, n: u32, j: u32, h: u32) -> u32
-    ensures { Finds (same_token_of sheet.now j) (token_hash sheet.now) const_slot ix n h scratch.now result }
-{
-    let mut c = get(scratch, head(ix, h));
-    while 0 < c {
-        let e = c - 1;
-        let k = get(scratch, (ix.at as usize) + (e as usize));
-        let v = get(scratch, link(ix, k));
-        if token_hit(sheet, v, h, j, k) {
-            return e;
-        }
-        let d = v % RANKS;
-        if c <= d {
-            return n;
-        }
-        c = d;
-    }
-    n
-}
-
 // The hash of the name with text `t`, and `!` where `m` says: one byte more. By the kept folds.
 pub fn name_hash(sheet: &[u8], scratch: &[u32], layout: Layout, t: u32, m: bool) -> u32
-    ensures { let sheet = sheet.now in BySums sheet (places.sums_from layout) scratch.now (name_hash_of sheet (name_with sheet t m)) result }
+    ensures { let sheet = sheet.now in
+        BySums sheet (places.sums_from layout) scratch.now (name_hash_of sheet (name_with sheet t m)) result }
 {
-    let f = fold_text(sheet, scratch, sums_at(layout), t);
+    let f = fold_text(sheet, scratch, layout.sums_at(), t);
     if m {
         return spread_out(byte_step(f, BANG));
     }
@@ -237,69 +182,177 @@ fn same_name(sheet: &[u8], t: u32, m: bool, c: u32) -> bool
     same_marked(sheet, c, text(sheet, t), m, text(sheet, d))
 }
 
-// The entry with key `c` and link `v` has the name with text `t` and mark `m`: the tag is looked at first.
-fn name_hit(sheet: &[u8], v: u32, h: u32, t: u32, m: bool, c: u32) -> bool
-    ensures { result ≡ hit_by (v / 524288) (tag_of h) (is_name sheet.now (name_with sheet.now t m) c) }
+// What is looked for in an index: which entries are it, and where the link of an entry stands. What `told` says is taken to be so.
+pub trait Wanted {
+    ghost told: { Self → Type 0 };
+
+    ghost same: { Self → ℕ → Bool };
+
+    ghost slot: { ℕ → ℕ };
+
+    // The entry with key `k` is it.
+    fn same(&self, k: u32) -> bool
+        ensures { told self.now → result ≡ same self.now k };
+
+    // The place of the link of the entry with key `k`.
+    fn link(&self, ix: Index, k: u32) -> usize
+        ensures { result ≡ link_at ix (slot k) };
+}
+
+// The constant of a node.
+#[derive(Clone, Copy)]
+pub struct ConstOf<'a> {
+    pub sheet: &'a [u8],
+    pub node: u32,
+}
+
+impl<'a> Wanted for ConstOf<'a> {
+    ghost told = { λ _. Unit {0} };
+
+    ghost same = { λ it k. same_const_of it.sheet.now it.node k };
+
+    ghost slot = { const_slot };
+
+    fn same(&self, k: u32) -> bool {
+        same_const(self.sheet, self.node, k)
+    }
+
+    fn link(&self, ix: Index, k: u32) -> usize {
+        link(ix, k)
+    }
+}
+
+// The token of a node.
+#[derive(Clone, Copy)]
+pub struct TokenOf<'a> {
+    pub sheet: &'a [u8],
+    pub node: u32,
+}
+
+impl<'a> Wanted for TokenOf<'a> {
+    ghost told = { λ _. Unit {0} };
+
+    ghost same = { λ it k. same_token_of it.sheet.now it.node k };
+
+    ghost slot = { const_slot };
+
+    fn same(&self, k: u32) -> bool {
+        field_c(self.sheet, self.node) == field_c(self.sheet, k)
+    }
+
+    fn link(&self, ix: Index, k: u32) -> usize {
+        link(ix, k)
+    }
+}
+
+// The name with a text, and with `!` where it is marked.
+#[derive(Clone, Copy)]
+pub struct NameWith<'a> {
+    pub sheet: &'a [u8],
+    pub text: u32,
+    pub marked: bool,
+}
+
+impl<'a> Wanted for NameWith<'a> {
+    ghost told = { λ _. Unit {0} };
+
+    ghost same = { λ it k. is_name it.sheet.now (name_with it.sheet.now it.text it.marked) k };
+
+    ghost slot = { name_slot };
+
+    fn same(&self, k: u32) -> bool {
+        same_name(self.sheet, self.text, self.marked, k)
+    }
+
+    fn link(&self, ix: Index, k: u32) -> usize {
+        name_link(ix, k)
+    }
+}
+
+// The chain of a node, where `local` tells whether its root is a local.
+#[derive(Clone, Copy)]
+pub struct ChainOf<'a> {
+    pub sheet: &'a [u8],
+    pub node: u32,
+    pub local: bool,
+}
+
+impl<'a> Wanted for ChainOf<'a> {
+    ghost told = { λ it. RootLocal it.sheet.now (nodes.child it.node) it.local };
+
+    ghost same = { λ it k. same_nodes it.sheet.now it.node k };
+
+    ghost slot = { const_slot };
+
+    fn same(&self, k: u32) -> bool {
+        same_chain(self.sheet, self.node, k, self.local)
+    }
+
+    fn link(&self, ix: Index, k: u32) -> usize {
+        link(ix, k)
+    }
+}
+
+// The entry with key `k` and link `v` is what is wanted, which has hash `h`: the tag is looked at first.
+fn hit<W: Wanted>(wanted: &W, v: u32, h: u32, k: u32) -> bool
+    ensures { W.told wanted.now → result ≡ hit_by (v / 524288) (tag_of h) (W.same wanted.now k) }
 {
     if v / RANKS == h % TAGS {
-        return same_name(sheet, t, m, c);
+        return wanted.same(k);
     }
     false
+}
+
+// Where what is wanted, with hash `h`, stands in the index, however many entries it has. A link that does not lead back ends the search:
+// there is none where the index holds.
+pub fn seek<W: Wanted>(wanted: &W, scratch: &[u32], ix: Index, h: u32) -> Option<u32>
+    ensures { (hash : ℕ → ℕ) (n : ℕ) → W.told wanted.now → Seeks (W.same wanted.now) hash W.slot ix n h scratch.now result }
+{
+    let mut c = get(scratch, head(ix, h));
+    // Kept: the loop goes along links, and counts no index.
+    while 0 < c {
+        let e = c - 1;
+        let k = get(scratch, (ix.at as usize) + (e as usize));
+        let v = get(scratch, wanted.link(ix, k));
+        if hit(wanted, v, h, k) {
+            return Some(e);
+        }
+        let d = v % RANKS;
+        if c <= d {
+            return None;
+        }
+        c = d;
+    }
+    None
+}
+
+// Where the constant of node `j`, with hash `h`, stands among the first `n`; `n` where it does not.
+pub fn seek_const(sheet: &[u8], scratch: &[u32], ix: Index, n: u32, j: u32, h: u32) -> u32
+    ensures { Finds (same_const_of sheet.now j) (const_hash sheet.now) const_slot ix n h scratch.now result }
+{
+    let wanted = ConstOf { sheet, node: j };
+    seek(&wanted, scratch, ix, h).unwrap_or(n)
 }
 
 // Where the name with text `t` and mark `m`, with hash `h`, stands among the first `n`; `n` where it does not.
 pub fn seek_name(sheet: &[u8], scratch: &[u32], ix: Index, n: u32, t: u32, m: bool, h: u32) -> u32
     ensures { let sheet = sheet.now in Finds (is_name sheet (name_with sheet t m)) (name_hash sheet) name_slot ix n h scratch.now result }
 {
-    let mut c = get(scratch, head(ix, h));
-    while 0 < c {
-        let e = c - 1;
-        let k = get(scratch, (ix.at as usize) + (e as usize));
-        let v = get(scratch, name_link(ix, k));
-        if name_hit(sheet, v, h, t, m, k) {
-            return e;
-        }
-        let d = v % RANKS;
-        if c <= d {
-            return n;
-        }
-        c = d;
-    }
-    n
+    let wanted = NameWith {
+        sheet,
+        text: t,
+        marked: m,
+    };
+    seek(&wanted, scratch, ix, h).unwrap_or(n)
 }
 
 // Where the token of node `j`, with hash `h`, stands among the `n` that the scratch holds; `n` where it does not.
 pub fn find_token(sheet: &[u8], scratch: &[u32], layout: Layout, n: u32, j: u32, h: u32) -> u32
-    ensures { let sheet = sheet.now in Finds (same_token_of sheet j) (token_hash sheet) const_slot (places.token_index layout) n h scratch.now result }
+    ensures { let sheet = sheet.now in
+        Finds (same_token_of sheet j) (token_hash sheet) const_slot (places.token_index layout) n h scratch.now result }
 {
-    seek_token(sheet, scratch, token_index(layout), n, j, h)
-}
-
-// The same of the name with text `t` and mark `m`.
-fn find_name(sheet: &[u8], scratch: &[u32], layout: Layout, n: u32, t: u32, m: bool, h: u32) -> u32
-    ensures { let sheet = sheet.now in Finds (is_name sheet (name_with sheet t m)) (name_hash sheet) name_slot (places.name_index layout) n h
-        scratch.now result }
-{
-    seek_name(sheet, scratch, name_index(layout), n, t, m, h)
-}
-
-// The place of the name with text `t` and no mark among the `n` names: the memo is asked first.
-pub fn text_place(sheet: &[u8], scratch: &[u32], layout: Layout, n: u32, t: u32) -> u32
-    ensures { FindsName sheet.now layout n (name t 0) scratch.now result }
-{
-    let ms = memos_at(layout);
-    if knows(scratch, ms, t) {
-        return recall(scratch, ms, t);
-    }
-    find_name(
-        sheet,
-        scratch,
-        layout,
-        n,
-        t,
-        false,
-        name_hash(sheet, scratch, layout, t, false),
-    )
+    let wanted = TokenOf { sheet, node: j };
+    seek(&wanted, scratch, layout.token_index(), h).unwrap_or(n)
 }
 
 // One link more of a hash: link `c`, an index, which is taken with `v`.
@@ -309,132 +362,143 @@ fn index_hash(sheet: &[u8], h: u32, c: u32, v: u32) -> u32
     more(more(more(h, 0), position(sheet, c)), start_of(sheet, v))
 }
 
-// Property `v`, by the places of its three names.
-fn property_hash(sheet: &[u8], scratch: &[u32], layout: Layout, n: u32, h: u32, v: u32) -> u32
-    ensures { let sheet = sheet.now in let words = scratch.now in ByNames sheet layout n words (chains.property_hash sheet (names_held sheet layout n words) h v) result }
-{
-    let a = text_place(sheet, scratch, layout, n, field_a(sheet, v));
-    let b = text_place(sheet, scratch, layout, n, field_b(sheet, v));
-    let c = text_place(sheet, scratch, layout, n, field_c(sheet, v));
-    more(more(more(more(more(h, 1), position(sheet, v)), a), b), c)
+// The first `count` names that the scratch holds for a sheet.
+#[derive(Clone, Copy)]
+pub struct Names<'a> {
+    pub sheet: &'a [u8],
+    pub scratch: &'a [u32],
+    pub layout: Layout,
+    pub count: u32,
 }
 
-// Method `v`, by the place of its name.
-fn method_hash(sheet: &[u8], scratch: &[u32], layout: Layout, n: u32, h: u32, v: u32) -> u32
-    ensures { let sheet = sheet.now in let words = scratch.now in ByNames sheet layout n words (chains.method_hash sheet (names_held sheet layout n words) h v) result }
-{
-    let a = text_place(sheet, scratch, layout, n, field_a(sheet, v));
-    more(
-        more(more(more(h, 2), position(sheet, v)), count(sheet, v)),
-        a,
-    )
-}
-
-// Link `c`, which says `p`.
-fn link_hash(sheet: &[u8], scratch: &[u32], layout: Layout, n: u32, h: u32, c: u32, p: Read) -> u32
-    ensures { let sheet = sheet.now in let words = scratch.now in (Reads sheet c p → ByNames sheet layout n words (chains.link_hash sheet (names_held sheet layout n words) h c) result) }
-{
-    let r = p.rule;
-    let v = p.with;
-    let g = more(h, p.flag);
-    match r {
-        StepRule::Index => index_hash(sheet, g, c, v),
-        StepRule::Property => property_hash(sheet, scratch, layout, n, g, v),
-        StepRule::Method => method_hash(sheet, scratch, layout, n, g, v),
-        StepRule::Nothing => g,
+impl<'a> Names<'a> {
+    // The place of the name with text `t` and no mark among them: the memo is asked first.
+    pub fn place(&self, t: u32) -> u32
+        ensures { let it = self.now in FindsName it.sheet.now it.layout it.count (name t 0) it.scratch.now result }
+    {
+        if let Some(at) = recalled(self.scratch, self.layout.memos_at(), t) {
+            return at;
+        }
+        let h = name_hash(self.sheet, self.scratch, self.layout, t, false);
+        seek_name(
+            self.sheet,
+            self.scratch,
+            self.layout.name_index(),
+            self.count,
+            t,
+            false,
+            h,
+        )
     }
-}
 
-// All links of the chain of node `j`.
-fn links_hash(sheet: &[u8], scratch: &[u32], layout: Layout, n: u32, j: u32) -> u32
-    ensures { let sheet = sheet.now in let words = scratch.now in ByNames sheet layout n words (chains.links_hash sheet (names_held sheet layout n words) 1 (links max_depth sheet j)) result }
-{
-    let mut left = MAX_DEPTH;
-    let mut h: u32 = 1;
-    let mut c = j;
-    while 0 < left {
-        let p = read_link(sheet, c);
-        h = link_hash(sheet, scratch, layout, n, h, c, p);
-        if p.on {
-            c = p.rest;
-            left -= 1;
-        } else {
-            return h;
+    // Property `v`, by the places of its three names.
+    fn property_hash(&self, h: u32, v: u32) -> u32
+        ensures { let it = self.now in let sheet = it.sheet.now in let words = it.scratch.now in ByNames sheet it.layout it.count words
+            (chains.property_hash sheet (names_held sheet it.layout it.count words) h v) result }
+    {
+        let a = self.place(field_a(self.sheet, v));
+        let b = self.place(field_b(self.sheet, v));
+        let c = self.place(field_c(self.sheet, v));
+        more(
+            more(more(more(more(h, 1), position(self.sheet, v)), a), b),
+            c,
+        )
+    }
+
+    // Method `v`, by the place of its name.
+    fn method_hash(&self, h: u32, v: u32) -> u32
+        ensures { let it = self.now in let sheet = it.sheet.now in let words = it.scratch.now in ByNames sheet it.layout it.count words
+            (chains.method_hash sheet (names_held sheet it.layout it.count words) h v) result }
+    {
+        let a = self.place(field_a(self.sheet, v));
+        more(
+            more(
+                more(more(h, 2), position(self.sheet, v)),
+                count(self.sheet, v),
+            ),
+            a,
+        )
+    }
+
+    // Link `c`, which says `p`.
+    fn link_hash(&self, h: u32, c: u32, p: Read) -> u32
+        ensures { let it = self.now in let sheet = it.sheet.now in let words = it.scratch.now in (Reads sheet c p
+            → ByNames sheet it.layout it.count words (chains.link_hash sheet (names_held sheet it.layout it.count words) h c) result) }
+    {
+        let r = p.rule;
+        let v = p.with;
+        let g = more(h, p.flag);
+        match r {
+            StepRule::Index => index_hash(self.sheet, g, c, v),
+            StepRule::Property => self.property_hash(g, v),
+            StepRule::Method => self.method_hash(g, v),
+            StepRule::Nothing => g,
         }
     }
-    h
-}
 
-// Root `v`, where `local` tells whether it is a local.
-fn root_hash(
-    sheet: &[u8],
-    scratch: &[u32],
-    layout: Layout,
-    n: u32,
-    h: u32,
-    v: u32,
-    local: bool,
-) -> u32
-    ensures { let sheet = sheet.now in let words = scratch.now in (RootLocal sheet v local → ByNames sheet layout n words (chains.root_hash sheet (names_held sheet layout n words) h v) result) }
-{
-    let k = kind(sheet, v);
-    if k == VARIABLE {
-        let f = more(
-            more(h, k),
-            text_place(sheet, scratch, layout, n, field_a(sheet, v)),
-        );
-        if local {
-            return f;
+    // All links of the chain of node `j`.
+    fn links_hash(&self, j: u32) -> u32
+        ensures { let it = self.now in let sheet = it.sheet.now in let words = it.scratch.now in ByNames sheet it.layout it.count words
+            (chains.links_hash sheet (names_held sheet it.layout it.count words) 1 (links max_depth sheet j)) result }
+    {
+        let mut h: u32 = 1;
+        let mut c = j;
+        for _passed in 0..MAX_DEPTH {
+            let p = read_link(self.sheet, c);
+            h = self.link_hash(h, c, p);
+            if p.on {
+                c = p.rest;
+            } else {
+                return h;
+            }
         }
-        return more(f, position(sheet, v));
+        h
     }
-    if k == THIS {
-        return more(more(h, k), position(sheet, v));
+
+    // Root `v`, where `local` tells whether it is a local.
+    fn root_hash(&self, h: u32, v: u32, local: bool) -> u32
+        ensures { let it = self.now in let sheet = it.sheet.now in let words = it.scratch.now in (RootLocal sheet v local
+            → ByNames sheet it.layout it.count words (chains.root_hash sheet (names_held sheet it.layout it.count words) h v) result) }
+    {
+        let k = kind(self.sheet, v);
+        if k == VARIABLE {
+            let f = more(more(h, k), self.place(field_a(self.sheet, v)));
+            if local {
+                return f;
+            }
+            return more(f, position(self.sheet, v));
+        }
+        if k == THIS {
+            return more(more(h, k), position(self.sheet, v));
+        }
+        more(h, 0)
     }
-    more(h, 0)
+
+    // The hash of the chain of node `j`, where `local` tells whether its root is a local.
+    pub fn chain_hash(&self, j: u32, local: bool) -> u32
+        ensures { let it = self.now in let sheet = it.sheet.now in let words = it.scratch.now in (RootLocal sheet (nodes.child j) local
+            → ByNames sheet it.layout it.count words (chains.chain_hash sheet (names_held sheet it.layout it.count words) j) result) }
+    {
+        let h = self.links_hash(j);
+        spread_out(self.root_hash(h, child(j), local))
+    }
 }
 
-// The hash of the chain of node `j`, where `local` tells whether its root is a local.
+// The same over the first `n` names.
 pub fn chain_hash(sheet: &[u8], scratch: &[u32], layout: Layout, n: u32, j: u32, local: bool) -> u32
     ensures { let sheet = sheet.now in let words = scratch.now in (RootLocal sheet (nodes.child j) local
         → ByNames sheet layout n words (chains.chain_hash sheet (names_held sheet layout n words) j) result) }
 {
-    let h = links_hash(sheet, scratch, layout, n, j);
-    spread_out(root_hash(sheet, scratch, layout, n, h, child(j), local))
+    let names = Names {
+        sheet,
+        scratch,
+        layout,
+        count: n,
+    };
+    names.chain_hash(j, local)
 }
 
-// The entry of node `c` with link `v` has the chain of node `j`: the tag is looked at first.
-fn chain_hit(sheet: &[u8], v: u32, h: u32, j: u32, c: u32, local: bool) -> bool
-    ensures { RootLocal sheet.now (nodes.child j) local → result ≡ hit_by (v / 524288) (tag_of h) (same_nodes sheet.now j c) }
-{
-    if v / RANKS == h % TAGS {
-        return same_chain(sheet, j, c, local);
-    }
-    false
-}
-
-// Where the chain of node `j`, with hash `h`, stands among the first `n`; `n` where it does not.
-fn seek_chain(sheet: &[u8], scratch: &[u32], ix: Index, n: u32, j: u32, h: u32, local: bool) -> u32
-    ensures { FindsChain sheet.now j local ix n h scratch.now result }
-{
-    let mut c = get(scratch, head(ix, h));
-    while 0 < c {
-        let e = c - 1;
-        let k = get(scratch, (ix.at as usize) + (e as usize));
-        let v = get(scratch, link(ix, k));
-        if chain_hit(sheet, v, h, j, k, local) {
-            return e;
-        }
-        let d = v % RANKS;
-        if c <= d {
-            return n;
-        }
-        c = d;
-    }
-    n
-}
-
-// Where it stands among the `n` that the scratch holds; `n` where it does not.
+// Where the chain of node `j`, with hash `h`, stands among the `n` that the scratch holds; `n` where it does not.
 pub fn find_chain(
     sheet: &[u8],
     scratch: &[u32],
@@ -446,5 +510,10 @@ pub fn find_chain(
 ) -> u32
     ensures { FindsChain sheet.now j local (places.chain_index layout) n h scratch.now result }
 {
-    seek_chain(sheet, scratch, chain_index(layout), n, j, h, local)
+    let wanted = ChainOf {
+        sheet,
+        node: j,
+        local,
+    };
+    seek(&wanted, scratch, layout.chain_index(), h).unwrap_or(n)
 }

@@ -1,5 +1,5 @@
 -- Laws of bytes with `!` added or not, in the shapes of the code.
-use Prim.Native.Nat.{ℕ, suc, ◌-◌, ◌<◌}
+use Prim.Native.Nat.{ℕ, suc, ◌+◌, ◌-◌, ◌<◌}
 use mathlib.Core.Path.{◌≡◌, refl, sym, ap, ◌∙◌}
 use mathlib.Core.Bool.{Bool, true, false, not, false≢true}
 use mathlib.Core.List.{List, [], ◌∷◌, ◌++◌, append-nil}
@@ -37,14 +37,16 @@ module _ (x y : List ℕ) where
   pub bang-none : length y ≡ 0 → same (with_bang x) y ≡ false
   bang-none h = same-lengths (with_bang x) y (λ e. omega (arith, long x))
 
-  pub bang-other : (length y ≡ 0 → ⊥) → (get_or y (length y - 1) 0 ≡ bang → ⊥) → same (with_bang x) y ≡ false
+  bang-other : (length y ≡ 0 → ⊥) → (get_or y (length y - 1) 0 ≡ bang → ⊥) → same (with_bang x) y ≡ false
   bang-other h n =
       same_false (with_bang x) y
       (λ e.
       let l : length y - 1 ≡ length x = omega (arith, long x, ap length e) in
-      n (ap (λ (z : List ℕ). get_or z (length y - 1) 0) (sym e) ∙ ap (λ (i : ℕ). get_or (with_bang x) i 0) l ∙ get_or-append_seam x bang [] 0))
+      n (ap (λ (z : List ℕ). get_or z (length y - 1) 0) (sym e)
+      ∙ ap (λ (i : ℕ). get_or (with_bang x) i 0) l
+      ∙ get_or-append_seam x bang [] 0))
 
-  pub bang-last : (length y ≡ 0 → ⊥) → get_or y (length y - 1) 0 ≡ bang → same (with_bang x) y ≡ same x (take (length y - 1) y)
+  bang-last : (length y ≡ 0 → ⊥) → get_or y (length y - 1) 0 ≡ bang → same (with_bang x) y ≡ same x (take (length y - 1) y)
   bang-last h e = by (same x (take (length y - 1) y)) refl
     where
       by : (t : Bool) → same x (take (length y - 1) y) ≡ t → same (with_bang x) y ≡ t
@@ -59,6 +61,29 @@ module _ (x y : List ℕ) where
           (λ q.
           let l : length x ≡ length y - 1 = omega (arith, long x, ap length q) in
           apart x (take (length y - 1) y) k (sym (take_at x (bang ∷ []) (length y - 1) l) ∙ ap (take (length y - 1)) q))
+
+  -- the same where y is cut before its last byte
+  module _ (front : List ℕ) (b : ℕ) (e : y ≡ front ++ (b ∷ [])) (l : length front + 1 ≡ length y) where
+    last-at : length y - 1 ≡ length front
+    last-at = omega arith
+
+    last-is : get_or y (length y - 1) 0 ≡ b
+    last-is =
+        ap (λ (z : List ℕ). get_or z (length y - 1) 0) e
+        ∙ ap (λ (i : ℕ). get_or (front ++ (b ∷ [])) i 0) last-at
+        ∙ get_or-append_seam front b [] 0
+
+    front-is : take (length y - 1) y ≡ front
+    front-is =
+        ap (λ (z : List ℕ). take (length y - 1) z) e
+        ∙ ap (λ (i : ℕ). take i (front ++ (b ∷ []))) last-at
+        ∙ take-append_seam front (b ∷ [])
+
+    pub ends-other : (b ≡ bang → ⊥) → same (with_bang x) y ≡ false
+    ends-other n = bang-other (λ z. omega arith) (λ q. n (sym last-is ∙ q))
+
+    pub ends-bang : b ≡ bang → same (with_bang x) y ≡ same x front
+    ends-bang q = bang-last (λ z. omega arith) (last-is ∙ q) ∙ ap (same x) front-is
 
   -- texts of one length
   pub texts-differ : (m n : Bool) → length x ≡ length y → same x y ≡ false → same (marked x m) (marked y n) ≡ false

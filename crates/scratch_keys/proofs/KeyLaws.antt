@@ -3,6 +3,7 @@ use Prim.Native.Nat.{ℕ, ◌+◌, ◌<◌}
 use mathlib.Core.Path.{◌≡◌, refl, sym, ap, ap₂, ◌∙◌}
 use mathlib.Core.Bool.{Bool, true, false, ◌&&◌, not}
 use mathlib.Core.List.{List}
+use Rattle.std.specs.Int.{from_bool}
 use native.Mathlib.Omega.{arith}
 use lib.Dec.{eqb}
 use borrow.Author.Tests.{ne_eqb, eqb-true, eqb-false}
@@ -57,13 +58,14 @@ module _ (s : List ℕ) where
       ap (λ (b : Bool). mark_by (eqb f 0 && b && not (stores_token s j) && eqb (field_b s j) 1)) (ne_eqb (kind s j) call_kind n)
       ∙ ap mark_by (off (eqb f 0) (not (stores_token s j)) (eqb (field_b s j) 1))
 
-  pub mark_on : (k : ℕ) → is_marked s (key_node k) (key_field k) ≡ true → (name_of s k).mark ≡ 1
-  unfolding name_of mark_of mark_by
-  mark_on k h = ap mark_by h
+  mark-byte : (b : Bool) → from_bool b ≡ mark_by b
+  unfolding mark_by
+  mark-byte true = refl
+  mark-byte false = refl
 
-  pub mark-off : (k : ℕ) → is_marked s (key_node k) (key_field k) ≡ false → (name_of s k).mark ≡ 0
-  unfolding name_of mark_of mark_by
-  mark-off k h = ap mark_by h
+  pub mark-told : (k : ℕ) {b : Bool} {r : ℕ} → b ≡ is_marked s (key_node k) (key_field k) → r ≡ from_bool b → r ≡ (name_of s k).mark
+  unfolding name_of mark_of
+  mark-told k {b} e f = f ∙ mark-byte b ∙ ap mark_by e
 
   -- the text of a name, in the shapes of the code
   pub text_at : (k : ℕ) → (key_field k ≡ 2 → ⊥) → field s (key_node k) (3 + key_field k) ≡ (name_of s k).text

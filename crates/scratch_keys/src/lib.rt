@@ -12,9 +12,7 @@ use lowering::NAMES_PER_NODE;
 use sheet::kinds::FN_CALL;
 use sheet::{field, field_b, field_c, kind};
 use text::same_bytes;
-use words::part;
 
-// The node kind that is asked for by name.
 // `!`
 const BANG: u8 = 33;
 
@@ -44,23 +42,18 @@ pub fn is_marked(sheet: &[u8], k: u32) -> bool
 pub fn mark_of(sheet: &[u8], k: u32) -> u32
     ensures { result ≡ (name_of sheet.now k).mark }
 {
-    if is_marked(sheet, k) {
-        return 1;
-    }
-    0
+    u32::from(is_marked(sheet, k))
 }
 
 // `y` is `x` with `!` added.
 fn same_with_bang(x: &[u8], y: &[u8]) -> bool
     ensures { result ≡ same (with_bang x.now) y.now }
 {
-    let n = y.len();
-    if n == 0 {
-        return false;
-    }
-    let last = n - 1;
-    if y[last] == BANG {
-        return same_bytes(x, part(y, 0, last));
+    let Some((last, front)) = y.split_last() else {
+        return false; // There is no last byte.
+    };
+    if *last == BANG {
+        return same_bytes(x, front);
     }
     false
 }

@@ -1,14 +1,14 @@
 -- The last part of the pass: each Variable gets the local of its rank in its slot, and the heads are cleared.
-use Rattle.std.proofs.Common.{◌≡◌, ℕ, suc, ◌+◌, ◌-◌, ◌<◌, ◌≤◌, List, length, get_or, set, sym, refl, ap, ◌∙◌, subst, add-one, arith, length-set, get_or-set_other, get_or-set_same}
-use mathlib.Core.Option.{Option, none, some}
+use Rattle.std.proofs.Common.{◌≡◌, ℕ, zero, suc, ◌+◌, ◌-◌, ◌<◌, ◌≤◌, List, length, get_or, set, sym, refl, ap, ◌∙◌, subst, add-one, arith}
+use Rattle.std.proofs.Common.{length-set, get_or-set_other, get_or-set_same, Option, Some, None, SomeIff}
+use mathlib.Core.Option as Search
+use mathlib.Core.Option.{none, some}
 use native.Mathlib.Decide.{dec_lt}
 use Rattle.sheet.specs.Sections.{local_count}
 use Rattle.sheet.specs.Node.{kind, field_a}
 use Rattle.sheet.specs.Text.{text}
 use Rattle.lowering.specs.Kinds.{variable_kind}
 use Rattle.lowering.specs.Slots.{resolve}
-use Rattle.expr_slots.specs.declared.Found.{Found}
-use Rattle.expr_slots.specs.declared.Found.TheVariants.{At, Nothing}
 use Rattle.expr_slots.specs.Found.{found}
 use Rattle.scratch.specs.declared.Layout.{Layout}
 use Rattle.scratch.specs.Places.{Small, tokens_at, chains_at, links_at, sums_from, index_end, cleared_index}
@@ -167,14 +167,14 @@ module _ (s : List ℕ) (l : Layout) (xs : List ℕ) {at : ℕ} {fs : List ℕ} 
   }
 
 -- a word of a slot as an answer
-answer-is : (o : Option ℕ) → found_by (slot_word o) ≡ found o
+answer-is : (o : Search.Option ℕ) → found_by (slot_word o) ≡ found o
 unfolding found_by slot_word found
 answer-is none = refl
 answer-is (some k) = ap found_by (add-one k)
 
 module _ {s : List ℕ} {l : Layout} {xs : List ℕ} {v : ℕ} where
   pub slot-told :
-      {m k p a : ℕ} {r : Found} → m ≡ local_count s → few_locals < m → k ≡ kind s v → k ≡ variable_kind → v < l.nodes
+      {m k p a : ℕ} {r : Option ℕ} → m ≡ local_count s → few_locals < m → k ≡ kind s v → k ≡ variable_kind → v < l.nodes
       → p ≡ links_at l + const_slot v → a ≡ get_or xs p 0 → r ≡ found_by a → Slots s l xs → r ≡ found (resolve s (text s (field_a s v)))
   slot-told {m} {k} {p} {a} {r} m-is many k-is is b p-is a_is r-is h =
       r-is
@@ -184,11 +184,10 @@ module _ {s : List ℕ} {l : Layout} {xs : List ℕ} {v : ℕ} where
       ∙ (h.many (omega arith)).slot v b (sym k-is ∙ is))
       ∙ answer-is (resolve s (text s (field_a s v)))
 
--- the code's answers
-pub found_none : (a : ℕ) → a ≡ 0 → Nothing ≡ found_by a
+-- the code's answer
+pub found_is : (a : ℕ) (r : Option ℕ) → SomeIff r (1 ≤ a) (a - 1) → r ≡ found_by a
 unfolding found_by
-found_none a e = sym (ap found_by e)
-
-pub found_some : (a : ℕ) → (a ≡ 0 → ⊥) → At (a - 1) ≡ found_by a
-unfolding found_by
-found_some a ne = let z : a ≡ suc (a - 1) = omega arith in sym (ap found_by z)
+found_is zero None h = refl
+found_is zero (Some x) h = absurd (omega (arith, h.0))
+found_is (suc k) None h = absurd (h (omega arith))
+found_is (suc k) (Some x) h = ap Some (omega (arith, h.1))

@@ -1,5 +1,7 @@
 -- The second part of the pass: each local is told to the name that it has, so that the last one wins.
-use Rattle.std.proofs.Common.{◌≡◌, ℕ, suc, ◌+◌, ◌%◌, ◌<◌, ◌≤◌, Bool, true, false, eqb, List, length, set, sym, refl, ap, ◌∙◌, subst, add-one, arith, get_or-set_other, get_or-set_same, eqb-true}
+use Rattle.std.proofs.Common.{◌≡◌, ℕ, suc, ◌+◌, ◌%◌, ◌<◌, ◌≤◌, Bool, true, false, eqb, List, length, set, sym, refl, ap, ◌∙◌, subst}
+use Rattle.std.proofs.Common.{add-one, arith, get_or-set_other, get_or-set_same, eqb-true}
+use Rattle.std.specs.Prelude.{Option, Some}
 use mathlib.Core.Option.{some}
 use borrow.Author.Tests.{eqb-false}
 use Rattle.text.specs.Same.{same}
@@ -15,13 +17,13 @@ use Rattle.scratch_folds.specs.Hash.{bytes_hash}
 use Rattle.scratch_folds.specs.Sums.{BySums}
 use Rattle.scratch_folds.proofs.SumsLaws.{by-at}
 use Rattle.scratch_index.specs.Consts.{const_slot}
-use Rattle.scratch_index.specs.Lookup.{Finds}
+use Rattle.scratch_index.specs.Lookup.{Finds, Seeks}
 use Rattle.scratch_index.specs.Locals.{slot_word}
 use Rattle.scratch_index.proofs.LookupLaws.{finds-at}
 use Rattle.scratch_index.proofs.BesideLaws.{pool-beside}
 use Rattle.scratch_index.proofs.LocalLaws.{sums-before}
 use Rattle.scratch_locals.specs.Pass.{has_text, text_hash, key_at, answer_at, Met, Telling, Tells}
-use Rattle.scratch_locals.proofs.TextLaws.{outside_low, text-found, text-once, text-missed}
+use Rattle.scratch_locals.proofs.TextLaws.{outside_low, text-sought, text-found, text-once, text-missed}
 use Rattle.scratch_locals.proofs.MeetLaws.{ranked-kept}
 
 -- no local is told yet
@@ -61,6 +63,12 @@ module _
         m.answers e b
         ∙ passes s k (text s (field_a s (key_at l xs e)))
         (subst (λ (u : ℕ). same (text s u) (text s (field_a s (key_at l xs e))) ≡ false) t-is q)
+
+    -- what is found is there
+    pub tells-there : {o : Option ℕ} → Seeks (has_text s t) (text_hash s) const_slot ix n h xs o → o ≡ Some r → Telling s l n k xs → r < n
+    tells-there {o} q e m =
+        (subst (λ (i : Index). Seeks (has_text s t) (text_hash s) const_slot i n h xs o) ix-is q).there
+        (text-sought m.small m.pool t h r (hash-is m) (finds-at ix-is f)) r e
 
     -- no Variable has the name
     pub tells_none : n ≤ r → Tells s l n k xs xs
@@ -119,7 +127,8 @@ module _
         sums = sums-before m.small (tokens_at l + r) (k + 1) (let w = below in omega arith) m.sums;
         ranks = λ i d v.
             let w = below in
-            ranked-kept n after (omega arith) (get_or-set_other xs (tokens_at l + r) (chains_at l + i) (k + 1) 0 (λ q. omega arith)) keys-stay
+            ranked-kept n after (omega arith) (get_or-set_other xs (tokens_at l + r) (chains_at l + i) (k + 1) 0 (λ q. omega arith))
+            keys-stay
             (m.ranks i d v);
         answers = λ e d.
             answer-by e d (eqb e r) refl
@@ -127,11 +136,11 @@ module _
       }
 
     pub tells-one :
-        {p v : ℕ} {ys : List ℕ} → r < n → p ≡ tokens_at l + r → v ≡ (k + 1) % 4294967296 → ys ≡ set xs p v
+        {p v : ℕ} {ys : List ℕ} → (Telling s l n k xs → r < n) → p ≡ tokens_at l + r → v ≡ (k + 1) % 4294967296 → ys ≡ set xs p v
         → Tells s l n k xs ys
     tells-one {p} {v} {ys} c p-is v-is ys-is = record {
       told = λ b m.
           let count : v ≡ k + 1 = omega arith in
           subst (Telling s l n (k + 1)) (sym (ys-is ∙ ap (λ (i : ℕ). set xs i v) p-is ∙ ap (set xs (tokens_at l + r)) count))
-          (telling-one c m);
+          (telling-one (c m) m);
     }

@@ -85,6 +85,9 @@ module _
         has-text s (field_a s i) j (sym (same_true (text s t) (text s (field_a s i)) a) ∙ same_true (text s t) (text s (field_a s j)) b))
         (λ k a. ap bytes_hash (sym (same_true (text s t) (text s (field_a s k)) a)))
 
+    pub text-sought : Sought (has_text s t) (text_hash s) const_slot (name_index l) n h xs
+    text-sought = subst (λ (g : ℕ). Sought (has_text s t) (text_hash s) const_slot (name_index l) n g xs) (sym hashed) sought
+
     pub text-first : r ≡ first_where (has_text s t) (region (name_index l).at n xs)
     text-first =
         (subst (λ (g : ℕ). Finds (has_text s t) (text_hash s) const_slot (name_index l) n g xs r) hashed f).found sought

@@ -1,15 +1,13 @@
 -- The pass that finds the local of each Variable: what the scratch holds on the way. Different names of Variables stand as a pool, by the
 -- Variable met first, in the index of the names; the word of node j among the keys of chains has the rank of Variable j's name, the word
 -- of a rank among the keys of tokens its local. What is kept for long texts stays.
-use Rattle.std.specs.Prelude.{◌≡◌, ℕ, zero, suc, ◌+◌, ◌<◌, ◌≤◌, Bool, true, false, List, length, slice_index}
+use Rattle.std.specs.Prelude.{◌≡◌, ℕ, zero, suc, ◌+◌, ◌<◌, ◌≤◌, Bool, List, length, slice_index, Option, Some, None}
 use Rattle.text.specs.Same.{same}
 use Rattle.sheet.specs.Sections.{node_count}
 use Rattle.sheet.specs.Node.{kind, field_a}
 use Rattle.sheet.specs.Text.{text}
 use Rattle.lowering.specs.Kinds.{variable_kind}
 use Rattle.lowering.specs.Slots.{resolve_below}
-use Rattle.expr_slots.specs.declared.Found.{Found}
-use Rattle.expr_slots.specs.declared.Found.TheVariants.{At, Nothing}
 use Rattle.scratch.specs.declared.Layout.{Layout}
 use Rattle.scratch.specs.Places.{Small, tokens_at, chains_at, names_at, links_at, sums_from, index_end, name_index}
 use Rattle.scratch_index.specs.Pool.{Pool}
@@ -107,11 +105,6 @@ pub record Begins (s : List ℕ) (l : Layout) (xs ys : List ℕ) : Type 0 where
   pub index : Small l → l.nodes ≡ node_count s → index_end l ≤ length xs → Indexes s l 0 0 0 0 ys
 
 -- a word of a slot as an answer
-unfoldable pub found_by : ℕ → Found
-found_by zero = Nothing
-found_by (suc k) = At k
-
--- a local was found
-unfoldable pub is_at : Found → Bool
-is_at (At slot) = true
-is_at Nothing = false
+unfoldable pub found_by : ℕ → Option ℕ
+found_by zero = None
+found_by (suc k) = Some k

@@ -10,26 +10,20 @@ ghost use Rattle.lowering.specs.Slots as locals;
 ghost use Rattle.expr_slots.specs.Found as answers;
 ghost use Rattle.expr_chains.specs.Same.{RootLocal};
 ghost use Rattle.scratch.specs.Places as places;
-ghost use Rattle.scratch_index.specs.Table.{tag_of};
-ghost use Rattle.scratch_index.specs.Lookup.{hit_by, Finds};
 ghost use Rattle.scratch_index.specs.Consts.{const_slot};
 ghost use Rattle.scratch_index.specs.Locals.{Slots};
 ghost use Rattle.scratch_locals.specs.Pass as passes;
-ghost use Rattle.scratch_locals.specs.Pass.{has_text, text_hash, Met, Meets, Telling, Tells, Settling, Settles, Prepares, Begins};
+ghost use Rattle.scratch_locals.specs.Pass.{has_text, Met, Meets, Telling, Tells, Settling, Settles, Prepares, Begins};
 
-use expr_slots::{Found, resolve};
-use scratch::{
-    Index, Layout, chain_place, clear_index, get, name_index, name_place, put, sums_at,
-    token_place, words_of,
-};
+use expr_slots::resolve;
+use scratch::{Index, Layout, get, put};
 use scratch_folds::{fill, hash_text};
-use scratch_index::{RANKS, TAGS, head, link, note};
+use scratch_index::{Wanted, link, note, seek};
 use sheet::kinds::VARIABLE;
 use sheet::{child, field_a, kind, local_count, local_text, text};
 use std::num::wrapping_add_u32;
 use text::same_bytes;
 
-// The kind of a Variable.
 // So many locals or fewer are gone through at each use.
 pub const FEW: u32 = 32;
 
@@ -37,42 +31,41 @@ pub const FEW: u32 = 32;
 fn slot_place(layout: Layout, j: u32) -> usize
     ensures { result ≡ places.links_at layout + const_slot j }
 {
-    words_of(layout) + 2 * (j as usize)
+    layout.links_at() + 2 * (j as usize)
 }
 
-// The Variable of node `k`, with link `v`, has text `t`, with hash `h`: the tag is looked at first, and one text number needs no bytes.
-fn text_hit(sheet: &[u8], v: u32, h: u32, t: u32, k: u32) -> bool
-    ensures { result ≡ hit_by (v / 524288) (tag_of h) (has_text sheet.now t k) }
+// Node `k` has text `t`. One text number needs no bytes.
+fn has_text(sheet: &[u8], t: u32, k: u32) -> bool
+    ensures { result ≡ has_text sheet.now t k }
 {
-    if v / RANKS == h % TAGS {
-        let d = field_a(sheet, k);
-        if t == d {
-            return true;
-        }
-        return same_bytes(text(sheet, t), text(sheet, d));
+    let d = field_a(sheet, k);
+    if t == d {
+        return true;
     }
-    false
+    same_bytes(text(sheet, t), text(sheet, d))
 }
 
-// The rank of text `t`, with hash `h`, among the first `n` names; `n` where it is none of them.
-fn seek_text(sheet: &[u8], scratch: &[u32], ix: Index, n: u32, t: u32, h: u32) -> u32
-    ensures { Finds (has_text sheet.now t) (text_hash sheet.now) const_slot ix n h scratch.now result }
-{
-    let mut c = get(scratch, head(ix, h));
-    while 0 < c {
-        let e = c - 1;
-        let k = get(scratch, (ix.at as usize) + (e as usize));
-        let v = get(scratch, link(ix, k));
-        if text_hit(sheet, v, h, t, k) {
-            return e;
-        }
-        let d = v % RANKS;
-        if c <= d {
-            return n;
-        }
-        c = d;
+// The Variable with a text.
+#[derive(Clone, Copy)]
+struct TextOf<'a> {
+    sheet: &'a [u8],
+    text: u32,
+}
+
+impl<'a> Wanted for TextOf<'a> {
+    ghost told = { λ _. Unit {0} };
+
+    ghost same = { λ it k. has_text it.sheet.now it.text k };
+
+    ghost slot = { const_slot };
+
+    fn same(&self, k: u32) -> bool {
+        has_text(self.sheet, self.text, k)
     }
-    n
+
+    fn link(&self, ix: Index, k: u32) -> usize {
+        link(ix, k)
+    }
 }
 
 // Node `j` behind `n` different names: the rank of a Variable's name goes into its word, and a new name behind the others. Answers how
@@ -83,16 +76,18 @@ fn meet(sheet: &[u8], scratch: &mut [u32], layout: Layout, n: u32, j: u32) -> u3
     if kind(sheet, j) != VARIABLE {
         return n;
     }
-    let ix = name_index(layout);
+    let ix = layout.name_index();
     let t = field_a(sheet, j);
-    let h = hash_text(sheet, &scratch[..], sums_at(layout), t);
-    let r = seek_text(sheet, &scratch[..], ix, n, t, h);
-    put(scratch, chain_place(layout, j), r);
+    let h = hash_text(sheet, &scratch[..], layout.sums_at(), t);
+    let wanted = TextOf { sheet, text: t };
+    // Kept: `n` is the rank of a new name, and is written as such: it stands for no missing answer.
+    let r = seek(&wanted, &scratch[..], ix, h).unwrap_or(n);
+    put(scratch, layout.chain_place(j), r);
     if r < n {
         return n;
     }
-    put(scratch, token_place(layout, n), 0);
-    put(scratch, name_place(layout, n), j);
+    put(scratch, layout.token_place(n), 0);
+    put(scratch, layout.name_place(n), j);
     note(scratch, ix, link(ix, j), h, n);
     wrapping_add_u32(n, 1)
 }
@@ -102,12 +97,9 @@ fn meet_all(sheet: &[u8], scratch: &mut [u32], layout: Layout) -> u32
     ensures { Met sheet.now layout 0 0 scratch.old
         → Met sheet.now layout layout.nodes result scratch.new }
 {
-    let m = layout.nodes;
     let mut n: u32 = 0;
-    let mut j: u32 = 0;
-    while j < m {
+    for j in 0..layout.nodes {
         n = meet(sheet, scratch, layout, n, j);
-        j += 1;
     }
     n
 }
@@ -117,12 +109,11 @@ fn tell(sheet: &[u8], scratch: &mut [u32], layout: Layout, n: u32, k: u32)
     ensures { Tells sheet.now layout n k scratch.old scratch.new }
 {
     let t = local_text(sheet, k);
-    let h = hash_text(sheet, &scratch[..], sums_at(layout), t);
-    let r = seek_text(sheet, &scratch[..], name_index(layout), n, t, h);
-    if n <= r {
-        return;
+    let h = hash_text(sheet, &scratch[..], layout.sums_at(), t);
+    let wanted = TextOf { sheet, text: t };
+    if let Some(r) = seek(&wanted, &scratch[..], layout.name_index(), h) {
+        put(scratch, layout.token_place(r), wrapping_add_u32(k, 1));
     }
-    put(scratch, token_place(layout, r), wrapping_add_u32(k, 1));
 }
 
 // All locals, from the first on.
@@ -130,10 +121,8 @@ fn tell_all(sheet: &[u8], scratch: &mut [u32], layout: Layout, n: u32)
     ensures { let sheet = sheet.now in (Telling sheet layout n 0 scratch.old → Telling sheet layout n (local_count sheet) scratch.new) }
 {
     let m = local_count(sheet);
-    let mut k: u32 = 0;
-    while k < m {
+    for k in 0..m {
         tell(sheet, scratch, layout, n, k);
-        k += 1;
     }
 }
 
@@ -144,8 +133,8 @@ fn settle(sheet: &[u8], scratch: &mut [u32], layout: Layout, j: u32)
     if kind(sheet, j) != VARIABLE {
         return;
     }
-    let r = get(&scratch[..], chain_place(layout, j));
-    let a = get(&scratch[..], token_place(layout, r));
+    let r = get(&scratch[..], layout.chain_place(j));
+    let a = get(&scratch[..], layout.token_place(r));
     put(scratch, slot_place(layout, j), a);
 }
 
@@ -154,11 +143,8 @@ fn settle_all(sheet: &[u8], scratch: &mut [u32], layout: Layout)
     ensures { Settling sheet.now layout 0 scratch.old
         → Settling sheet.now layout layout.nodes scratch.new }
 {
-    let m = layout.nodes;
-    let mut j: u32 = 0;
-    while j < m {
+    for j in 0..layout.nodes {
         settle(sheet, scratch, layout, j);
-        j += 1;
     }
 }
 
@@ -166,7 +152,7 @@ fn settle_all(sheet: &[u8], scratch: &mut [u32], layout: Layout)
 fn prepare(sheet: &[u8], scratch: &mut [u32], layout: Layout)
     ensures { Prepares sheet.now layout scratch.old scratch.new }
 {
-    clear_index(scratch, layout);
+    layout.clear_index(scratch);
     let n = meet_all(sheet, scratch, layout);
     tell_all(sheet, scratch, layout, n);
     settle_all(sheet, scratch, layout);
@@ -177,27 +163,24 @@ fn prepare(sheet: &[u8], scratch: &mut [u32], layout: Layout)
 pub fn begin(sheet: &[u8], scratch: &mut [u32], layout: Layout)
     ensures { Begins sheet.now layout scratch.old scratch.new }
 {
-    fill(sheet, scratch, sums_at(layout));
+    fill(sheet, scratch, layout.sums_at());
     if local_count(sheet) <= FEW {
-        clear_index(scratch, layout);
+        layout.clear_index(scratch);
         return;
     }
     prepare(sheet, scratch, layout);
-    clear_index(scratch, layout);
+    layout.clear_index(scratch);
 }
 
 // A word of a slot as an answer.
-fn found_by(a: u32) -> Found
+fn found_by(a: u32) -> Option<u32>
     ensures { result ≡ passes.found_by a }
 {
-    if a == 0 {
-        return Found::Nothing;
-    }
-    Found::At(a - 1)
+    a.checked_sub(1)
 }
 
 // The same where the locals are gone through.
-fn by_name(sheet: &[u8], v: u32) -> Found
+fn by_name(sheet: &[u8], v: u32) -> Option<u32>
     ensures { let sheet = sheet.now in
         result ≡ answers.found (locals.resolve sheet (texts.text sheet (nodes.field_a sheet v))) }
 {
@@ -205,8 +188,9 @@ fn by_name(sheet: &[u8], v: u32) -> Found
 }
 
 // The local that has the name in field a of node `v`: from its slot, where `v` is a Variable and there are many locals.
-pub fn local_of(sheet: &[u8], scratch: &[u32], layout: Layout, v: u32) -> Found
-    ensures { let sheet = sheet.now in (Slots sheet layout scratch.now → result ≡ answers.found (locals.resolve sheet (texts.text sheet (nodes.field_a sheet v)))) }
+pub fn local_of(sheet: &[u8], scratch: &[u32], layout: Layout, v: u32) -> Option<u32>
+    ensures { let sheet = sheet.now in
+        (Slots sheet layout scratch.now → result ≡ answers.found (locals.resolve sheet (texts.text sheet (nodes.field_a sheet v)))) }
 {
     if local_count(sheet) <= FEW {
         return by_name(sheet, v);
@@ -220,23 +204,13 @@ pub fn local_of(sheet: &[u8], scratch: &[u32], layout: Layout, v: u32) -> Found
     found_by(get(scratch, slot_place(layout, v)))
 }
 
-// A local was found.
-fn is_some(found: Found) -> bool
-    ensures { result ≡ passes.is_at found }
-{
-    match found {
-        Found::At(_) => true,
-        Found::Nothing => false,
-    }
-}
-
 // The root of the chain of node `j` is a variable that is a local.
 pub fn root_local(sheet: &[u8], scratch: &[u32], layout: Layout, j: u32) -> bool
     ensures { let sheet = sheet.now in (Slots sheet layout scratch.now → RootLocal sheet (nodes.child j) result) }
 {
     let v = child(j);
     if kind(sheet, v) == VARIABLE {
-        return is_some(local_of(sheet, scratch, layout, v));
+        return local_of(sheet, scratch, layout, v).is_some();
     }
     false
 }

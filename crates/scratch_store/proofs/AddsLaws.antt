@@ -27,9 +27,7 @@ use Rattle.scratch_index.proofs.HeldLaws.{name-searched, name-same}
 use Rattle.scratch_index.proofs.IndexesLaws.{const-found, token-found, chain-found, name-found, indexes-names}
 use Rattle.scratch_store.specs.Holds.{Holds}
 use Rattle.scratch_store.specs.States as states
-use Rattle.scratch_store.specs.States.{state_of, Full}
 use Rattle.scratch_store.specs.Does.{Adds, AddsChain}
-use Rattle.scratch_store.proofs.DoesLaws.{held-full}
 use Rattle.scratch_store.proofs.AddLaws.{const-place, const-old, const-new, token-place, token-old, token-new, name-place, name-old, name_new, chain-place, chain-old, chain-new}
 
 -- what is not found before the end is found at the end
@@ -48,159 +46,159 @@ words-by :
 words-by n v slot xs e g k f y z = rw (z, y, f, e, g, k)
 
 module _
-    (s : List ℕ) (l : Layout) (xs c : List ℕ) (v h i : ℕ) (hashed : BySums s (sums_from l) xs (const_hash s v) h)
-    (sought : Finds (same_const_of s v) (const_hash s) const_slot (const_index l) (state_of c).consts h xs i)
+    (s : List ℕ) (l : Layout) (xs : List ℕ) (c : State) (v h i : ℕ) (hashed : BySums s (sums_from l) xs (const_hash s v) h)
+    (sought : Finds (same_const_of s v) (const_hash s) const_slot (const_index l) c.consts h xs i)
   where
     abbrev keys : List ℕ
-    keys = region (consts_at l) (state_of c).consts xs
+    keys = region (consts_at l) c.consts xs
 
-    const-hash-is : (a : Made) → Holds s l xs (state_of c) a → h ≡ const_hash s v
+    const-hash-is : (a : Made) → Holds s l xs c a → h ≡ const_hash s v
     const-hash-is a q = hashed.is q.index.sums
 
-    const-fits : (a : Made) → Holds s l xs (state_of c) a → i ≡ first_where (same_const s (const_of s v)) (map (const_of s) keys)
+    const-fits : (a : Made) → Holds s l xs c a → i ≡ first_where (same_const s (const_of s v)) (map (const_of s) keys)
     const-fits a q = const-found q.index v h i (const-hash-is a q) sought ∙ sym (first-map (same_const s (const_of s v)) (const_of s) keys)
 
     pub const-adds-old :
-        i < (state_of c).consts
-        → Adds s l xs (state_of c) xs (state_of c) i (ConstKey s v) (add_const s (const_of s v)) (λ a. const_at s (const_of s v) a.pools)
+        i < c.consts
+        → Adds s l xs c xs c i (ConstKey s v) (add_const s (const_of s v)) (λ a. const_at s (const_of s v) a.pools)
     const-adds-old less = record {
       does = λ g. record { holds = λ a q f. let e = const-fits a q in const-old v q (omega arith) };
       place = λ a q. const-fits a q ∙ const-place v q;
     }
 
     pub const-adds-new :
-        {p at : ℕ} {ix : Index} {ys zs : List ℕ} (r : State) → (state_of c).consts ≤ i → p ≡ consts_at l + (state_of c).consts → ys ≡ set xs p v
-        → ix ≡ const_index l → at ≡ link_at ix (const_slot v) → zs ≡ noted_by (head_at ix h) at (tag_of h) (state_of c).consts ys
-        → (Full c → r ≡ states.with_const (state_of c))
-        → Adds s l xs (state_of c) zs r (state_of c).consts (ConstKey s v) (add_const s (const_of s v))
+        {p at : ℕ} {ix : Index} {ys zs : List ℕ} (r : State) → c.consts ≤ i → p ≡ consts_at l + c.consts → ys ≡ set xs p v
+        → ix ≡ const_index l → at ≡ link_at ix (const_slot v) → zs ≡ noted_by (head_at ix h) at (tag_of h) c.consts ys
+        → r ≡ states.with_const c
+        → Adds s l xs c zs r c.consts (ConstKey s v) (add_const s (const_of s v))
         (λ a. const_at s (const_of s v) a.pools)
     const-adds-new {zs = zs} r less e y x f z w = record {
       does = λ g. record {
         holds = λ a q _.
             let k = const-fits a q in
-            let words : zs ≡ const_added s l (state_of c).consts v xs =
-            words-by (state_of c).consts v (const_slot v) xs x (const-hash-is a q) e f y z in
-            rw (w (held-full c q), words) (const-new v q g (omega arith));
+            let words : zs ≡ const_added s l c.consts v xs =
+            words-by c.consts v (const_slot v) xs x (const-hash-is a q) e f y z in
+            rw (w, words) (const-new v q g (omega arith));
       };
       place = λ a q.
           let k = const-fits a q in
-          at-end (same_const s (const_of s v)) (const_of s) keys (state_of c).consts q.pooled.const_keys.count (omega arith)
+          at-end (same_const s (const_of s v)) (const_of s) keys c.consts q.pooled.const_keys.count (omega arith)
           ∙ const-place v q;
     }
 
 module _
-    (s : List ℕ) (l : Layout) (xs c : List ℕ) (v h i : ℕ) (hashed : h ≡ token_hash s v)
-    (sought : Finds (same_token_of s v) (token_hash s) const_slot (token_index l) (state_of c).tokens h xs i)
+    (s : List ℕ) (l : Layout) (xs : List ℕ) (c : State) (v h i : ℕ) (hashed : h ≡ token_hash s v)
+    (sought : Finds (same_token_of s v) (token_hash s) const_slot (token_index l) c.tokens h xs i)
   where
     abbrev token_keys : List ℕ
-    token_keys = region (tokens_at l) (state_of c).tokens xs
+    token_keys = region (tokens_at l) c.tokens xs
 
-    token-fits : (a : Made) → Holds s l xs (state_of c) a → i ≡ first_where (eqb (field_c s v)) (map (field_c s) token_keys)
+    token-fits : (a : Made) → Holds s l xs c a → i ≡ first_where (eqb (field_c s v)) (map (field_c s) token_keys)
     token-fits a q = token-found q.index v h i hashed sought ∙ sym (first-map (eqb (field_c s v)) (field_c s) token_keys)
 
     pub token-adds-old :
-        i < (state_of c).tokens
-        → Adds s l xs (state_of c) xs (state_of c) i (TokenKey s v) (add_token (field_c s v)) (λ a. token_at (field_c s v) a.pools)
+        i < c.tokens
+        → Adds s l xs c xs c i (TokenKey s v) (add_token (field_c s v)) (λ a. token_at (field_c s v) a.pools)
     token-adds-old less = record {
       does = λ g. record { holds = λ a q f. let e = token-fits a q in token-old v q (omega arith) };
       place = λ a q. token-fits a q ∙ token-place v q;
     }
 
     pub token-adds-new :
-        {p at : ℕ} {ix : Index} {ys zs : List ℕ} (r : State) → (state_of c).tokens ≤ i → p ≡ tokens_at l + (state_of c).tokens → ys ≡ set xs p v
-        → ix ≡ token_index l → at ≡ link_at ix (const_slot v) → zs ≡ noted_by (head_at ix h) at (tag_of h) (state_of c).tokens ys
-        → (Full c → r ≡ states.with_token (state_of c))
-        → Adds s l xs (state_of c) zs r (state_of c).tokens (TokenKey s v) (add_token (field_c s v)) (λ a. token_at (field_c s v) a.pools)
+        {p at : ℕ} {ix : Index} {ys zs : List ℕ} (r : State) → c.tokens ≤ i → p ≡ tokens_at l + c.tokens → ys ≡ set xs p v
+        → ix ≡ token_index l → at ≡ link_at ix (const_slot v) → zs ≡ noted_by (head_at ix h) at (tag_of h) c.tokens ys
+        → r ≡ states.with_token c
+        → Adds s l xs c zs r c.tokens (TokenKey s v) (add_token (field_c s v)) (λ a. token_at (field_c s v) a.pools)
     token-adds-new {zs = zs} r less e y x f z w = record {
       does = λ g. record {
         holds = λ a q _.
             let k = token-fits a q in
-            let words : zs ≡ token_added s l (state_of c).tokens v xs = words-by (state_of c).tokens v (const_slot v) xs x hashed e f y z in
-            rw (w (held-full c q), words) (token-new v q g (omega arith));
+            let words : zs ≡ token_added s l c.tokens v xs = words-by c.tokens v (const_slot v) xs x hashed e f y z in
+            rw (w, words) (token-new v q g (omega arith));
       };
       place = λ a q.
           let k = token-fits a q in
-          at-end (eqb (field_c s v)) (field_c s) token_keys (state_of c).tokens q.pooled.token_keys.count (omega arith)
+          at-end (eqb (field_c s v)) (field_c s) token_keys c.tokens q.pooled.token_keys.count (omega arith)
           ∙ token-place v q;
     }
 
 module _
-    (s : List ℕ) (l : Layout) (xs c : List ℕ) (v t h i : ℕ) (m : Bool) (is : name_with s t m ≡ name_of s v)
+    (s : List ℕ) (l : Layout) (xs : List ℕ) (c : State) (v t h i : ℕ) (m : Bool) (is : name_with s t m ≡ name_of s v)
     (hashed : BySums s (sums_from l) xs (name_hash_of s (name_with s t m)) h)
-    (sought : Finds (is_name s (name_with s t m)) (name_hash s) name_slot (name_index l) (state_of c).names h xs i)
+    (sought : Finds (is_name s (name_with s t m)) (name_hash s) name_slot (name_index l) c.names h xs i)
   where
     abbrev name_keys : List ℕ
-    name_keys = region (names_at l) (state_of c).names xs
+    name_keys = region (names_at l) c.names xs
 
-    name-hash-is : (a : Made) → Holds s l xs (state_of c) a → h ≡ name_hash s v
+    name-hash-is : (a : Made) → Holds s l xs c a → h ≡ name_hash s v
     name-hash-is a q = hashed.is q.index.sums ∙ ap (name_hash_of s) is
 
-    name-fits : (a : Made) → Holds s l xs (state_of c) a → i ≡ first_where (same_name s (name_of s v)) (map (name_of s) name_keys)
+    name-fits : (a : Made) → Holds s l xs c a → i ≡ first_where (same_name s (name_of s v)) (map (name_of s) name_keys)
     name-fits a q =
         name-found q.index v i
-        (name-same s l (state_of c).names xs is (name-searched s l (state_of c).names xs (name_with s t m) h i hashed sought))
+        (name-same s l c.names xs is (name-searched s l c.names xs (name_with s t m) h i hashed sought))
         ∙ sym (first-map (same_name s (name_of s v)) (name_of s) name_keys)
 
     pub name-adds-old :
-        i < (state_of c).names
-        → Adds s l xs (state_of c) xs (state_of c) i (NameKey s v) (add_name s (name_of s v)) (λ a. name_at s (name_of s v) a.pools)
+        i < c.names
+        → Adds s l xs c xs c i (NameKey s v) (add_name s (name_of s v)) (λ a. name_at s (name_of s v) a.pools)
     name-adds-old less = record {
       does = λ g. record { holds = λ a q f. let e = name-fits a q in name-old v q (omega arith) };
       place = λ a q. name-fits a q ∙ name-place v q;
     }
 
     pub name-adds-new :
-        {p at : ℕ} {ix : Index} {ys zs : List ℕ} (r : State) → (state_of c).names ≤ i → p ≡ names_at l + (state_of c).names → ys ≡ set xs p v
-        → ix ≡ name_index l → at ≡ link_at ix (name_slot v) → zs ≡ noted_by (head_at ix h) at (tag_of h) (state_of c).names ys
-        → (Full c → r ≡ states.with_name (state_of c))
-        → Adds s l xs (state_of c) zs r (state_of c).names (NameKey s v) (add_name s (name_of s v)) (λ a. name_at s (name_of s v) a.pools)
+        {p at : ℕ} {ix : Index} {ys zs : List ℕ} (r : State) → c.names ≤ i → p ≡ names_at l + c.names → ys ≡ set xs p v
+        → ix ≡ name_index l → at ≡ link_at ix (name_slot v) → zs ≡ noted_by (head_at ix h) at (tag_of h) c.names ys
+        → r ≡ states.with_name c
+        → Adds s l xs c zs r c.names (NameKey s v) (add_name s (name_of s v)) (λ a. name_at s (name_of s v) a.pools)
     name-adds-new {zs = zs} r less e y x f z w = record {
       does = λ g. record {
         holds = λ a q _.
             let k = name-fits a q in
-            let words : zs ≡ name_added s l (state_of c).names v xs =
-            words-by (state_of c).names v (name_slot v) xs x (name-hash-is a q) e f y z in
-            rw (w (held-full c q), words) (name_new v q g (omega arith));
+            let words : zs ≡ name_added s l c.names v xs =
+            words-by c.names v (name_slot v) xs x (name-hash-is a q) e f y z in
+            rw (w, words) (name_new v q g (omega arith));
       };
       place = λ a q.
           let k = name-fits a q in
-          at-end (same_name s (name_of s v)) (name_of s) name_keys (state_of c).names q.pooled.name_keys.count (omega arith)
+          at-end (same_name s (name_of s v)) (name_of s) name_keys c.names q.pooled.name_keys.count (omega arith)
           ∙ name-place v q;
     }
 
 module _
-    (s : List ℕ) (l : Layout) (xs c : List ℕ) (v h i : ℕ) (local : Bool) (told : Slots s l xs → RootLocal s (child v) local)
+    (s : List ℕ) (l : Layout) (xs : List ℕ) (c : State) (v h i : ℕ) (local : Bool) (told : Slots s l xs → RootLocal s (child v) local)
     (hashed :
-    RootLocal s (child v) local → ByNames s l (state_of c).names xs (chain_hash s (names_held s l (state_of c).names xs) v) h)
-    (sought : FindsChain s v local (chain_index l) (state_of c).chains h xs i)
+    RootLocal s (child v) local → ByNames s l c.names xs (chain_hash s (names_held s l c.names xs) v) h)
+    (sought : FindsChain s v local (chain_index l) c.chains h xs i)
   where
-    chain-hash-is : (a : Made) → Holds s l xs (state_of c) a → h ≡ chain_hash s (names_held s l (state_of c).names xs) v
+    chain-hash-is : (a : Made) → Holds s l xs c a → h ≡ chain_hash s (names_held s l c.names xs) v
     chain-hash-is a q = (hashed (told q.index.slots)).is (indexes-names q.index)
 
-    chain_fits : (a : Made) → Holds s l xs (state_of c) a → i ≡ first_where (same_nodes s v) (region (chains_at l) (state_of c).chains xs)
+    chain_fits : (a : Made) → Holds s l xs c a → i ≡ first_where (same_nodes s v) (region (chains_at l) c.chains xs)
     chain_fits a q = chain-found q.index v h i local (told q.index.slots) (chain-hash-is a q) sought
 
-    pub chain-adds-old : i < (state_of c).chains → AddsChain s l xs (state_of c) xs (state_of c) i v
+    pub chain-adds-old : i < c.chains → AddsChain s l xs c xs c i v
     chain-adds-old less = record {
       holds = λ g a q w. let e = chain_fits a q in chain-old v q w (omega arith);
       place = λ a q w. chain_fits a q ∙ chain-place v q w;
     }
 
     pub chain-adds-new :
-        {p at : ℕ} {ix : Index} {ys zs : List ℕ} (r : State) → (state_of c).chains ≤ i → p ≡ chains_at l + (state_of c).chains → ys ≡ set xs p v
-        → ix ≡ chain_index l → at ≡ link_at ix (const_slot v) → zs ≡ noted_by (head_at ix h) at (tag_of h) (state_of c).chains ys
-        → (Full c → r ≡ states.with_chain (state_of c) (link_count s v)) → AddsChain s l xs (state_of c) zs r (state_of c).chains v
+        {p at : ℕ} {ix : Index} {ys zs : List ℕ} (r : State) → c.chains ≤ i → p ≡ chains_at l + c.chains → ys ≡ set xs p v
+        → ix ≡ chain_index l → at ≡ link_at ix (const_slot v) → zs ≡ noted_by (head_at ix h) at (tag_of h) c.chains ys
+        → r ≡ states.with_chain c (link_count s v) → AddsChain s l xs c zs r c.chains v
     chain-adds-new {zs = zs} r less e y x f z w = record {
       holds = λ g a q k.
           let b = chain_fits a q in
           let n = q.fit.nodes in
           let low = g.below in
-          let words : zs ≡ chain_added s l (names_held s l (state_of c).names xs) (state_of c).chains v xs =
-          words-by (state_of c).chains v (const_slot v) xs x (chain-hash-is a q) e f y z in
-          rw (w (held-full c q), words) (chain-new v q k (omega arith) (omega arith) g);
+          let words : zs ≡ chain_added s l (names_held s l c.names xs) c.chains v xs =
+          words-by c.chains v (const_slot v) xs x (chain-hash-is a q) e f y z in
+          rw (w, words) (chain-new v q k (omega arith) (omega arith) g);
       place = λ a q k.
           let b = chain_fits a q in
-          keys-end (same_nodes s v) (region (chains_at l) (state_of c).chains xs) (state_of c).chains q.pooled.chain_keys.count
+          keys-end (same_nodes s v) (region (chains_at l) c.chains xs) c.chains q.pooled.chain_keys.count
           (omega arith)
           ∙ chain-place v q k;
     }

@@ -5,8 +5,7 @@ use Rattle.expr_model.specs.Construct.{add_chain}
 use Rattle.scratch.specs.declared.Layout.{Layout}
 use Rattle.scratch_index.specs.Locals.{Slots}
 use Rattle.scratch_store.specs.declared.State.{State}
-use Rattle.scratch_store.specs.States.{state_of, Full, layout_of}
-use Rattle.scratch_store.proofs.StateLaws.{full_by, greatest-least}
+use Rattle.scratch_store.specs.States.{layout_of}
 use Rattle.scratch_store.specs.Holds.{Holds}
 use Rattle.scratch_store.specs.Does.{Fits, Growing, Does, Left, Adds, AddsChain}
 
@@ -74,10 +73,6 @@ growing-seq {F} f g = record { each = λ a. let x = f.each a in let y = g.each (
 -- the layout that the counts tell is the layout that is held
 pub laid-is : {s : List ℕ} {l : Layout} {xs : List ℕ} {st : State} {a : Made} → Holds s l xs st a → layout_of st ≡ l
 laid-is {l = l} h = ap₂ (λ (m n : ℕ). record { most = m; nodes = n }) h.laid.most h.laid.nodes
-
--- counts that are held are all there
-pub held-full : {s : List ℕ} {l : Layout} {xs : List ℕ} {a : Made} (c : List ℕ) → Holds s l xs (state_of c) a → Full c
-held-full {a = a} c h = full_by c (let d = h.counts.deepest in let g = greatest-least a.code in omega arith)
 
 -- the locals that are held, by the layout that the counts tell
 pub held-slots :

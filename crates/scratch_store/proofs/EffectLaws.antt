@@ -8,7 +8,6 @@ use Rattle.bytecode.specs.declared.Op.TheVariants.{SkipIfNotUnit, Call, CallRef,
 use Rattle.bytecode.specs.declared.Op.TheVariants.{InterpolateAppend, InterpolateEnd, MakeArray, CheckSize, Chain, EvalAst}
 use Rattle.bytecode.specs.Op.{four, receiver_kind, receiver_word, op_words}
 use Rattle.bytecode.specs.Effect.{effect, popped}
-use Rattle.bytecode.specs.Table.{count_number, numbers_of, entry, counted}
 use Rattle.expr_model.specs.Made.{after}
 use Rattle.scratch_store.specs.Effects.{Narrow, joined, call_ref_words, after_words}
 
@@ -42,7 +41,7 @@ call-ref-words x name argc r w e f h =
 -- the table gives the effects
 module _ (n d : ℕ) where
   pub after_op : (op : Op) → after_words (op_words op) n d ≡ after op n d
-  unfolding after_words op_words after effect entry numbers_of count_number counted popped
+  unfolding after_words op_words after effect popped
   after_op (Const i) = refl
   after_op Unit = refl
   after_op (Bool t) = refl

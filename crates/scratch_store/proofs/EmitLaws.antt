@@ -19,9 +19,8 @@ use Rattle.scratch_store.specs.Effects.{after_words}
 use Rattle.scratch_store.proofs.EffectLaws.{after_op}
 use Rattle.scratch_store.proofs.TableLaws.{after-least}
 use Rattle.scratch_store.specs.Holds.{Fit, Counts, Laid, CodeHeld, Holds}
-use Rattle.scratch_store.specs.States.{state_of, Full, counted}
+use Rattle.scratch_store.specs.States.{counted}
 use Rattle.scratch_store.specs.Does.{Fits, Does}
-use Rattle.scratch_store.proofs.DoesLaws.{held-full}
 use Rattle.scratch_store.proofs.FrameLaws.{
   fit_same,
   laid_same,
@@ -160,10 +159,10 @@ module _ {s : List ℕ} {l : Layout} {xs : List ℕ} {st : State} {a : Made} (op
 
 -- as the code does it
 pub emit-does :
-    {s : List ℕ} (l : Layout) (xs c : List ℕ) (op : Op) (pos n : ℕ) (w mid ys : List ℕ) (d p : ℕ) (r : State)
-    → w ≡ op_words op → d ≡ after_words w n (state_of c).depth → p ≡ positions_at l + (state_of c).code
-    → mid ≡ sets xs (op_width * (state_of c).code) w
-    → ys ≡ set mid p pos → (Full c → r ≡ counted (state_of c) d) → Does s l xs (state_of c) ys r (emit op pos n)
+    {s : List ℕ} (l : Layout) (xs : List ℕ) (c : State) (op : Op) (pos n : ℕ) (w mid ys : List ℕ) (d p : ℕ) (r : State)
+    → w ≡ op_words op → d ≡ after_words w n c.depth → p ≡ positions_at l + c.code
+    → mid ≡ sets xs (op_width * c.code) w
+    → ys ≡ set mid p pos → r ≡ counted c d → Does s l xs c ys r (emit op pos n)
 emit-does l xs c op pos n w mid ys d p r e g z m y q = record {
-  holds = λ a h f. rw (q (held-full c h), g, y, z, m) (emit-holds op pos n w e (ap length e ∙ op-width op) h f);
+  holds = λ a h f. rw (q, g, y, z, m) (emit-holds op pos n w e (ap length e ∙ op-width op) h f);
 }

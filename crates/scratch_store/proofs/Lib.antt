@@ -10,5 +10,4 @@ pub mod HoldsLaws
 mod MemoLaws
 pub mod ResidualLaws
 pub mod StartLaws
-mod StateLaws
 mod TableLaws

@@ -17,9 +17,8 @@ use Rattle.scratch.specs.Places.{positions_at, residuals_at, consts_at, tokens_a
 use Rattle.scratch.proofs.RegionLaws.{region-behind, region-push, region-front}
 use Rattle.scratch_store.specs.Holds.{Keys, Fit, Holds}
 use Rattle.scratch_store.specs.States as states
-use Rattle.scratch_store.specs.States.{state_of, Full}
 use Rattle.scratch_store.specs.Does.{Fits, Does}
-use Rattle.scratch_store.proofs.DoesLaws.{laid-is, held-full}
+use Rattle.scratch_store.proofs.DoesLaws.{laid-is}
 use Rattle.scratch_store.proofs.FrameLaws.{fit_same, laid_same, pools-same, pools-counts, same_keys}
 
 -- one residual more, where more is emitted than is kept
@@ -70,11 +69,11 @@ residual-is : (j : ℕ) (a : Made) → residual j a ≡ add_residual j (emit (Ev
 unfolding residual add_residual push_residual emit emits
 residual-is j a = refl
 
-module _ {s : List ℕ} {xs ys : List ℕ} {st : State} (c : List ℕ) (j p : ℕ) (zs : List ℕ) (t : State) where
+module _ {s : List ℕ} {xs ys : List ℕ} {st : State} (c : State) (j p : ℕ) (zs : List ℕ) (t : State) where
   pub residual-does :
-      ((l : Layout) → Does s l xs st ys (state_of c) (emit (EvalAst st.residuals) 0 0))
-      → p ≡ residuals_at (states.layout_of (state_of c)) + (state_of c).residuals
-      → zs ≡ set ys p j → (Full c → t ≡ states.with_residual (state_of c)) → (l : Layout) → Does s l xs st zs t (residual j)
+      ((l : Layout) → Does s l xs st ys c (emit (EvalAst st.residuals) 0 0))
+      → p ≡ residuals_at (states.layout_of c) + c.residuals
+      → zs ≡ set ys p j → t ≡ states.with_residual c → (l : Layout) → Does s l xs st zs t (residual j)
   unfolding emit emits add_residual push_residual
   residual-does does w e q l = record { holds = go }
     where
@@ -82,14 +81,14 @@ module _ {s : List ℕ} {xs ys : List ℕ} {st : State} (c : List ℕ) (j p : �
       go a h f =
           let op : EvalAst st.residuals ≡ EvalAst (length a.pools.residuals) = ap EvalAst h.counts.residuals in
           let room : Fits l (add_residual j (emit (EvalAst (length a.pools.residuals)) 0 0 a)) = subst (Fits l) (residual-is j a) f in
-          let done : Holds s l ys (state_of c) (emit (EvalAst st.residuals) 0 0 a) = (does l).holds a h (omega arith) in
+          let done : Holds s l ys c (emit (EvalAst st.residuals) 0 0 a) = (does l).holds a h (omega arith) in
           let d = done.counts in
           let k = h.counts in
-          let less : (state_of c).residuals < (state_of c).emitted =
+          let less : c.residuals < c.emitted =
           let c1 = d.residuals in let c2 = d.emitted in let k1 = k.residuals in let k2 = k.emitted in let k3 = k.kept in omega arith in
-          let at : p ≡ residuals_at l + (state_of c).residuals =
-          w ∙ ap (λ (m : Layout). residuals_at m + (state_of c).residuals) (laid-is done) in
-          rw (e, at, q (held-full c done), residual-is j a, sym op) (push-residual j done less)
+          let at : p ≡ residuals_at l + c.residuals =
+          w ∙ ap (λ (m : Layout). residuals_at m + c.residuals) (laid-is done) in
+          rw (e, at, q, residual-is j a, sym op) (push-residual j done less)
 
 -- the depth where a jump comes in
 pub depth-holds : {s : List ℕ} {l : Layout} {xs : List ℕ} {st : State} {a : Made} (d : ℕ) → d ≤ a.pools.emitted → Holds s l xs st a

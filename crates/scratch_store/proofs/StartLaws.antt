@@ -7,13 +7,12 @@ use Rattle.expr_model.specs.Made.{nothing}
 use Rattle.scratch_store.specs.declared.State.{State}
 use Rattle.scratch_store.specs.Holds.{Fit, Holds}
 use Rattle.scratch_store.specs.States as states
-use Rattle.scratch_store.specs.States.{state_of}
 use Rattle.scratch_store.proofs.FrameLaws.{fit_same}
 use Rattle.scratch_store.proofs.ResidualLaws.{start-holds}
 
 pub fresh_holds :
-    (s : List ℕ) (l : Layout) (xs ys c : List ℕ) → Fit s l xs → index_end l ≤ length xs → Begins s l xs ys → state_of c ≡ states.start l
-    → Holds s l ys (state_of c) nothing
+    (s : List ℕ) (l : Layout) (xs ys : List ℕ) (c : State) → Fit s l xs → index_end l ≤ length xs → Begins s l xs ys → c ≡ states.start l
+    → Holds s l ys c nothing
 fresh_holds s l xs ys c fit room begins start =
     subst (λ (st : State). Holds s l ys st nothing) (sym start)
     (start-holds (fit_same begins.long fit)

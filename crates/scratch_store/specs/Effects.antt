@@ -6,7 +6,7 @@ use Rattle.bytecode.specs.declared.Op.TheVariants.{Const, Unit, Bool, LoadLocal,
 use Rattle.bytecode.specs.declared.Op.TheVariants.{SkipIfNotUnit, Call, CallRef, Rotate, Switch, MakeFnPtr, CallFnPtr, InterpolateStart}
 use Rattle.bytecode.specs.declared.Op.TheVariants.{InterpolateAppend, InterpolateEnd, MakeArray, CheckSize, Chain, EvalAst}
 use Rattle.bytecode.specs.Op.{four, receiver_kind, receiver_word}
-use Rattle.bytecode.specs.Table.{entry, counted}
+use Rattle.bytecode.specs.Effect.{effect, popped}
 
 -- argc and capture, or argc and receiver, have room in one word
 abbrev pub Narrow : Op → Type 0
@@ -44,8 +44,8 @@ joined argc n = (argc + 256 * n) % 4294967296
 unfoldable pub call_ref_words : ℕ → ℕ → Receiver → List ℕ
 call_ref_words name argc r = four 13 name (joined argc (receiver_kind r)) (receiver_word r)
 
--- the depth after an instruction, read from the table of effects
+-- the depth after an instruction, by the effect of its kind
 unfoldable pub after_words : List ℕ → ℕ → ℕ → ℕ
 after_words w n d =
-    let kind = slice_index_or w 0 0 in
-    d - (entry kind 0 + counted (entry kind 3) (slice_index w 1) (slice_index w 2) n) + entry kind 1
+    let e = effect (slice_index_or w 0 0) in
+    d - (e.pops + popped e.count (slice_index w 1) (slice_index w 2) n) + e.pushes

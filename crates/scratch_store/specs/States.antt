@@ -1,28 +1,7 @@
--- The counts, which the code keeps in a lent array, and how they change.
-use Rattle.std.specs.Prelude.{ℕ, ◌+◌, ◌%◌, ◌<◌, max, List, length, slice_index}
+-- The counts, and how they change.
+use Rattle.std.specs.Prelude.{ℕ, ◌+◌, ◌%◌, max}
 use Rattle.scratch.specs.declared.Layout.{Layout}
 use Rattle.scratch_store.specs.declared.State.{State}
-
--- what the counts stand for; the last of them is never 0, so that a list that holds something is known to have all of them
-abbrev pub state_of : List ℕ → State
-state_of c = record {
-  code = slice_index c 0;
-  consts = slice_index c 1;
-  names = slice_index c 2;
-  tokens = slice_index c 3;
-  residuals = slice_index c 4;
-  chains = slice_index c 5;
-  emitted = slice_index c 6;
-  depth = slice_index c 7;
-  deepest = slice_index c 11;
-  most = slice_index c 9;
-  nodes = slice_index c 10;
-  steps = slice_index c 8;
-}
-
--- all counts are there
-abbrev pub Full : List ℕ → Type 0
-Full c = 11 < length c
 
 -- the layout that they tell
 abbrev pub layout_of : State → Layout

@@ -10,7 +10,6 @@ ghost use Rattle.lowering.specs.Pools as pools;
 ghost use Rattle.expr_chains.specs.Same as sames;
 ghost use Rattle.bytecode.specs.declared.Op.{Op};
 ghost use Rattle.bytecode.specs.Op.{op_words};
-ghost use Rattle.bytecode.specs.Table.{effect_table};
 ghost use Rattle.scratch_keys.specs.Keys.{key_node, key_field, is_marked, name_of};
 ghost use Rattle.scratch_keys.specs.Used.{ConstKey, NameKey, TokenKey};
 ghost use Rattle.scratch.specs.declared.Layout.{Layout};
@@ -35,9 +34,6 @@ use scratch_index::{
 };
 use scratch_keys::{is_marked, text_of};
 use scratch_locals::root_local;
-use states::{
-    CHAINS, CODE, CONSTS, COUNTS, DEPTH, NAMES, RESIDUALS, STEPS, TOKENS, count_one, layout_of,
-};
 use std::num::wrapping_add_u32;
 
 mod ops;
@@ -48,7 +44,7 @@ const NO_TEXT: u32 = 4294967295;
 
 // What the scratch holds: how many instructions stand, how many entries each pool has, how many instructions were emitted, the depth at the
 // next instruction, the greatest depth before an instruction that stands (1 where none does), the layout, and how many steps the chains
-// have. While it is filled, these counts stand in a lent array.
+// have.
 #[derive(Clone, Copy)]
 pub struct State {
     pub code: u32,
@@ -83,67 +79,53 @@ fn put_op(scratch: &mut [u32], code: u32, w: [u32; OP_WIDTH])
     put(scratch, at + 3, w[3]);
 }
 
-// The instruction with words `w` behind the code, where `t` is the table of effects; `n` is what a chain takes.
-fn push(
-    t: &[u8; 125],
-    counts: &mut [u32; COUNTS],
-    scratch: &mut [u32],
-    w: [u32; OP_WIDTH],
-    pos: u32,
-    n: u32,
-)
-    ensures { (l : Layout) → t.now ≡ effect_table → (s : List ℕ) (op : Op) → w ≡ op_words op
-        → Does s l scratch.old (states.state_of counts.old) scratch.new (states.state_of counts.new)
+// The instruction with words `w` behind the code, where `n` is what a chain takes.
+fn push(state: &mut State, scratch: &mut [u32], w: [u32; OP_WIDTH], pos: u32, n: u32)
+    ensures { (l : Layout) → (s : List ℕ) (op : Op) → w ≡ op_words op
+        → Does s l scratch.old state.old scratch.new state.new
         (made.emit op pos n) }
 {
-    let code = counts[CODE];
-    let d = after(t, w, n, counts[DEPTH]);
-    let at = position_place(layout_of(counts), code);
+    let code = state.code;
+    let d = after(w, n, state.depth);
+    let at = position_place(state.layout(), code);
     put_op(scratch, code, w);
     put(scratch, at, pos);
-    count_one(counts, d);
+    state.count_one(d);
 }
 
 // An instruction behind the code. Its words are known where its kind is, so this is small where it is called.
-pub fn emit(
-    t: &[u8; 125],
-    counts: &mut [u32; COUNTS],
-    scratch: &mut [u32],
-    op: Op,
-    pos: u32,
-    n: u32,
-)
-    ensures { (l : Layout) → t.now ≡ effect_table → (s : List ℕ) → Narrow op
-        → Does s l scratch.old (states.state_of counts.old) scratch.new (states.state_of counts.new)
+pub fn emit(state: &mut State, scratch: &mut [u32], op: Op, pos: u32, n: u32)
+    ensures { (l : Layout) → (s : List ℕ) → Narrow op
+        → Does s l scratch.old state.old scratch.new state.new
         (made.emit op pos n) }
 {
-    push(t, counts, scratch, op_words(op), pos, n);
+    push(state, scratch, op_words(op), pos, n);
 }
 
 // Node `j` kept as it is.
-pub fn residual(t: &[u8; 125], counts: &mut [u32; COUNTS], scratch: &mut [u32], j: u32)
-    ensures { (l : Layout) → t.now ≡ effect_table → (s : List ℕ)
-        → Does s l scratch.old (states.state_of counts.old) scratch.new (states.state_of counts.new)
+pub fn residual(state: &mut State, scratch: &mut [u32], j: u32)
+    ensures { (l : Layout) → (s : List ℕ)
+        → Does s l scratch.old state.old scratch.new state.new
         (made.residual j) }
 {
-    let e = counts[RESIDUALS];
-    emit(t, counts, scratch, Op::EvalAst(e), 0, 0);
-    let r = counts[RESIDUALS];
-    let at = residual_place(layout_of(counts), r);
+    let e = state.residuals;
+    emit(state, scratch, Op::EvalAst(e), 0, 0);
+    let r = state.residuals;
+    let at = residual_place(state.layout(), r);
     put(scratch, at, j);
-    counts[RESIDUALS] = wrapping_add_u32(r, 1);
+    state.residuals = wrapping_add_u32(r, 1);
 }
 
 // The constant of node `j`, and its place.
-pub fn add_const(sheet: &[u8], counts: &mut [u32; COUNTS], scratch: &mut [u32], j: u32) -> u32
+pub fn add_const(sheet: &[u8], state: &mut State, scratch: &mut [u32], j: u32) -> u32
     ensures { let sheet = sheet.now in ((l : Layout)
-        → Adds sheet l scratch.old (states.state_of counts.old) scratch.new
-        (states.state_of counts.new) result
+        → Adds sheet l scratch.old state.old scratch.new
+        state.new result
         (ConstKey sheet j) (made.add_const sheet (pools.const_of sheet j)) (λ a. pools.const_at sheet (pools.const_of sheet j)
         a.pools)) }
 {
-    let l = layout_of(counts);
-    let n = counts[CONSTS];
+    let l = state.layout();
+    let n = state.consts;
     let h = const_hash(sheet, &scratch[..], l, j);
     let ix = const_index(l);
     let i = seek_const(sheet, &scratch[..], ix, n, j, h);
@@ -152,19 +134,19 @@ pub fn add_const(sheet: &[u8], counts: &mut [u32; COUNTS], scratch: &mut [u32], 
     }
     put(scratch, const_place(l, n), j);
     note(scratch, ix, link(ix, j), h, n);
-    counts[CONSTS] = wrapping_add_u32(n, 1);
+    state.consts = wrapping_add_u32(n, 1);
     n
 }
 
 // The token of node `j`, and its place.
-pub fn add_token(sheet: &[u8], counts: &mut [u32; COUNTS], scratch: &mut [u32], j: u32) -> u32
+pub fn add_token(sheet: &[u8], state: &mut State, scratch: &mut [u32], j: u32) -> u32
     ensures { let sheet = sheet.now in ((l : Layout)
-        → Adds sheet l scratch.old (states.state_of counts.old) scratch.new
-        (states.state_of counts.new) result
+        → Adds sheet l scratch.old state.old scratch.new
+        state.new result
         (TokenKey sheet j) (made.add_token (nodes.field_c sheet j)) (λ a. pools.token_at (nodes.field_c sheet j) a.pools)) }
 {
-    let l = layout_of(counts);
-    let n = counts[TOKENS];
+    let l = state.layout();
+    let n = state.tokens;
     let h = token_hash(sheet, j);
     let i = find_token(sheet, &scratch[..], l, n, j, h);
     if i < n {
@@ -173,26 +155,19 @@ pub fn add_token(sheet: &[u8], counts: &mut [u32; COUNTS], scratch: &mut [u32], 
     put(scratch, token_place(l, n), j);
     let ix = token_index(l);
     note(scratch, ix, link(ix, j), h, n);
-    counts[TOKENS] = wrapping_add_u32(n, 1);
+    state.tokens = wrapping_add_u32(n, 1);
     n
 }
 
 // The name with key `k`, which has text `t` and `!` where `m` says, sought by its bytes, and its place.
-fn push_name(
-    sheet: &[u8],
-    counts: &mut [u32; COUNTS],
-    scratch: &mut [u32],
-    k: u32,
-    t: u32,
-    m: bool,
-) -> u32
+fn push_name(sheet: &[u8], state: &mut State, scratch: &mut [u32], k: u32, t: u32, m: bool) -> u32
     ensures { let sheet = sheet.now in ((l : Layout) → t ≡ (name_of sheet k).text → m ≡ is_marked sheet (key_node k) (key_field k)
-        → Adds sheet l scratch.old (states.state_of counts.old) scratch.new
-        (states.state_of counts.new) result
+        → Adds sheet l scratch.old state.old scratch.new
+        state.new result
         (NameKey sheet k) (made.add_name sheet (name_of sheet k)) (λ a. pools.name_at sheet (name_of sheet k) a.pools)) }
 {
-    let l = layout_of(counts);
-    let n = counts[NAMES];
+    let l = state.layout();
+    let n = state.names;
     let h = name_hash(sheet, &scratch[..], l, t, m);
     let ix = name_index(l);
     let i = seek_name(sheet, &scratch[..], ix, n, t, m, h);
@@ -201,26 +176,26 @@ fn push_name(
     }
     put(scratch, name_place(l, n), k);
     note(scratch, ix, name_link(ix, k), h, n);
-    counts[NAMES] = wrapping_add_u32(n, 1);
+    state.names = wrapping_add_u32(n, 1);
     n
 }
 
 // The name with key `k` (3 · node + field), and its place. What is known of its text number is asked first.
-pub fn add_name(sheet: &[u8], counts: &mut [u32; COUNTS], scratch: &mut [u32], k: u32) -> u32
+pub fn add_name(sheet: &[u8], state: &mut State, scratch: &mut [u32], k: u32) -> u32
     ensures { let sheet = sheet.now in ((l : Layout)
-        → Adds sheet l scratch.old (states.state_of counts.old) scratch.new
-        (states.state_of counts.new) result
+        → Adds sheet l scratch.old state.old scratch.new
+        state.new result
         (NameKey sheet k) (made.add_name sheet (name_of sheet k)) (λ a. pools.name_at sheet (name_of sheet k) a.pools)) }
 {
     let t = text_of(sheet, k);
     if is_marked(sheet, k) {
-        return push_name(sheet, counts, scratch, k, t, true);
+        return push_name(sheet, state, scratch, k, t, true);
     }
-    let ms = memos_at(layout_of(counts));
+    let ms = memos_at(state.layout());
     if knows(&scratch[..], ms, t) {
         return recall(&scratch[..], ms, t);
     }
-    let at = push_name(sheet, counts, scratch, k, t, false);
+    let at = push_name(sheet, state, scratch, k, t, false);
     if t < NO_TEXT {
         remember(scratch, ms, t, at);
     }
@@ -228,14 +203,14 @@ pub fn add_name(sheet: &[u8], counts: &mut [u32; COUNTS], scratch: &mut [u32], k
 }
 
 // The chain of node `j`, whose names are pooled, and its place.
-pub fn add_chain(sheet: &[u8], counts: &mut [u32; COUNTS], scratch: &mut [u32], j: u32) -> u32
-    ensures { (l : Layout) → AddsChain sheet.now l scratch.old (states.state_of counts.old) scratch.new
-        (states.state_of counts.new) result j }
+pub fn add_chain(sheet: &[u8], state: &mut State, scratch: &mut [u32], j: u32) -> u32
+    ensures { (l : Layout) → AddsChain sheet.now l scratch.old state.old scratch.new
+        state.new result j }
 {
-    let l = layout_of(counts);
-    let n = counts[CHAINS];
+    let l = state.layout();
+    let n = state.chains;
     let local = root_local(sheet, &scratch[..], l, j);
-    let h = chain_hash(sheet, &scratch[..], l, counts[NAMES], j, local);
+    let h = chain_hash(sheet, &scratch[..], l, state.names, j, local);
     let i = find_chain(sheet, &scratch[..], l, n, j, h, local);
     if i < n {
         return i;
@@ -243,7 +218,7 @@ pub fn add_chain(sheet: &[u8], counts: &mut [u32; COUNTS], scratch: &mut [u32], 
     put(scratch, chain_place(l, n), j);
     let ix = chain_index(l);
     note(scratch, ix, link(ix, j), h, n);
-    counts[CHAINS] = wrapping_add_u32(n, 1);
-    counts[STEPS] = wrapping_add_u32(counts[STEPS], link_count(sheet, j));
+    state.chains = wrapping_add_u32(n, 1);
+    state.steps = wrapping_add_u32(state.steps, link_count(sheet, j));
     n
 }

@@ -1,10 +1,11 @@
 // Instructions: their words, and what they do to the depth.
 ghost use Rattle.std.specs.Prelude.{◌≡◌};
 ghost use Rattle.bytecode.specs.Op.{op_words};
-ghost use Rattle.bytecode.specs.Table.{effect_table};
+ghost use Rattle.bytecode.specs.Coded.{count_of};
+ghost use Rattle.bytecode.specs.Effect as kinds;
 ghost use Rattle.scratch_store.specs.Effects as effects;
 
-use bytecode::{Op, Receiver, counted, entry};
+use bytecode::{Effect, Op, Receiver, effect_of};
 use lowering::OP_WIDTH;
 
 // A receiver's number, and the word that names it.
@@ -74,14 +75,46 @@ fn call_ref(name: u32, argc: u32, r: Receiver) -> [u32; OP_WIDTH]
     [13, name, joined(argc, w[0]), w[1]]
 }
 
-// The depth after an instruction with these words at depth `d`, where `t` is the table of effects; `n` is what a chain takes.
-pub fn after(t: &[u8; 125], w: [u32; OP_WIDTH], n: u32, d: u32) -> u64
-    ensures { t.now ≡ effect_table → result ≡ effects.after_words w n d }
+// What an instruction of this kind does. Each kind stands by itself, so that its numbers are constants where it is known, as in `emit`.
+fn effect(kind: u32) -> Effect
+    ensures pops { result.pops ≡ (kinds.effect kind).pops }
+    ensures pushes { result.pushes ≡ (kinds.effect kind).pushes }
+    ensures top { count_of result.top ≡ (kinds.effect kind).count }
 {
-    let pops = (entry(t, w[0], 0) as u64) + counted(entry(t, w[0], 3), w[1], w[2], n as u64);
-    let pushes = entry(t, w[0], 1) as u64;
-    if pops < (d as u64) {
-        return (d as u64) - pops + pushes;
+    match kind {
+        1 => effect_of(1),
+        2 => effect_of(2),
+        3 => effect_of(3),
+        4 => effect_of(4),
+        5 => effect_of(5),
+        6 => effect_of(6),
+        7 => effect_of(7),
+        8 => effect_of(8),
+        9 => effect_of(9),
+        10 => effect_of(10),
+        11 => effect_of(11),
+        12 => effect_of(12),
+        13 => effect_of(13),
+        14 => effect_of(14),
+        15 => effect_of(15),
+        16 => effect_of(16),
+        17 => effect_of(17),
+        18 => effect_of(18),
+        19 => effect_of(19),
+        20 => effect_of(20),
+        21 => effect_of(21),
+        22 => effect_of(22),
+        23 => effect_of(23),
+        24 => effect_of(24),
+        _ => effect_of(kind),
     }
-    pushes
+}
+
+// The depth after an instruction with these words at depth `d`; `n` is what a chain takes.
+pub fn after(w: [u32; OP_WIDTH], n: u32, d: u32) -> u64
+    ensures { result ≡ effects.after_words w n d }
+{
+    let e = effect(w[0]);
+    let pops = u64::from(e.pops) + e.top.popped(w[1], w[2], u64::from(n));
+    u64::from(d).saturating_sub(pops) + u64::from(e.pushes)
 }

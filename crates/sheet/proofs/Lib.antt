@@ -1,2 +1,4 @@
+pub mod RangeWalkLaws
+pub mod SiblingLaws
 mod StartLaws
 pub mod WalkLaws

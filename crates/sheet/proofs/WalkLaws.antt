@@ -1,8 +1,9 @@
 -- Laws of walks over siblings: m in all, of which i are passed, with node j next.
 use Rattle.std.proofs.Common.{◌≡◌, ℕ, zero, suc, ◌+◌, ◌-◌, ◌<◌, ◌≤◌, Bool, true, false, List, sym, refl, ap, ◌∙◌, suc-add, zero-add, arith}
-use Rattle.laws.proofs.Numbers.{left_one}
+use Rattle.laws.proofs.Numbers.{left_one, one_less}
 use Rattle.sheet.specs.Node.{next}
-use Rattle.sheet.specs.Walk.{siblings_by, siblings, skip}
+use Rattle.sheet.specs.Walk.{siblings_by, siblings, skip, sibling_list}
+use Rattle.std.specs.Prelude.{[], ◌∷◌}
 
 left-none : (m i : ℕ) → m ≤ i → m - i ≡ 0
 left-none m i h = omega arith
@@ -54,3 +55,13 @@ module _ (s : List ℕ) where
 
   pub skip_step : (i first : ℕ) {j k : ℕ} → j ≡ skip s i first → k ≡ next s j → k ≡ skip s (i + 1) first
   skip_step i first e h = h ∙ ap (next s) e ∙ skip-next i first
+
+-- the list of no siblings, and of one or more
+pub sibling_list-none : (s : List ℕ) (m j : ℕ) → m ≡ 0 → sibling_list s m j ≡ []
+unfolding sibling_list
+sibling_list-none s m j h = ap (λ l. sibling_list s l j) h
+
+pub sibling_list-first : (s : List ℕ) (m j k : ℕ) → (m ≡ 0 → ⊥) → k ≡ next s j → sibling_list s m j ≡ j ∷ sibling_list s (m - 1) k
+unfolding sibling_list
+sibling_list-first s m j k h e =
+    ap (λ l. sibling_list s l j) (one_less m (omega arith)) ∙ ap (λ i. j ∷ sibling_list s (m - 1) i) (sym e)

@@ -1,5 +1,6 @@
 pub mod Limits
 pub mod Kinds
+pub mod Rest
 pub mod Sections
 pub mod Node
 pub mod Text

@@ -1,6 +1,6 @@
 -- Walks over siblings.
-use Rattle.std.specs.Prelude.{ℕ, zero, suc, Bool, true, false, List}
-use Rattle.sheet.specs.Node.{Fields, field, next_by}
+use Rattle.std.specs.Prelude.{ℕ, zero, suc, Bool, true, false, List, [], ◌∷◌}
+use Rattle.sheet.specs.Node.{Fields, field, next, next_by}
 
 -- the test P passes at m siblings from j on
 unfoldable pub siblings_by : (ℕ → Bool) → Fields → ℕ → ℕ → Bool
@@ -20,3 +20,8 @@ skip_by g (suc m) j = skip_by g m (next_by g j)
 unfoldable abbrev pub skip : List ℕ → ℕ → ℕ → ℕ
 unfolding skip_by
 skip s = skip_by (field s)
+
+-- m siblings from j on, in order
+unfoldable pub sibling_list : List ℕ → ℕ → ℕ → List ℕ
+sibling_list s zero j = []
+sibling_list s (suc m) j = j ∷ sibling_list s m (next s j)

@@ -1,4 +1,6 @@
 // The node kinds by name, for the code. specs/Kinds.antt has the same for the definitions.
+// Kept: words and no enum. A kind is a word that a stranger sends, and each definition answers at every word; the code asks for ranges of
+// kinds (Dot to Coalesce) and looks the word up in tables. An enum would be made from the word and turned back at each of these places.
 pub const BOOL: u32 = 1;
 
 pub const UNIT: u32 = 2;

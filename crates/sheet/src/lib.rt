@@ -9,6 +9,8 @@ ghost use Rattle.sheet.specs.Node as nodes;
 ghost use Rattle.sheet.specs.Text as texts;
 ghost use Rattle.sheet.specs.Start as starts;
 ghost use Rattle.sheet.specs.Walk as walks;
+ghost use Rattle.sheet.specs.Rest.{rest};
+ghost use Rattle.std.specs.Iterator.{YieldsFirst, at_most};
 
 pub mod kinds;
 pub mod limits;
@@ -132,6 +134,38 @@ pub fn field_c(sheet: &[u8], n: u32) -> u32
     field(sheet, n, C_AT)
 }
 
+// The six words of a node.
+#[derive(Clone, Copy)]
+pub struct Node {
+    pub kind: u32,
+    pub span: u32,
+    pub count: u32,
+    pub a: u32,
+    pub b: u32,
+    pub c: u32,
+}
+
+impl Node {
+    // Node `n` of the sheet.
+    pub fn read(sheet: &[u8], n: u32) -> Node
+        ensures kind { result.kind ≡ nodes.kind sheet.now n }
+        ensures span { result.span ≡ nodes.span sheet.now n }
+        ensures count { result.count ≡ nodes.count sheet.now n }
+        ensures a { result.a ≡ nodes.field_a sheet.now n }
+        ensures b { result.b ≡ nodes.field_b sheet.now n }
+        ensures c { result.c ≡ nodes.field_c sheet.now n }
+    {
+        Node {
+            kind: kind(sheet, n),
+            span: span(sheet, n),
+            count: count(sheet, n),
+            a: field_a(sheet, n),
+            b: field_b(sheet, n),
+            c: field_c(sheet, n),
+        }
+    }
+}
+
 // The position of node `n`.
 pub fn position(sheet: &[u8], n: u32) -> u32
     ensures { result ≡ nodes.position sheet.now n }
@@ -150,14 +184,14 @@ pub fn local_text(sheet: &[u8], l: u32) -> u32
 pub fn child(n: u32) -> u32
     ensures { result ≡ nodes.child n }
 {
-    std::num::wrapping_add_u32(n, 1)
+    n.wrapping_add(1)
 }
 
 // The sibling after node `n`.
 pub fn next(sheet: &[u8], n: u32) -> u32
     ensures { result ≡ nodes.next sheet.now n }
 {
-    std::num::wrapping_add_u32(n, span(sheet, n))
+    n.wrapping_add(span(sheet, n))
 }
 
 // Where text `t` starts among the text bytes, and its length.
@@ -203,15 +237,50 @@ pub fn text(sheet: &[u8], t: u32) -> &[u8]
     part(sheet, at, len)
 }
 
+// The siblings from a node on, as many as are left.
+#[derive(Clone, Copy)]
+pub struct Siblings<'a> {
+    sheet: &'a [u8],
+    left: u32,
+    at: u32,
+}
+
+impl<'a> Iterator for Siblings<'a> {
+    type Item = u32;
+
+    ghost next_gives = { YieldsFirst rest };
+
+    ghost remaining = { λ s. at_most s.left };
+
+    fn next(&mut self) -> Option<u32> {
+        if self.left == 0 {
+            return None;
+        }
+        let node = self.at;
+        self.left -= 1;
+        self.at = next(self.sheet, node);
+        Some(node)
+    }
+}
+
+impl<'a> Siblings<'a> {
+    // The `m` siblings from node `first` on.
+    pub fn new(sheet: &'a [u8], m: u32, first: u32) -> Siblings<'a>
+        ensures sheet { result.sheet.now ≡ sheet.now }
+        ensures left { result.left ≡ m }
+        ensures at { result.at ≡ first }
+    {
+        Siblings {
+            sheet,
+            left: m,
+            at: first,
+        }
+    }
+}
+
 // The sibling `m` places after node `j`.
 pub fn skip(sheet: &[u8], m: u32, j: u32) -> u32
     ensures { result ≡ walks.skip sheet.now m j }
 {
-    let mut i: u32 = 0;
-    let mut at = j;
-    while i < m {
-        at = next(sheet, at);
-        i += 1;
-    }
-    at
+    (0..m).fold(j, |at, _| next(sheet, at))
 }

@@ -1,15 +1,16 @@
 // Reads a sheet from standard input and prints `accepted`, or `refused` and the number. A sheet of over 65,536 bytes is refused with 1.
 #![tactic(auto)]
 
+use checks::check;
 use input::{more, read_full};
-use refusals::{Refusal, refusal_number};
+use refusals::Refusal;
 use std::io;
 
-fn answer(rt: &impl Print, number: u32) -> io::Result<()> {
-    if number == 0 {
-        return println!(rt; "accepted");
+fn answer(rt: &impl Print, verdict: Result<(), Refusal>) -> io::Result<()> {
+    match verdict {
+        Ok(()) => println!(rt; "accepted"),
+        Err(by) => println!(rt; "{by}"),
     }
-    println!(rt; "refused {number}")
 }
 
 fn main(rt: HostRuntime) -> io::Result<()> {
@@ -17,7 +18,7 @@ fn main(rt: HostRuntime) -> io::Result<()> {
     let mut sheet = [0u8; 65536];
     let n = read_full(&mut reader, &mut sheet)?;
     if more(&mut reader)? {
-        return answer(&rt, refusal_number(Refusal::Size));
+        return answer(&rt, Err(Refusal::Size));
     }
-    answer(&rt, checks::number(checks::check(&sheet[..n])))
+    answer(&rt, check(&sheet[..n]))
 }

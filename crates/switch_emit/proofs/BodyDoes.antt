@@ -10,12 +10,11 @@ use Rattle.lowering.specs.Code.{no_pos}
 use Rattle.lowering.specs.Nodes.{Right, Valid}
 use Rattle.lowering.proofs.NodesLaws.{body-valid}
 use Rattle.lowering.specs.SwitchSheet.{block_count, body_of}
-use Rattle.expr_model.specs.Made.{Made, emit, at_depth, lowered}
+use Rattle.expr_model.specs.Made.{Made, emit, lowered}
 use Rattle.expr_model.proofs.Rising.{lowered-rises}
 use Rattle.scratch.specs.declared.Layout.{Layout}
 use Rattle.scratch_store.specs.declared.State.{State}
 use Rattle.scratch_store.specs.States as states
-use Rattle.scratch_store.specs.States.{state_of, Full}
 use Rattle.scratch_store.specs.Does.{Growing, Does}
 use Rattle.scratch_store.proofs.DoesLaws.{growing-seq, does-none, does-seq}
 use Rattle.switch_model.specs.Change.{jump_to, body_to, bodies_to, missing_to, close_to}
@@ -71,11 +70,11 @@ module _ (s w : List ℕ) (drop : Bool) (k : ℕ) where
       (λ h. bodies-skip s (lowered max_depth s) (want_in w) (cell w end_at) falls n k a lt h ∙ rw (body-no a h))
 
 module _ {s : List ℕ} {l : Layout} (w : List ℕ) (drop : Bool) (k : ℕ) where
-  pub body-lowers : {xs ys zs : List ℕ} {p q r : State} (c : List ℕ) (v g j e : ℕ) → v ≡ cell w (wanted_at + k) → v ≡ 1
+  pub body-lowers : {xs ys zs : List ℕ} {p q r : State} (c : State) (v g j e : ℕ) → v ≡ cell w (wanted_at + k) → v ≡ 1
       → g ≡ cell w (guard_node_at + k) → j ≡ next s g → e ≡ cell w end_at → Ready s → Guards s w (block_count s) → k < block_count s
-      → (Full c → p ≡ states.at_depth (state_of c) 1)
+      → p ≡ states.at_depth c 1
       → (Right s → Valid s j → Does s l xs p ys q (lowered max_depth s j)) → Does s l ys q zs r (jump_to drop e)
-      → From s l xs (state_of c) zs r (body_by s w drop k)
+      → From s l xs c zs r (body_by s w drop k)
   unfolding body_to
   body-lowers {xs} {p = p} c v g j e v-is v-one g-is j-is e-is C G lt p-is d f =
       let up = jump-growing drop (cell w end_at) in
@@ -126,8 +125,8 @@ module _ {s : List ℕ} {l : Layout} {ws xs : List ℕ} {st q : State} {t : List
 -- ---- the end
 
 module _ {s : List ℕ} {l : Layout} where
-  pub missing-does : {xs ys : List ℕ} {p r : State} (c : List ℕ) (def : ℕ) → def ≡ 0 → (Full c → p ≡ states.at_depth (state_of c) 1)
-      → Does s l xs p ys r (emit Unit no_pos 0) → From s l xs (state_of c) ys r (missing_to def)
+  pub missing-does : {xs ys : List ℕ} {p r : State} (c : State) (def : ℕ) → def ≡ 0 → p ≡ states.at_depth c 1
+      → Does s l xs p ys r (emit Unit no_pos 0) → From s l xs c ys r (missing_to def)
   missing-does {xs} {ys} {p} c def h p-is d =
       from-same (missing_to def) (λ a. sym (missing-none def a h))
       (from-seq (growing-depth 1) (growing-emit Unit no_pos 0) (depth-from xs c p 1 (omega arith) p-is) (does-from d))
@@ -135,8 +134,8 @@ module _ {s : List ℕ} {l : Layout} where
   pub missing-not : {xs : List ℕ} {st : State} (def : ℕ) → (def ≡ 0 → ⊥) → From s l xs st xs st (missing_to def)
   missing-not {xs} {st} def h = from-same (missing_to def) (λ a. sym (missing-some def a (positive h))) (does-from (does-none xs st))
 
-  pub close-does : {xs ys zs : List ℕ} {p q r : State} (c : List ℕ) → (Full c → p ≡ states.at_depth (state_of c) 2)
-      → Does s l xs p ys q (emit (Rotate 1) no_pos 0) → Does s l ys q zs r (emit Pop no_pos 0) → From s l xs (state_of c) zs r close_to
+  pub close-does : {xs ys zs : List ℕ} {p q r : State} (c : State) → p ≡ states.at_depth c 2
+      → Does s l xs p ys q (emit (Rotate 1) no_pos 0) → Does s l ys q zs r (emit Pop no_pos 0) → From s l xs c zs r close_to
   close-does {xs} {ys} {zs} {p} c p-is d e =
       from-same close_to (λ a. sym (close-steps a))
       (from-seq (growing-depth 2) (growing-seq (growing-emit (Rotate 1) no_pos 0) (growing-emit Pop no_pos 0)) (depth-from xs c p 2

@@ -4,7 +4,6 @@ use Rattle.expr_model.specs.Made.{Made, at_depth}
 use Rattle.scratch.specs.declared.Layout.{Layout}
 use Rattle.scratch_store.specs.declared.State.{State}
 use Rattle.scratch_store.specs.States as states
-use Rattle.scratch_store.specs.States.{state_of, Full}
 use Rattle.scratch_store.specs.Holds.{Holds}
 use Rattle.scratch_store.specs.Does.{Fits, Growing, Does}
 use Rattle.expr_emit.proofs.EndDoes.{held-at-depth}
@@ -64,6 +63,6 @@ module _ {s : List ℕ} {l : Layout} where
   from-same G e d = record { holds = λ a k h f. subst (Holds s l _ _) (e a) (d.holds a k h (subst (Fits l) (sym (e a)) f)) }
 
   -- the depth where a jump comes in
-  pub depth-from : (xs c : List ℕ) (r : State) (d : ℕ) → d ≤ 2 → (Full c → r ≡ states.at_depth (state_of c) d)
-      → From s l xs (state_of c) xs r (at_depth d)
+  pub depth-from : (xs : List ℕ) (c r : State) (d : ℕ) → d ≤ 2 → r ≡ states.at_depth c d
+      → From s l xs c xs r (at_depth d)
   depth-from xs c r d g e = record { holds = λ a k h f. held-at-depth c e (omega arith) h }

@@ -1,5 +1,5 @@
 -- The small parts: an instruction that is counted alone, jumps, a guard with its jump.
-use Rattle.std.proofs.Common.{◌≡◌, ℕ, ◌+◌, ◌%◌, Bool, true, false, List, [], ◌∷◌, get_or, set, sym, refl, arith}
+use Rattle.std.proofs.Common.{◌≡◌, ℕ, ◌+◌, ◌%◌, Bool, true, false, List, sym, refl, arith}
 use Rattle.scratch_store.proofs.GrowingLaws.{growing-emit}
 use Rattle.sheet.specs.Node.{position}
 use Rattle.bytecode.specs.declared.Op.TheVariants.{Jump, JumpIfTrue}
@@ -11,9 +11,8 @@ use Rattle.expr_model.specs.Construct.{Low}
 use Rattle.scratch.specs.declared.Layout.{Layout}
 use Rattle.scratch_store.specs.declared.State.{State}
 use Rattle.scratch_store.specs.Holds.{Holds}
-use Rattle.scratch_store.specs.States.{state_of, Full}
 use Rattle.scratch_store.specs.Does.{Fits, Does}
-use Rattle.scratch_store.proofs.DoesLaws.{does-same, does-seq, does-none, held-full}
+use Rattle.scratch_store.proofs.DoesLaws.{does-same, does-seq, does-none}
 use Rattle.scratch_store.proofs.FrameLaws.{pools-same, pools-counts}
 use Rattle.switch_model.specs.Change.{dropped, jump_to}
 use Rattle.switch_model.proofs.LoopLaws.{jump_kept}
@@ -21,16 +20,6 @@ use Rattle.expr_emit.proofs.Doing.{does_at}
 use Rattle.switch_emit.specs.Parts.{dropped_in, end_arm, try_one}
 
 -- ---- an instruction that is counted and has no code
-
-pub dropped-of : (c : List ℕ) (n : ℕ) → n ≡ (get_or c 6 0 + 1) % 4294967296 → Full c → state_of (set c 6 n) ≡ dropped_in (state_of c)
-dropped-of ([]) n e h = absurd (omega arith)
-dropped-of (a0 ∷ []) n e h = absurd (omega arith)
-dropped-of (a0 ∷ a1 ∷ []) n e h = absurd (omega arith)
-dropped-of (a0 ∷ a1 ∷ a2 ∷ []) n e h = absurd (omega arith)
-dropped-of (a0 ∷ a1 ∷ a2 ∷ a3 ∷ []) n e h = absurd (omega arith)
-dropped-of (a0 ∷ a1 ∷ a2 ∷ a3 ∷ a4 ∷ []) n e h = absurd (omega arith)
-dropped-of (a0 ∷ a1 ∷ a2 ∷ a3 ∷ a4 ∷ a5 ∷ []) n e h = absurd (omega arith)
-dropped-of (a0 ∷ a1 ∷ a2 ∷ a3 ∷ a4 ∷ a5 ∷ a6 ∷ c) n e h = rw e
 
 dropped-holds : {s : List ℕ} {l : Layout} {xs : List ℕ} {st : State} {a : Made} → Fits l (dropped a) → Holds s l xs st a
     → Holds s l xs (dropped_in st) (dropped a)
@@ -62,10 +51,10 @@ dropped-holds {s} {l} {xs} {st} {a} f h =
       index = h.index;
     }
 
-pub dropped-does : {s : List ℕ} {l : Layout} {xs : List ℕ} {r : State} (c : List ℕ) (to : ℕ) (drop : Bool) → drop ≡ true
-    → (Full c → r ≡ dropped_in (state_of c)) → Does s l xs (state_of c) xs r (jump_to drop to)
+pub dropped-does : {s : List ℕ} {l : Layout} {xs : List ℕ} {r : State} (c : State) (to : ℕ) (drop : Bool) → drop ≡ true
+    → r ≡ dropped_in c → Does s l xs c xs r (jump_to drop to)
 unfolding jump_to
-dropped-does c to drop e q = rw e (record { holds = λ a h f. rw (q (held-full c h)) (dropped-holds f h) })
+dropped-does c to drop e q = rw e (record { holds = λ a h f. rw q (dropped-holds f h) })
 
 module _ {s : List ℕ} {l : Layout} {xs ys : List ℕ} {st r : State} where
   pub jump-does : (to : ℕ) (drop : Bool) → drop ≡ false → Does s l xs st ys r (emit (Jump to) no_pos 0)

@@ -2,9 +2,7 @@
 ghost use Rattle.std.specs.Prelude.{◌≡◌, ℕ, ◌<◌, ◌≤◌, List};
 ghost use Rattle.sheet.specs.Limits.{max_depth, max_entries};
 ghost use Rattle.lowering.specs.SwitchSheet.{block_count};
-ghost use Rattle.bytecode.specs.Table.{effect_table};
 ghost use Rattle.scratch.specs.declared.Layout.{Layout};
-ghost use Rattle.scratch_store.specs.States.{state_of};
 ghost use Rattle.expr_model.specs.Made.{lowered};
 ghost use Rattle.switch_model.specs.Change as change;
 ghost use Rattle.switch_model.specs.Last.{last_of};
@@ -19,43 +17,33 @@ use crate::jumps::jump;
 use bytecode::Op;
 use expr_emit::expression;
 use scratch::get;
-use scratch_store::emit;
-use scratch_store::states::{COUNTS, at_depth};
+use scratch_store::{State, emit};
 use sheet::limits::MAX_DEPTH;
 use sheet::{field_a, next};
 use switch_lists::capped;
 use switch_tables::{END, GUARD_NODE, WANTED};
 
 // The body of block `k` over the subject, and the jump to the end, if the body is wanted.
-fn body(
-    sheet: &[u8],
-    t: &[u8; 125],
-    counts: &mut [u32; COUNTS],
-    scratch: &mut [u32],
-    flat: &[u32],
-    drop: bool,
-    k: usize,
-)
+fn body(sheet: &[u8], state: &mut State, scratch: &mut [u32], flat: &[u32], drop: bool, k: usize)
     requires { k < max_entries }
     ensures { let sheet = sheet.now in
         let table = flat.now in
-        ((l : Layout) → t.now ≡ effect_table → Ready sheet
+        ((l : Layout) → Ready sheet
         → Guards sheet table (block_count sheet) → k < block_count sheet
-        → From sheet l scratch.old (state_of counts.old) scratch.new (state_of counts.new)
+        → From sheet l scratch.old state.old scratch.new state.new
         (parts.body_if (want_in table) sheet (lowered max_depth sheet)
         (cell table end_at) drop k)) }
 {
     if get(flat, WANTED + k) == 1 {
-        at_depth(counts, 1);
+        state.at_depth(1);
         expression(
             MAX_DEPTH,
             sheet,
-            t,
-            counts,
+            state,
             scratch,
             next(sheet, get(flat, GUARD_NODE + k)),
         );
-        jump(t, counts, scratch, drop, get(flat, END));
+        jump(state, scratch, drop, get(flat, END));
     }
 }
 
@@ -65,62 +53,49 @@ fn last_wanted(flat: &[u32], n: usize) -> usize
     ensures { result ≡ last_of (want_in flat.now) n }
 {
     let mut last = 0;
-    let mut k = 0;
-    while k < n {
+    for k in 0..n {
         if get(flat, WANTED + k) == 1 {
             last = k + 1;
-            k += 1;
-        } else {
-            k += 1;
         }
     }
     last
 }
 
 // The bodies; `falls` says that the end follows.
-pub fn bodies(
-    sheet: &[u8],
-    t: &[u8; 125],
-    counts: &mut [u32; COUNTS],
-    scratch: &mut [u32],
-    flat: &[u32],
-    falls: bool,
-)
+pub fn bodies(sheet: &[u8], state: &mut State, scratch: &mut [u32], flat: &[u32], falls: bool)
     ensures { let sheet = sheet.now in
         let table = flat.now in
-        ((l : Layout) → t.now ≡ effect_table → Ready sheet → Tables sheet table
-        → From sheet l scratch.old (state_of counts.old) scratch.new (state_of counts.new)
+        ((l : Layout) → Ready sheet → Tables sheet table
+        → From sheet l scratch.old state.old scratch.new state.new
         (change.bodies_to sheet (lowered max_depth sheet) (want_in table) (cell table end_at) falls
         (block_count sheet) 0)) }
 {
     let n = capped(field_a(sheet, 0) as usize);
     let last = last_wanted(flat, n);
-    let mut k = 0;
-    while k < n {
-        body(sheet, t, counts, scratch, flat, falls & (last <= k + 1), k);
-        k += 1;
+    for k in 0..n {
+        body(sheet, state, scratch, flat, falls & (last <= k + 1), k);
     }
 }
 
 // Unit for a missing default.
-pub fn missing(t: &[u8; 125], counts: &mut [u32; COUNTS], scratch: &mut [u32], def: u32)
-    ensures { (l : Layout) → t.now ≡ effect_table → (s : List ℕ)
-        → From s l scratch.old (state_of counts.old) scratch.new (state_of counts.new)
+pub fn missing(state: &mut State, scratch: &mut [u32], def: u32)
+    ensures { (l : Layout) → (s : List ℕ)
+        → From s l scratch.old state.old scratch.new state.new
         (change.missing_to def) }
 {
     if def == 0 {
-        at_depth(counts, 1);
-        emit(t, counts, scratch, Op::Unit, 0, 0);
+        state.at_depth(1);
+        emit(state, scratch, Op::Unit, 0, 0);
     }
 }
 
 // The subject goes from below the value.
-pub fn close(t: &[u8; 125], counts: &mut [u32; COUNTS], scratch: &mut [u32])
-    ensures { (l : Layout) → t.now ≡ effect_table → (s : List ℕ)
-        → From s l scratch.old (state_of counts.old) scratch.new (state_of counts.new)
+pub fn close(state: &mut State, scratch: &mut [u32])
+    ensures { (l : Layout) → (s : List ℕ)
+        → From s l scratch.old state.old scratch.new state.new
         change.close_to }
 {
-    at_depth(counts, 2);
-    emit(t, counts, scratch, Op::Rotate(1), 0, 0);
-    emit(t, counts, scratch, Op::Pop, 0, 0);
+    state.at_depth(2);
+    emit(state, scratch, Op::Rotate(1), 0, 0);
+    emit(state, scratch, Op::Pop, 0, 0);
 }

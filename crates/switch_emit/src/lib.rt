@@ -5,9 +5,7 @@
 ghost use Rattle.std.specs.Prelude.{◌≡◌, length};
 ghost use Rattle.sheet.specs.Limits.{max_depth};
 ghost use Rattle.lowering.specs.SwitchSheet.{cases_of, default_block};
-ghost use Rattle.bytecode.specs.Table.{effect_table};
 ghost use Rattle.scratch.specs.declared.Layout.{Layout};
-ghost use Rattle.scratch_store.specs.States.{state_of};
 ghost use Rattle.expr_model.specs.Made.{Made, lowered};
 ghost use Rattle.scratch_store.specs.Holds.{Holds};
 ghost use Rattle.scratch_store.specs.Does.{Does};
@@ -27,31 +25,28 @@ use bytecode::Op;
 use check_switches::first_case;
 use expr_emit::expression;
 use scratch::{get, put};
-use scratch_store::states::COUNTS;
-use scratch_store::{add_const, emit};
+use scratch_store::{State, add_const, emit};
 use sheet::limits::MAX_DEPTH;
 use sheet::{child, field_b, field_c, next};
 use switch_lists::capped;
 use switch_tables::{BANDS, CASE_CONST};
 
 // The constants of the Cases, and the place of each.
-pub fn case_consts(sheet: &[u8], counts: &mut [u32; COUNTS], scratch: &mut [u32], flat: &mut [u32])
+pub fn case_consts(sheet: &[u8], state: &mut State, scratch: &mut [u32], flat: &mut [u32])
     ensures fact { let sheet = sheet.now in ((l : Layout) → Ready sheet
-        → Does sheet l scratch.old (state_of counts.old) scratch.new (state_of counts.new)
+        → Does sheet l scratch.old state.old scratch.new state.new
         (change.cases_to sheet (cases_of sheet))) }
     ensures fact_2 { let sheet = sheet.now in ((l : Layout) (a : Made) → Ready sheet → length flat.old ≡ size
-        → Holds sheet l scratch.old (state_of counts.old) a
+        → Holds sheet l scratch.old state.old a
         → ConstsAt sheet flat.new a) }
     ensures within { length flat.old ≡ size → Within case_const_at size flat.old flat.new }
 {
     let n = capped(field_b(sheet, 0) as usize);
     let mut j = first_case(sheet);
-    let mut i = 0;
-    while i < n {
-        let p = add_const(sheet, counts, scratch, child(j));
+    for i in 0..n {
+        let p = add_const(sheet, state, scratch, child(j));
         put(flat, CASE_CONST + i, p);
         j = next(sheet, j);
-        i += 1;
     }
 }
 
@@ -66,60 +61,48 @@ fn has_default(def: u32) -> bool
 }
 
 // The subject, and the first Switch.
-fn subject(sheet: &[u8], t: &[u8; 125], counts: &mut [u32; COUNTS], scratch: &mut [u32])
-    ensures { let sheet = sheet.now in ((l : Layout) → t.now ≡ effect_table → Ready sheet
-        → Does sheet l scratch.old (state_of counts.old) scratch.new (state_of counts.new)
+fn subject(sheet: &[u8], state: &mut State, scratch: &mut [u32])
+    ensures { let sheet = sheet.now in ((l : Layout) → Ready sheet
+        → Does sheet l scratch.old state.old scratch.new state.new
         (change.subject_to (lowered max_depth sheet))) }
 {
-    expression(MAX_DEPTH, sheet, t, counts, scratch, child(0));
-    emit(t, counts, scratch, Op::Switch(0), 0, 0);
+    expression(MAX_DEPTH, sheet, state, scratch, child(0));
+    emit(state, scratch, Op::Switch(0), 0, 0);
 }
 
 // The chains of the cases; the second Switch and the chains of the ranges, if the split has entries.
-fn chains(
-    sheet: &[u8],
-    t: &[u8; 125],
-    counts: &mut [u32; COUNTS],
-    scratch: &mut [u32],
-    flat: &[u32],
-)
+fn chains(sheet: &[u8], state: &mut State, scratch: &mut [u32], flat: &[u32])
     ensures { let sheet = sheet.now in
         let table = flat.now in
-        ((l : Layout) → t.now ≡ effect_table → Ready sheet → Tables sheet table
+        ((l : Layout) → Ready sheet → Tables sheet table
         → Placed sheet table
-        → Does sheet l scratch.old (state_of counts.old) scratch.new (state_of counts.new)
+        → Does sheet l scratch.old state.old scratch.new state.new
         (change.chains_to sheet (lowered max_depth sheet) (parts.targets_in table)
         (entries sheet))) }
 {
     if get(flat, BANDS) == 0 {
-        case_arms(sheet, t, counts, scratch, flat, false);
+        case_arms(sheet, state, scratch, flat, false);
         return;
     }
-    case_arms(sheet, t, counts, scratch, flat, true);
-    emit(t, counts, scratch, Op::Switch(1), 0, 0);
-    range_arms(sheet, t, counts, scratch, flat);
+    case_arms(sheet, state, scratch, flat, true);
+    emit(state, scratch, Op::Switch(1), 0, 0);
+    range_arms(sheet, state, scratch, flat);
 }
 
 // The switch, with all that its table has.
-pub fn switch(
-    sheet: &[u8],
-    t: &[u8; 125],
-    counts: &mut [u32; COUNTS],
-    scratch: &mut [u32],
-    flat: &[u32],
-)
+pub fn switch(sheet: &[u8], state: &mut State, scratch: &mut [u32], flat: &[u32])
     ensures { let sheet = sheet.now in
         let table = flat.now in
-        ((l : Layout) → t.now ≡ effect_table → Ready sheet → Tables sheet table
+        ((l : Layout) → Ready sheet → Tables sheet table
         → Placed sheet table
-        → Does sheet l scratch.old (state_of counts.old) scratch.new (state_of counts.new)
+        → Does sheet l scratch.old state.old scratch.new state.new
         (change.switch_to sheet (lowered max_depth sheet) (parts.targets_in table) (entries sheet)
         (default_block sheet) (want_in table))) }
 {
     let def = field_c(sheet, 0);
-    subject(sheet, t, counts, scratch);
-    chains(sheet, t, counts, scratch, flat);
-    bodies::bodies(sheet, t, counts, scratch, flat, has_default(def));
-    bodies::missing(t, counts, scratch, def);
-    bodies::close(t, counts, scratch);
+    subject(sheet, state, scratch);
+    chains(sheet, state, scratch, flat);
+    bodies::bodies(sheet, state, scratch, flat, has_default(def));
+    bodies::missing(state, scratch, def);
+    bodies::close(state, scratch);
 }

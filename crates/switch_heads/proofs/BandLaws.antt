@@ -15,8 +15,7 @@ use Rattle.switch_tables.specs.Spans.{Span, blocks_at}
 use Rattle.switch_tables.specs.Table.{spans_in, piece_in, band_keys, BandsHashed, BandHeads}
 use Rattle.switch_tables.proofs.ColumnLaws.{column-kept, keys_length, key-at}
 use Rattle.switch_lists.proofs.SpanLaws.{spans-within}
-use Rattle.switch_heads.specs.Hashed.{lists_by}
-use Rattle.switch_heads.proofs.SearchLaws.{Found}
+use Rattle.switch_heads.specs.Hashed.{lists_by, Hashed}
 use Rattle.switch_heads.proofs.FillLaws.{Places, Fill, Filled, fill_start, fill-old, fill-new, fill_end}
 
 abbrev band_places : Places
@@ -50,14 +49,16 @@ keys-same e = ap {B = ℕ → List ℕ} (λ (xs : List Span) (p : ℕ). blocks_a
 
 -- what `band_number` answers of the table v
 abbrev BandFound : List ℕ → ℕ → ℕ → ℕ → ℕ → Type 0
-BandFound v heads p h q = Found (piece_in v) v band_head_at band_head_hash_at heads (piece_in v p) (cell v spans_at ≤ max_entries) h q
+BandFound v heads p h q =
+    cell v spans_at ≤ max_entries → h ≡ hash_of (piece_in v p) → Hashed (piece_in v) v band_head_at band_head_hash_at heads
+    → q ≡ number_in (piece_in v p) (lists_by (piece_in v) v band_head_at heads)
 
 module _ (w : List ℕ) (n : ℕ) (v : List ℕ) (heads i : ℕ) (k : BandFill w n v heads i) where
   all : Asked w → n ≡ length (band_keys w)
   all a = omega (arith, k.count, a.few_bands, keys_length (piece_in w) w band_first_at (cell w bands_at))
 
   module _ (more : i < n) (p h q : ℕ) (p-is : p ≡ cell v (band_first_at + i)) (h-is : h ≡ cell v (band_hash_at + i))
-      (found : BandFound v heads p h q) where
+      (most : q ≤ heads) (found : BandFound v heads p h q) where
     -- with what the contract asks
     module _ (a : Asked w) where
       r : Filled (piece_in w) band_places (band_keys w) w v heads i
@@ -80,7 +81,7 @@ module _ (w : List ℕ) (n : ℕ) (v : List ℕ) (heads i : ℕ) (k : BandFill w
       number-now =
           let few : cell v spans_at ≤ max_entries = rw (r.stays.low spans_at (omega arith)) a.few_spans in
           let spans = spans-within (omega arith) a.few_spans r.stays in
-          (rw (keys-same spans, spans) at (found.1 few)) hash-now r.hashed
+          (rw (keys-same spans, spans) at (found few)) hash-now r.hashed
 
     pub bands-old : (u : List ℕ) → u ≡ set v (band_number_at + i) q → (q ≡ heads → ⊥) → BandFill w n u heads (i + 1)
     bands-old u write ne = record {

@@ -14,13 +14,11 @@ use Rattle.lowering.specs.SwitchSheet.{cases_of, nodes_from}
 use Rattle.switch_tables.specs.Columns.{size, case_heads_at, case_number_at, head_node_at, head_hash_at, spans_at, Within}
 use Rattle.switch_tables.specs.Hash.{hash_of}
 use Rattle.switch_tables.specs.Heads.{case_key}
-use Rattle.switch_tables.specs.Listed.{Listed}
 use Rattle.switch_tables.specs.Numbers.{number_in}
 use Rattle.switch_tables.specs.Table.{case_keys, CaseHeads}
 use Rattle.switch_tables.proofs.NodesLaws.{nodes-length, nodes-take, nodes-at, cases-are}
 use Rattle.switch_heads.specs.Hashed.{lists_by, Hashed}
 use Rattle.switch_heads.proofs.NumbersLaws.{mapped_at}
-use Rattle.switch_heads.proofs.SearchLaws.{Found}
 use Rattle.switch_heads.proofs.FillLaws.{Places, Fill, headed, fill_start, fill-old, fill-new, fill_end}
 
 abbrev case_places : Places
@@ -44,17 +42,18 @@ PutCase s w v heads c q =
     × ((Hashed (case_key s) w head_node_at head_hash_at heads → q ≡ number_in (case_key s c) (lists_by (case_key s) w head_node_at heads))
     × ((q < heads → v ≡ w) × (heads ≤ q → v ≡ set (set w (head_node_at + q) c) (head_hash_at + q) (hash_of (case_key s c)))))
 
-module _ (s w : List ℕ) (heads c q : ℕ) (a : List ℕ) (n h : ℕ)
-    (found : Found (case_key s) w head_node_at head_hash_at heads (take n a) (n ≤ length a) h q) (there : n ≤ length a)
-    (listed : Listed a n (case_key s c)) (hash-is : h ≡ hash_of (take n a)) where
+module _ (s w : List ℕ) (heads c q : ℕ) (a : List ℕ) (h : ℕ) (most : q ≤ heads)
+    (found : h ≡ hash_of a → Hashed (case_key s) w head_node_at head_hash_at heads
+    → q ≡ number_in a (lists_by (case_key s) w head_node_at heads))
+    (list : a ≡ case_key s c) (hash-is : h ≡ hash_of a) where
   number : Hashed (case_key s) w head_node_at head_hash_at heads → q ≡ number_in (case_key s c) (lists_by (case_key s) w head_node_at heads)
-  number d = rw (← listed.items) (found.1 there hash-is d)
+  number d = rw (← list) (found hash-is d)
 
   pub put-old : q < heads → PutCase s w w heads c q
-  put-old o = (found.0, (number, (λ l. refl, λ l. absurd (omega arith))))
+  put-old o = (most, (number, (λ l. refl, λ l. absurd (omega arith))))
 
   pub put-new : (v u : List ℕ) → heads ≤ q → v ≡ set w (head_node_at + q) c → u ≡ set v (head_hash_at + q) h → PutCase s w u heads c q
-  put-new v u o ev eu = (found.0, (number, (λ l. absurd (omega arith), λ l. rw (eu, ev, hash-is, listed.items))))
+  put-new v u o ev eu = (most, (number, (λ l. absurd (omega arith), λ l. rw (eu, ev, hash-is, list))))
 
 -- ---- the lists of the cases by number
 

@@ -5,12 +5,11 @@ use mathlib.Core.Bool.{Bool, true, false}
 use mathlib.Core.List.{List, [], ◌∷◌}
 use native.Mathlib.Omega.{arith}
 use native.Mathlib.Numerals.{add-one}
-use lib.ListN.{length, take, drop, drop_of_length-le}
+use lib.ListN.{drop, drop_of_length-le}
 use lib.Seq.{drop-cons}
 use Rattle.text.specs.Same.{same}
 use Rattle.text.proofs.SameLaws.{same_false}
 use Rattle.switch_tables.specs.Columns.{cell}
-use Rattle.switch_tables.specs.Listed.{Listed}
 use Rattle.switch_tables.specs.Hash.{hash_of}
 use Rattle.switch_tables.specs.Numbers.{number_in}
 use Rattle.switch_tables.proofs.ColumnLaws.{keys_length, key-at}
@@ -73,8 +72,3 @@ module _ (key : ℕ → List ℕ) (w : List ℕ) (at hashes k : ℕ) (l : List �
       pub looks-past : (y : ℕ) → y ≡ cell w (hashes + q) → (y ≡ h → ⊥) → Looks key w at hashes k l P h (q + 1)
       looks-past y y-is ne =
           past (λ p e s. same_false l (key (cell w (at + q))) (λ i. ne (y-is ∙ s.hash_at q o ∙ ap hash_of (sym i) ∙ sym e)))
-
--- the list looked for stands at the front of x
-pub told : (t : Bool) (x : List ℕ) (n : ℕ) (l m : List ℕ) → (n ≤ length x → t ≡ same (take n x) m) → n ≤ length x → Listed x n l
-    → t ≡ same l m
-told t x n l m h room c = rw c.items at (h room)

@@ -2,13 +2,15 @@
 // head only where their hashes are equal.
 #![tactic(auto)]
 
-ghost use Rattle.std.specs.Prelude.{◌≡◌, ℕ, ◌+◌, ◌≤◌, ◌<◌, length, set, take};
+ghost use Rattle.std.specs.Prelude.{◌≡◌, ℕ, ◌+◌, ◌≤◌, ◌<◌, Bool, List, length, set};
+ghost use Rattle.text.specs.Same.{same as same_list};
 ghost use Rattle.sheet.specs.Limits.{max_entries};
 ghost use Rattle.sheet.specs.Walk.{skip};
 ghost use Rattle.check_switches.specs.Switch.{case_count, first_case};
 ghost use Rattle.lowering.specs.Limits.{max_bands};
 ghost use Rattle.switch_tables.specs.Columns.{size, cell, spans_at, wanted_at, Within};
-ghost use Rattle.switch_tables.specs.Columns.{case_heads_at, head_node_at, head_hash_at, bands_at, band_heads_at, band_head_at, band_head_hash_at};
+ghost use Rattle.switch_tables.specs.Columns.{case_heads_at, head_node_at, head_hash_at, bands_at, band_heads_at, band_head_at};
+ghost use Rattle.switch_tables.specs.Columns.{band_head_hash_at};
 ghost use Rattle.switch_tables.specs.Hash.{hash_of};
 ghost use Rattle.switch_tables.specs.Heads.{case_key};
 ghost use Rattle.switch_tables.specs.Numbers.{number_in};
@@ -17,34 +19,57 @@ ghost use Rattle.switch_heads.specs.Hashed.{lists_by, Hashed};
 
 use scratch::{get, put};
 use sheet::{field_b, next};
-use switch_lists::{
-    capped, capped_bands, hash, list_of_case, list_of_piece, same_case, same_piece,
-};
+use switch_lists::{capped, capped_bands, case_list, hash, piece_list, same_case, same_piece};
 use switch_tables::{
     BAND_FIRST, BAND_HASH, BAND_HEAD, BAND_HEAD_HASH, BAND_HEADS, BAND_NUMBER, BANDS, CASE_HEADS,
     CASE_NUMBER, ENTRIES, HEAD_HASH, HEAD_NODE,
 };
 
-// The number of the list `a` of `n` blocks, whose hash is `h`, among the heads of cases.
-fn case_number(sheet: &[u8], flat: &[u32], heads: usize, a: &[u32], n: usize, h: u32) -> usize
-    requires { heads ≤ max_entries }
+// The number of a list, whose hash is `h`, among so many heads: what each is stands in the column at `nodes`, its hash in
+// that at `hashes`, and `same` tells of a head whether its list is the same.
+fn number_of<F: Fn(u32) -> bool>(
+    flat: &[u32],
+    heads: usize,
+    nodes: usize,
+    hashes: usize,
+    h: u32,
+    same: F,
+) -> usize
+    requires callable { F.IsAlwaysCallable same }
+    requires few { heads ≤ max_bands }
+    requires nodes_bound { nodes ≤ size }
+    requires hashes_bound { hashes ≤ size }
     ensures upper_bound { result ≤ heads }
-    ensures fact { let sheet = sheet.now in let list = a.now in (n ≤ length list → h ≡ hash_of (take n list)
-        → Hashed (case_key sheet) flat.now head_node_at head_hash_at heads
-        → result ≡ number_in (take n list) (lists_by (case_key sheet) flat.now head_node_at heads)) }
+    ensures number { (key : ℕ → List ℕ) (list : List ℕ)
+        → ((y : ℕ) (t : Bool) → F.post same y t → t ≡ same_list list (key y)) → h ≡ hash_of list
+        → Hashed key flat.now nodes hashes heads → result ≡ number_in list (lists_by key flat.now nodes heads) }
 {
-    let mut q = 0;
-    while q < heads {
-        if get(flat, HEAD_HASH + q) == h {
-            if same_case(sheet, a, n, get(flat, HEAD_NODE + q)) {
+    for q in 0..heads {
+        if get(flat, hashes + q) == h {
+            if same(get(flat, nodes + q)) {
                 return q;
             }
-            q += 1;
-        } else {
-            q += 1;
         }
     }
     heads
+}
+
+// The number of a list, whose hash is `h`, among the heads of cases.
+fn case_number(sheet: &[u8], flat: &[u32], heads: usize, list: &[u32], h: u32) -> usize
+    requires { heads ≤ max_entries }
+    ensures upper_bound { result ≤ heads }
+    ensures fact { let sheet = sheet.now in (h ≡ hash_of list.now
+        → Hashed (case_key sheet) flat.now head_node_at head_hash_at heads
+        → result ≡ number_in list.now (lists_by (case_key sheet) flat.now head_node_at heads)) }
+{
+    number_of(
+        flat,
+        heads,
+        HEAD_NODE,
+        HEAD_HASH,
+        h,
+        |head| same_case(sheet, list, head),
+    )
 }
 
 // Case `c`: the number of its list. If it is the first with it, it is one more head.
@@ -57,10 +82,10 @@ fn put_case(sheet: &[u8], flat: &mut [u32], heads: usize, c: u32) -> usize
     ensures fact_2 { let sheet = sheet.now in (heads ≤ result
         → flat.new ≡ set (set flat.old (head_node_at + result) c) (head_hash_at + result) (hash_of (case_key sheet c))) }
 {
-    let mut a = [0u32; ENTRIES];
-    let n = list_of_case(sheet, c, &mut a[..]);
-    let h = hash(&a[..], n);
-    let q = case_number(sheet, &flat[..], heads, &a[..], n, h);
+    let mut room = [0u32; ENTRIES];
+    let list = case_list(sheet, c, &mut room[..]);
+    let h = hash(list);
+    let q = case_number(sheet, &flat[..], heads, list, h);
     if q < heads {
         return q;
     }
@@ -79,16 +104,12 @@ pub fn case_heads(sheet: &[u8], flat: &mut [u32], first: u32) -> u32
     let n = capped(field_b(sheet, 0) as usize);
     let mut heads = 0;
     let mut c = first;
-    let mut i = 0;
-    while i < n {
+    for i in 0..n {
         let q = put_case(sheet, flat, heads, c);
         put(flat, CASE_NUMBER + i, q as u32);
         c = next(sheet, c);
         if q == heads {
             heads += 1;
-            i += 1;
-        } else {
-            i += 1;
         }
     }
     put(flat, CASE_HEADS, heads as u32);
@@ -103,20 +124,16 @@ fn band_number(flat: &[u32], heads: usize, p: u32, h: u32) -> usize
         → Hashed (piece_in table) table band_head_at band_head_hash_at heads
         → result ≡ number_in (piece_in table p) (lists_by (piece_in table) table band_head_at heads)) }
 {
-    let mut a = [0u32; ENTRIES];
-    let n = list_of_piece(flat, p, &mut a[..]);
-    let mut q = 0;
-    while q < heads {
-        if get(flat, BAND_HEAD_HASH + q) == h {
-            if same_piece(flat, &a[..], n, get(flat, BAND_HEAD + q)) {
-                return q;
-            }
-            q += 1;
-        } else {
-            q += 1;
-        }
-    }
-    heads
+    let mut room = [0u32; ENTRIES];
+    let list = piece_list(flat, p, &mut room[..]);
+    number_of(
+        flat,
+        heads,
+        BAND_HEAD,
+        BAND_HEAD_HASH,
+        h,
+        |head| same_piece(flat, list, head),
+    )
 }
 
 // The bands.
@@ -126,8 +143,7 @@ pub fn band_heads(flat: &mut [u32])
 {
     let n = capped_bands(get(flat, BANDS) as usize);
     let mut heads = 0;
-    let mut i = 0;
-    while i < n {
+    for i in 0..n {
         let p = get(flat, BAND_FIRST + i);
         let h = get(flat, BAND_HASH + i);
         let q = band_number(&flat[..], heads, p, h);
@@ -136,9 +152,6 @@ pub fn band_heads(flat: &mut [u32])
             put(flat, BAND_HEAD + q, p);
             put(flat, BAND_HEAD_HASH + q, h);
             heads += 1;
-            i += 1;
-        } else {
-            i += 1;
         }
     }
     put(flat, BAND_HEADS, heads as u32);

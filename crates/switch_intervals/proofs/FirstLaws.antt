@@ -14,8 +14,8 @@ use Rattle.sheet.specs.Node.{child, next}
 use Rattle.sheet.specs.Walk.{skip}
 use Rattle.check_switches.specs.Switch.{case_count, range_count, first_case}
 use Rattle.switch_split.specs.Excess.{excess_of}
-use Rattle.switch_split.specs.Held.{held, Lists}
-use Rattle.switch_split.proofs.HeldLaws.{held-set, held-length}
+use Rattle.switch_split.specs.Held.{held, excesses}
+use Rattle.switch_split.proofs.HeldLaws.{held-set, excesses-take}
 use Rattle.switch_split.proofs.OrderLaws.{as_read}
 use Rattle.switch_split.specs.Points.{points, sort, dedup, cuts}
 use Rattle.switch_split.specs.Range.{Range}
@@ -91,21 +91,17 @@ module _ (s : List ℕ) (first n : ℕ) (at : List ℤ) (r i : ℕ) (c : Pointin
             ∙ sym (ap points (first_more s first i));
       }
 
-  pub pointing-end : n ≤ i → n ≤ max_entries → first ≡ skip s (case_count s) (first_case s) → n ≡ min (range_count s) max_entries
-      → Lists at (2 * n) (points (ranges_read s))
-  pointing-end l h f e =
+  pub pointing-end : n ≤ i → first ≡ skip s (case_count s) (first_case s) → n ≡ min (range_count s) max_entries
+      → held at (2 * n) ≡ points (ranges_read s)
+  pointing-end l f e =
       let is : i ≡ n = omega (arith, c.within) in
-      let all : held at (2 * n) ≡ points (ranges_read s) =
       ap (λ (k : ℕ). held at (2 * k)) (sym is)
       ∙ c.ends
       ∙ ap (λ (k : ℕ). points (first_ranges s first k)) is
-      ∙ ap points (first_read s first n f e) in
-      record { numbers = all; count = sym (held-length at (2 * n) (omega (arith, c.size))) ∙ ap length all }
+      ∙ ap points (first_read s first n f e)
 
 -- the end points sorted and made distinct
-pub cuts-by : (rs : List Range) (a b c : List ℤ) (k m n : ℕ) → Lists a k (points rs) → Lists b m (sort (held a k))
-    → Lists c n (dedup (held b m)) → Lists c n (cuts rs)
+pub cuts-by : (rs : List Range) (a b c : List ℤ) (n : ℕ) → held a n ≡ points rs → excesses b ≡ sort (excesses (take n a))
+    → excesses c ≡ dedup (excesses b) → excesses c ≡ cuts rs
 unfolding cuts
-cuts-by rs a b c k m n h g l =
-    let same : dedup (held b m) ≡ dedup (sort (points rs)) = ap dedup (g.numbers ∙ ap sort h.numbers) in
-    record { numbers = l.numbers ∙ same; count = l.count ∙ ap length same }
+cuts-by rs a b c n h g l = l ∙ ap dedup (g ∙ ap sort (excesses-take a n ∙ h))

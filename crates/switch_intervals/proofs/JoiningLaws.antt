@@ -9,7 +9,7 @@ use native.Mathlib.Omega.{arith}
 use native.Mathlib.Decide.{dec_lt}
 use native.Mathlib.Numerals.{add-one}
 use lib.Dec.{ltb, eqb}
-use lib.ListN.{length, get_or, set, take, length-set}
+use lib.ListN.{length, get_or, set, length-set}
 use lib.Seq.{get_or-set_same, get_or-set_other}
 use borrow.Author.Count.{below_more}
 use borrow.Author.Tests.{ltb-true, lt-ltb, le-ltb, eqb-false, ne_eqb, lt-leb}
@@ -26,7 +26,6 @@ use Rattle.switch_split.proofs.PieceLaws.{pieces-count}
 use Rattle.lowering.specs.Limits.{max_bands}
 use Rattle.switch_tables.specs.Columns.{size, cell, spans_at, bands_at, band_first_at, band_last_at, band_hash_at, wanted_at, Within}
 use Rattle.switch_tables.specs.Hash.{hash_of}
-use Rattle.switch_tables.specs.Listed.{Listed}
 use Rattle.switch_tables.specs.Bands.{Band, entry_of, piece_at, band_at, bands_in, joined}
 use Rattle.switch_tables.specs.Spans.{Span, blocks_at, changes_at}
 use Rattle.switch_tables.specs.Table.{ranges_read, spans_in, piece_in, Spanned, BandsAre, BandsHashed}
@@ -84,73 +83,71 @@ module _ (band i : ℕ) where
 pub hash-other : (a b : List ℕ) (h x : ℕ) → h ≡ hash_of a → x ≡ hash_of b → (x ≡ h → ⊥) → false ≡ same a b
 hash-other a b h x e f ne = sym (same_false a b (λ q. ne (f ∙ ap hash_of (sym q) ∙ sym e)))
 
--- ---- piece i, whose list stands in a with its hash h; t says whether it is that of the band, where one is open
+-- ---- piece i, whose list is a, with its hash h; t says whether it is that of the band, where one is open
 
 -- one more band at most
 pub closed-most : (k n band i : ℕ) → k ≡ closed_count n band i → n ≤ max_bands → k ≤ 256
 closed-most k n band i e l = omega (arith, count_most n band i)
 
 -- what is known of it
-pub record Looked (w : List ℕ) (band i : ℕ) (a : List ℕ) (m h : ℕ) (t : Bool) : Type 0 where
-  pub list : Listed a m (piece_in w i)
-  pub made : h ≡ hash_of (take m a)
-  pub told : band < i → t ≡ same (take m a) (piece_in w band)
+pub record Looked (w : List ℕ) (band i : ℕ) (a : List ℕ) (h : ℕ) (t : Bool) : Type 0 where
+  pub list : a ≡ piece_in w i
+  pub made : h ≡ hash_of a
+  pub told : band < i → t ≡ same a (piece_in w band)
 
 -- the hash of the open band is right
 abbrev pub BandHashed : List ℕ → ℕ → ℕ → ℕ → Type 0
 BandHashed w n band i = band < i → cell w (band_hash_at + n) ≡ hash_of (piece_in w band)
 
-abbrev pub Looks : List ℕ → ℕ → ℕ → ℕ → List ℕ → ℕ → ℕ → Bool → Type 0
-Looks w n band i a m h t = cell w spans_at ≤ max_entries → BandHashed w n band i → Looked w band i a m h t
+abbrev pub Looks : List ℕ → ℕ → ℕ → ℕ → List ℕ → ℕ → Bool → Type 0
+Looks w n band i a h t = cell w spans_at ≤ max_entries → BandHashed w n band i → Looked w band i a h t
 
 abbrev pub Steps : List ℕ → ℕ → ℕ → ℕ → List ℕ → ℕ → ℕ → Type 0
 Steps w n band i v k next =
     (k ≤ n + 1) × ((next ≤ i + 1) × (cell w spans_at ≤ max_entries → BandHashed w n band i → Stepped w n band i v k next))
 
 -- from what the calls say
-pub looks : (w : List ℕ) (n band i : ℕ) (e : ℕ) (a : List ℕ) (m h : ℕ) (t : Bool) → e ≡ max_entries → max_entries ≡ length a
-    → (m ≤ max_entries) × (cell w spans_at ≤ max_entries → max_entries ≤ e → Listed a m (piece_in w i))
-    → (m ≤ max_entries → m ≤ length a → h ≡ hash_of (take m a))
-    → (cell w spans_at ≤ max_entries → m ≤ length a → h ≡ hash_of (take m a) → cell w (band_hash_at + n) ≡ hash_of (piece_in w band)
-    → t ≡ same (take m a) (piece_in w band))
-    → Looks w n band i a m h t
-looks w n band i e a m h t long kept list made told few hash =
-    let l : m ≤ length a = omega (arith, list.0) in
-    let x = made list.0 l in
-    record { list = list.1 few (omega arith); made = x; told = λ o. told few l x (hash o) }
+pub looks : (w : List ℕ) (n band i : ℕ) (a : List ℕ) (h : ℕ) (t : Bool)
+    → (length a ≤ max_entries) × (cell w spans_at ≤ max_entries → a ≡ piece_in w i)
+    → (length a ≤ max_entries → h ≡ hash_of a)
+    → (cell w spans_at ≤ max_entries → h ≡ hash_of a → cell w (band_hash_at + n) ≡ hash_of (piece_in w band) → t ≡ same a (piece_in w band))
+    → Looks w n band i a h t
+looks w n band i a h t list made told few hash =
+    let x = made list.0 in
+    record { list = list.1 few; made = x; told = λ o. told few x (hash o) }
 
-module _ (w : List ℕ) (n band i : ℕ) (a : List ℕ) (m h : ℕ) (t : Bool) (c : Looks w n band i a m h t) where
+module _ (w : List ℕ) (n band i : ℕ) (a : List ℕ) (h : ℕ) (t : Bool) (c : Looks w n band i a h t) where
   pub changed-stayed : (ltb band i && t) ≡ true → Steps w n band i w n band
   changed-stayed e =
       let b = (and-eq-true_iff (ltb band i) t).0 e in
       let l : band < i = ltb-true band i b.0 in
-      let goes : Looked w band i a m h t → GoesOn w band i =
-      λ known. (l, sym known.list.items ∙ same_true (take m a) (piece_in w band) (sym (known.told l) ∙ b.1)) in
+      let goes : Looked w band i a h t → GoesOn w band i =
+      λ known. (l, sym known.list ∙ same_true a (piece_in w band) (sym (known.told l) ∙ b.1)) in
       (omega arith, (omega arith, λ few hash. stayed (goes (c few hash)) refl refl refl))
 
-  goes-not : (ltb band i && t) ≡ false → Looked w band i a m h t → GoesOn w band i → ⊥
+  goes-not : (ltb band i && t) ≡ false → Looked w band i a h t → GoesOn w band i → ⊥
   goes-not e known g =
       let both : (ltb band i && t) ≡ true =
       ap₂ ◌&&◌ (lt-ltb band i g.0)
-      (known.told g.0 ∙ ap (λ (l : List ℕ). same l (piece_in w band)) (known.list.items ∙ g.1) ∙ same_refl (piece_in w band)) in
+      (known.told g.0 ∙ ap (λ (l : List ℕ). same l (piece_in w band)) (known.list ∙ g.1) ∙ same_refl (piece_in w band)) in
       true≢false (sym both ∙ e)
 
   module _ (v : List ℕ) (k : ℕ) (e : (ltb band i && t) ≡ false) (q : (k ≡ closed_count n band i) × (v ≡ closed_in w n band i)) where
     few-more : k ≤ n + 1
     few-more = omega (arith, q.0, count_most n band i)
 
-    pub changed-ended : m ≡ 0 → Steps w n band i v k (i + 1)
+    pub changed-ended : length a ≡ 0 → Steps w n band i v k (i + 1)
     changed-ended z =
-        let step : Looked w band i a m h t → Stepped w n band i v k (i + 1) =
-        λ known. ended (goes-not e known) (no_length (piece_in w i) (sym known.list.count ∙ z)) q.1 q.0 refl in
+        let step : Looked w band i a h t → Stepped w n band i v k (i + 1) =
+        λ known. ended (goes-not e known) (no_length (piece_in w i) (ap length (sym known.list) ∙ z)) q.1 q.0 refl in
         (few-more, (omega arith, λ few hash. step (c few hash)))
 
-    pub changed-opened : (u : List ℕ) → (m ≡ 0 → ⊥) → u ≡ set v (band_hash_at + k) h → Steps w n band i u k i
+    pub changed-opened : (u : List ℕ) → (length a ≡ 0 → ⊥) → u ≡ set v (band_hash_at + k) h → Steps w n band i u k i
     changed-opened u ne o =
-        let hashed : Looked w band i a m h t → h ≡ hash_of (piece_in w i) = λ known. known.made ∙ ap hash_of known.list.items in
-        let step : Looked w band i a m h t → Stepped w n band i u k i =
+        let hashed : Looked w band i a h t → h ≡ hash_of (piece_in w i) = λ known. known.made ∙ ap hash_of known.list in
+        let step : Looked w band i a h t → Stepped w n band i u k i =
         λ known.
-        opened (goes-not e known) (λ x. ne (known.list.count ∙ ap length x)) (rw (← q.0, ← q.1, ← hashed known) o) q.0 refl in
+        opened (goes-not e known) (λ x. ne (ap length (known.list ∙ x))) (rw (← q.0, ← q.1, ← hashed known) o) q.0 refl in
         (few-more, (omega arith, λ few hash. step (c few hash)))
 
 -- ---- the bands of the table

@@ -10,8 +10,8 @@ use lib.Seq.{get_or-set_same, get_or-set_other}
 use Rattle.sheet.specs.Limits.{max_entries}
 use Rattle.sheet.specs.Walk.{skip}
 use Rattle.check_switches.specs.Switch.{case_count, range_count, first_case}
-use Rattle.switch_split.specs.Held as points
-use Rattle.switch_split.proofs.HeldLaws.{held-capped, held-length}
+use Rattle.switch_split.specs.Held.{excesses}
+use Rattle.switch_split.proofs.HeldLaws.{excesses-length}
 use Rattle.switch_split.specs.Points.{cuts, points as points_of, sort, sort_onto, dedup}
 use Rattle.switch_split.specs.Split.{atoms, join}
 use Rattle.switch_tables.specs.Columns.{size, cell, spans_at, first_at, low_at, high_at, bands_at, wanted_at, Within, max_cuts}
@@ -71,8 +71,8 @@ module _ (s w v u : List ℕ) (first n : ℕ) (count : n ≡ min (range_count s)
 -- ---- some ranges
 
 -- what each pass says
-abbrev pub CutsRead : List ℕ → ℕ → ℕ → List ℤ → ℕ → Type 0
-CutsRead s first n at m = StartsAt s first → n ≡ min (range_count s) max_entries → points.Lists at m (cuts (ranges_read s))
+abbrev pub CutsRead : List ℕ → ℕ → ℕ → List ℤ → Type 0
+CutsRead s first n at = StartsAt s first → n ≡ min (range_count s) max_entries → excesses at ≡ cuts (ranges_read s)
 
 abbrev pub SpansPut : List ℕ → List ℕ → List ℕ → ℕ → ℕ → List ℕ → List ℕ → Type 0
 SpansPut s v w first n cs marked =
@@ -88,19 +88,16 @@ BandsPut v w pieces marks =
     → BandsAre s w × (BandsHashed w × Within bands_at wanted_at v w)
 
 module _ (s w₀ w₁ w₂ w₃ w₄ : List ℕ) (first n : ℕ) (count : n ≡ min (range_count s) max_entries) (begun : w₁ ≡ set w₀ spans_at n) where
-  module _ (at : List ℤ) (k m p : ℕ) (long : max_cuts ≡ length at) (cap : m ≡ min k max_cuts) (read : CutsRead s first n at k) where
+  module _ (at : List ℤ) (p : ℕ) (few : length at ≤ max_cuts) (read : CutsRead s first n at) where
     abbrev cs : List ℕ
     cs = cuts (ranges_read s)
 
-    pub all-put : p ≡ 2 * m - 1 → (marked : List ℕ) → SpansPut s w₁ w₂ first n (points.held at m) marked → length w₂ ≡ length w₁
-        → CutsPut w₂ w₃ (points.held at m) → length w₃ ≡ length w₂
+    pub all-put : p ≡ 2 * length at - 1 → (marked : List ℕ) → SpansPut s w₁ w₂ first n (excesses at) marked → length w₂ ≡ length w₁
+        → CutsPut w₂ w₃ (excesses at) → length w₃ ≡ length w₂
         → BandsPut w₃ w₄ p marked → length w₀ ≡ size → StartsAt s first → AllPut s w₀ w₄
     all-put pieces marked spans-put same₂ cuts-put same₃ bands-put size₀ h =
-        let here = read h count in
-        let capped : m ≡ min k (length at) = cap ∙ ap (min k) long in
-        let held : points.held at m ≡ cs = ap (points.held at) capped ∙ held-capped at k ∙ here.numbers in
-        let many : length cs ≡ m = ap length (sym held) ∙ held-length at m (omega arith) in
-        let few : m ≤ max_cuts = omega arith in
+        let held : excesses at ≡ cs = read h count in
+        let many : length cs ≡ length at = ap length (sym held) ∙ excesses-length at in
         let size₁ : length w₁ ≡ size = ap length begun ∙ length-set w₀ spans_at n ∙ size₀ in
         let size₂ : length w₂ ≡ size = same₂ ∙ size₁ in
         let size₃ : length w₃ ≡ size = same₃ ∙ size₂ in

@@ -8,7 +8,7 @@ use native.Mathlib.Omega.{arith}
 use native.Mathlib.Numerals.{add-one}
 use lib.Dec.{eqb}
 use lib.ListN.{length, get_or, set, drop, drop_of_length-le}
-use lib.Seq.{get_or-set_same, get_or-set_other, get_or-take, drop-cons}
+use lib.Seq.{get_or-set_same, get_or-set_other, drop-cons}
 use borrow.Author.Tests.{eq-eqb, ne_eqb}
 use Rattle.sheet.specs.Limits.{max_entries}
 use Rattle.lowering.specs.SwitchSheet.{block_count, guard_of}
@@ -117,7 +117,7 @@ exit-told true k = (refl, refl)
 exit-told false k = (refl, refl)
 
 -- at place i of the list that is read
-module _ (s : List ℕ) (t : Rec) (l w₀ a : List ℕ) (n : ℕ) (R : Reads s t w₀ a n l) (w : List ℕ) (sum : Tally) (b : Bool) (i : ℕ)
+module _ (s : List ℕ) (t : Rec) (l w₀ a : List ℕ) (R : Reads s t w₀ a l) (w : List ℕ) (sum : Tally) (b : Bool) (i : ℕ)
     (c : Chaining s t l w₀ w sum b (drop i l)) where
   abbrev end : Tally
   end = end_tally (has_try s l)
@@ -129,10 +129,10 @@ module _ (s : List ℕ) (t : Rec) (l w₀ a : List ℕ) (n : ℕ) (R : Reads s t
   sum-end : (r x : Tally) → Ends r → b ≡ has_try s l → capped (plus sum (plus nothing end)) ≡ x → r ≡ x
   sum-end r x p q m = p c.small.0 c.small.1 ∙ ap (λ (y : Tally). capped (plus sum y)) (ap end_tally q ∙ sym (nothing-plus end)) ∙ m
 
-  pub chain-end : (r : Tally) (x : ℕ) → n ≤ i → Ends r → x ≡ either b 0 2 → ChainOf s t l w₀ w r x
+  pub chain-end : (r : Tally) (x : ℕ) → length a ≤ i → Ends r → x ≡ either b 0 2 → ChainOf s t l w₀ w r x
   unfolding tries_tally has_try end_of wants
   chain-end r x h p q =
-      let none : drop i l ≡ [] = drop_of_length-le l {i = i} (omega (arith, h, R.listed.count)) in
+      let none : drop i l ≡ [] = drop_of_length-le l {i = i} (omega (arith, h, ap length R.listed)) in
       let d : Chaining s t l w₀ w sum b [] = rw none at c in
       let b_is : b ≡ has_try s l = sym (or-false b) ∙ d.tried-is in
       record {
@@ -142,7 +142,7 @@ module _ (s : List ℕ) (t : Rec) (l w₀ a : List ℕ) (n : ℕ) (R : Reads s t
         within = c.within;
       }
 
-  module _ (k x : ℕ) (h : i < n) (k-is : k ≡ get_or a i 0) (at : x ≡ cell w (guard_at + k)) where
+  module _ (k x : ℕ) (h : i < length a) (k-is : k ≡ get_or a i 0) (at : x ≡ cell w (guard_at + k)) where
     abbrev ks : List ℕ
     ks = drop (i + 1) l
 
@@ -150,10 +150,10 @@ module _ (s : List ℕ) (t : Rec) (l w₀ a : List ℕ) (n : ℕ) (R : Reads s t
     adds = plus (t (guard_of s k)) (instructions 1)
 
     inside : i < length l
-    inside = omega (arith, h, R.listed.count)
+    inside = omega (arith, h, ap length R.listed)
 
     here : get_or l i 0 ≡ k
-    here = ap (λ (y : List ℕ). get_or y i 0) (sym R.listed.items) ∙ get_or-take n a i 0 h ∙ sym k-is
+    here = ap (λ (y : List ℕ). get_or y i 0) (sym R.listed) ∙ sym k-is
 
     below : k < block_count s
     below = rw here at (R.named i inside)

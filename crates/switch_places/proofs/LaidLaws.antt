@@ -1,7 +1,7 @@
 -- Laws of the loops over chains: those passed have their places and exits, and those left stand from the sum on. The lists of the heads in
 -- the table are those of the switch, and name its blocks.
 use Prim.Native.Nat.{ℕ, zero, suc, ◌+◌, ◌-◌, ◌≤◌, ◌<◌, min}
-use mathlib.Core.Path.{◌≡◌, refl, sym, ap, subst, ◌∙◌}
+use mathlib.Core.Path.{◌≡◌, refl, sym, ap, ◌∙◌}
 use mathlib.Core.Bool.{Bool, ◌||◌, or_assoc, or-false}
 use mathlib.Core.List.{List, [], ◌∷◌, map}
 use native.Mathlib.Decide.{dec_lt}
@@ -30,7 +30,6 @@ use Rattle.switch_count.specs.Total.{case_lists, split_lists}
 use Rattle.switch_tables.specs.Columns.{size, case_heads_at, spans_at, low_at, band_place_at, band_exit_at, wanted_at, case_place_at, case_exit_at}
 use Rattle.switch_tables.specs.Columns.{body_at, cell}
 use Rattle.switch_tables.specs.Columns.{column, Within}
-use Rattle.switch_tables.specs.Listed.{Listed}
 use Rattle.switch_tables.specs.Table.{piece_in}
 use Rattle.switch_tables.specs.Planned.{exit_of, chain_place, want_in, TablesBy, entries}
 use Rattle.switch_tables.proofs.ColumnLaws.{within_none, within-then, keys_length, key-at}
@@ -55,11 +54,11 @@ aside w v h i clear =
           ]
     ]
 
-pub laid_one : {t : Rec} {s l w a u w₁ w₂ : List ℕ} {n place exit x p : ℕ} {b y r : Tally} → Reads s t w a n l → Cells place exit
+pub laid_one : {t : Rec} {s l w a u w₁ w₂ : List ℕ} {place exit x p : ℕ} {b y r : Tally} → Reads s t w a l → Cells place exit
     → b.len ≤ cap
     → ChainOf s t l w u y x → length u ≡ length w → w₁ ≡ set u place p → (b.len ≤ cap → p ≡ b.len) → w₂ ≡ set w₁ exit x
     → r ≡ capped (plus b y) → LaidOne s t l place exit b w w₂ r
-laid_one {t} {s} {l} {w} {a} {u} {w₁} {w₂} {n} {place} {exit} {x} {p} {b} R C small c same e p-is f q =
+laid_one {t} {s} {l} {w} {a} {u} {w₁} {w₂} {place} {exit} {x} {p} {b} R C small c same e p-is f q =
     rw (f, e, q) (record {
       sum_is = ap (λ (z : Tally). capped (plus b z)) c.sum_is ∙ capped-right b (arm_tally s t l);
       place_is =
@@ -240,15 +239,15 @@ LaidTo s t ls A b w₀ w sum q =
     → Laying s t ls A b w₀ w sum q
 
 -- the heads are those by f of the numbers from `nodes` on, as many as cell `count` says
-pub head-on : {t : Rec} {s w₀ w a : List ℕ} {ls : List (List ℕ)} {A : Area} {many q x m n y : ℕ} {v : List ℕ} {b sum r : Tally}
+pub head-on : {t : Rec} {s w₀ w a : List ℕ} {ls : List (List ℕ)} {A : Area} {many q x n y : ℕ} {v : List ℕ} {b sum r : Tally}
     (f : ℕ → List ℕ) (nodes count : ℕ) → map f (column w₀ nodes (cell w₀ count)) ≡ ls → case_heads_at ≤ A.lo → nodes + many ≤ A.lo
     → Columns A many
     → AllIn (λ (i : ℕ). i < block_count s) ls → TablesBy s t w₀ → length w ≡ size → Laying s t ls A b w₀ w sum q → q < n
-    → n ≡ min y many → y ≡ cell w₀ count → x ≡ cell w (nodes + q) → Listed a m (f x)
-    → ((s' : List ℕ) (t' : Rec) (l : List ℕ) → Reads s' t' w a m l → Cells (A.at + q) (A.out + q) → sum.len ≤ cap
+    → n ≡ min y many → y ≡ cell w₀ count → x ≡ cell w (nodes + q) → a ≡ f x
+    → ((s' : List ℕ) (t' : Rec) (l : List ℕ) → Reads s' t' w a l → Cells (A.at + q) (A.out + q) → sum.len ≤ cap
     → LaidOne s' t' l (A.at + q) (A.out + q) sum w v r)
     → Laying s t ls A b w₀ v r (q + 1)
-head-on {t} {s} {w₀} {w} {a} {ls} {A} {many} {q} {x} {m} f nodes count heads low behind C named T z c h n-is y-is x-is listed laid =
+head-on {t} {s} {w₀} {w} {a} {ls} {A} {many} {q} {x} f nodes count heads low behind C named T z c h n-is y-is x-is listed laid =
     let below : q < cell w₀ count = omega (arith, h, n-is, y-is) in
     let inside : q < length ls = omega (arith, below, ap length heads, keys_length f w₀ nodes (cell w₀ count)) in
     let few : q < many = omega (arith, h, n-is) in
@@ -257,18 +256,18 @@ head-on {t} {s} {w₀} {w} {a} {ls} {A} {many} {q} {x} {m} f nodes count heads l
     ap f (x-is ∙ c.within.low (nodes + q) (omega (arith, few, behind)))
     ∙ sym (key-at f w₀ nodes [] (cell w₀ count) q below)
     ∙ ap (λ (xs : List (List ℕ)). get_or xs q []) heads in
-    let R : Reads s t w a m l =
+    let R : Reads s t w a l =
     record {
       whole = z;
       few = T.few_blocks;
       guards = guards-stay w₀ w A.lo (λ i d. c.within.low i d) s (block_count s) low T.few_blocks T.guards;
-      listed = subst (Listed a m) list listed;
+      listed = listed ∙ list;
       named = all-place (λ (i : ℕ). i < block_count s) l (lists-place (λ (i : ℕ). i < block_count s) ls named q inside);
     } in
     laying-on C c inside few (laid s t l R (columns-cells C q few) c.small.0)
 
 -- a piece as it was read
-pub piece-listed : {t : Rec} {s w₀ w a : List ℕ} {lo hi m : ℕ} (x : ℕ) → TablesBy s t w₀ → Within lo hi w₀ w → low_at ≤ lo
-    → (cell w spans_at ≤ max_entries → Listed a m (piece_in w x)) → Listed a m (piece_in w₀ x)
+pub piece-listed : {t : Rec} {s w₀ w a : List ℕ} {lo hi : ℕ} (x : ℕ) → TablesBy s t w₀ → Within lo hi w₀ w → low_at ≤ lo
+    → (cell w spans_at ≤ max_entries → a ≡ piece_in w x) → a ≡ piece_in w₀ x
 piece-listed x T c h listed =
     rw (sym (piece-kept h T.few_spans c x)) (listed (omega (arith, c.low spans_at (omega arith), T.few_spans)))

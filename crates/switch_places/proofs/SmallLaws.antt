@@ -1,9 +1,11 @@
 -- Laws of straight code: one for each way through a function.
-use Prim.Native.Nat.{ℕ, zero, suc, ◌-◌, ◌<◌, ◌≤◌}
+use Prim.Native.Nat.{ℕ, zero, suc, ◌+◌, ◌-◌, ◌<◌, ◌≤◌}
 use mathlib.Core.Path.{◌≡◌, refl, sym, ◌∙◌, ap, ap₂}
 use mathlib.Core.Bool.{Bool, true, false, ◌&&◌, not, true≢false}
 use mathlib.Core.List.{List}
 use native.Mathlib.Omega.{arith}
+use Rattle.std.specs.Prelude.{Option, None, Some}
+use Rattle.std.specs.Option.{SomeIff}
 use lib.Dec.{eqb}
 use lib.ListN.{length, set, length-set}
 use lib.Seq.{get_or-set_same, get_or-set_other}
@@ -11,11 +13,11 @@ use borrow.Author.Tests.{ne_eqb}
 use Rattle.expr_count.specs.declared.tallies.Tally.{Tally}
 use Rattle.expr_count.specs.Tally.{counted, instructions, plus, capped}
 use Rattle.expr_count.specs.Limits.{cap}
-use Rattle.switch_tables.specs.Columns.{size, cell, bands_at, dispatch_at, default_at, end_at, fallback_at, case_const_at, Within}
+use Rattle.switch_tables.specs.Columns.{size, cell, bands_at, body_at, dispatch_at, default_at, end_at, fallback_at, case_const_at, Within}
 use Rattle.switch_tables.specs.Spans.{one_if}
 use Rattle.switch_tables.proofs.ColumnLaws.{within-put, within-then}
 use Rattle.switch_places.specs.Idle.{idles_from, Exits, second_at, second_tally, Second}
-use Rattle.switch_places.specs.Finished.{if_none, default_in, end_by, fall_by, Finished}
+use Rattle.switch_places.specs.Finished.{if_none, coded, default_in, end_by, fall_by, Finished}
 
 pub none : (n a b : ℕ) → n ≡ 0 → a ≡ if_none n a b
 unfolding if_none
@@ -25,6 +27,15 @@ pub some : (n a b : ℕ) → (n ≡ 0 → ⊥) → b ≡ if_none n a b
 unfolding if_none
 some zero a b e = absurd (e refl)
 some (suc n) a b e = refl
+
+-- the block of the default, as it is found from the sheet's number
+pub coded-of : (o : Option ℕ) (n : ℕ) → SomeIff o (1 ≤ n) (n - 1) → coded o ≡ n
+coded-of None n h = omega (arith, h)
+coded-of (Some k) n h = omega (arith, h.0, h.1)
+
+pub default-some : (w : List ℕ) (k after : ℕ) → cell w (body_at + k) ≡ default_in w (suc k) after
+unfolding if_none
+default-some w k after = ap (cell w) (omega arith)
 
 -- ---- the default, the end and the fallback
 

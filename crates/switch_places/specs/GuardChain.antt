@@ -8,7 +8,6 @@ use Rattle.expr_count.specs.Count.{Rec}
 use Rattle.switch_count.specs.Arms.{wants, arm_tally}
 use Rattle.switch_tables.specs.Columns.{size, wanted_at, case_place_at, cell, Within}
 use Rattle.switch_tables.specs.Table.{GuardsBy}
-use Rattle.switch_tables.specs.Listed.{Listed}
 use Rattle.switch_tables.specs.Planned.{exit_of, want_in}
 
 -- of two numbers the first, if yes
@@ -16,12 +15,12 @@ unfoldable pub either : Bool → ℕ → ℕ → ℕ
 either true a b = a
 either false a b = b
 
--- the table w has the guards of s, and the first n of a are the list l of its blocks
-pub record Reads (s : List ℕ) (t : Rec) (w a : List ℕ) (n : ℕ) (l : List ℕ) : Type 0 where
+-- the table w has the guards of s, and a is the list l of its blocks
+pub record Reads (s : List ℕ) (t : Rec) (w a l : List ℕ) : Type 0 where
   pub whole : length w ≡ size
   pub few : block_count s ≤ max_entries
   pub guards : GuardsBy s t w (block_count s)
-  pub listed : Listed a n l
+  pub listed : a ≡ l
   pub named : (i : ℕ) → i < length l → get_or l i 0 < block_count s
 
 -- the chain of l is counted, from the table w to v: what it adds, and where l goes

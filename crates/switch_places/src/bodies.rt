@@ -59,11 +59,8 @@ pub fn bodies(sheet: &[u8], told: &[u32], flat: &mut [u32], n: usize, b: Tally) 
         → BodiesLaid sheet t ls def n b flat.new result × Within body_at dispatch_at table flat.new) }
 {
     let mut sum = b;
-    let mut k = 0;
-    while k < n {
-        let t = body(sheet, told, flat, k, sum);
-        sum = t;
-        k += 1;
+    for k in 0..n {
+        sum = body(sheet, told, flat, k, sum);
     }
     sum
 }

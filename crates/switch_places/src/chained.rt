@@ -20,13 +20,15 @@ use crate::guards::word;
 use expr_count::tallies::{Tally, instructions, nothing, plus};
 use scratch::{get, put};
 use sheet::limits::MAX_ENTRIES;
-use switch_lists::{capped, capped_bands, list_of_case, list_of_piece};
+use switch_lists::{capped, capped_bands, case_list, piece_list};
 use switch_tables::{
     BAND_EXIT, BAND_HEAD, BAND_HEADS, BAND_PLACE, CASE_EXIT, CASE_HEADS, CASE_PLACE, ENTRIES,
     GUARD, GUARD_EMITTED, GUARD_LEN, HEAD_NODE, WANTED,
 };
 
-// A chain: what it adds, and where its list goes (CASE_EXIT).
+// A chain: what it adds, and where its list goes (CASE_EXIT): from its last jump to the fallback (0) or to a body (1), without a
+// chain to the fallback (2) or to the body of a block (plus 3).
+// Kept: a number and no enum, since it is a word of the table, which write_rows and switch_emit read as it stands.
 #[derive(Clone, Copy)]
 struct Chain {
     pub sum: Tally,
@@ -66,44 +68,41 @@ fn body_of(k: u32) -> u32
     if k < MAX_ENTRIES { k + 3 } else { 2 }
 }
 
-// The chain of the first `n` blocks of `a`; the blocks that it reaches are wanted.
-fn chain_of(flat: &mut [u32], a: &[u32], n: usize) -> Chain
-    ensures { (s : List ℕ) (t : Rec) (l : List ℕ) → Reads s t flat.old a.now n l
+// The chain of a list; the blocks that it reaches are wanted.
+fn chain_of(flat: &mut [u32], list: &[u32]) -> Chain
+    ensures { (s : List ℕ) (t : Rec) (l : List ℕ) → Reads s t flat.old list.now l
         → ChainOf s t l flat.old flat.new result.sum result.exit }
 {
     let mut sum = nothing();
     let mut tried = false;
-    let mut i = 0;
-    while i < n {
-        let b = get(a, i);
-        let k = b as usize;
+    for b in list {
+        let k = *b as usize;
         let g = get(flat, GUARD + k);
-        if g == 0 {
-            i += 1;
-        } else {
+        if g != 0 {
             put(flat, WANTED + k, 1);
             if g == 1 {
-                return ended(sum, tried, 1, body_of(b));
+                return ended(sum, tried, 1, body_of(*b));
             }
-            let t = plus(sum, added(&flat[..], k, g));
-            sum = t;
+            sum = plus(sum, added(&flat[..], k, g));
             tried = true;
-            i += 1;
         }
     }
     ended(sum, tried, 0, 2)
 }
 
-// The chain of the first `n` blocks of `a` behind `b`: its place and its exit go to these cells.
-fn laid(flat: &mut [u32], a: &[u32], n: usize, place: usize, exit: usize, b: Tally) -> Tally
-    ensures { (s : List ℕ) (t : Rec) (l : List ℕ) → Reads s t flat.old a.now n l → Cells place exit
+// The chain of a list behind `b`: its place and its exit go to these cells.
+fn laid(flat: &mut [u32], list: &[u32], place: usize, exit: usize, b: Tally) -> Tally
+    ensures { (s : List ℕ) (t : Rec) (l : List ℕ) → Reads s t flat.old list.now l → Cells place exit
         → b.len ≤ cap → LaidOne s t l place exit b flat.old flat.new result }
 {
-    let y = chain_of(flat, a, n);
+    let y = chain_of(flat, list);
     put(flat, place, word(b.len));
     put(flat, exit, y.exit);
     plus(b, y.sum)
 }
+
+// Kept: `case_chains` and `band_chains` stay two loops. They differ in where a list is read, and one loop with a closure would hand
+// the closure the table that the loop writes, the room, and five places of columns: no plainer than three lines twice.
 
 // The chains of the cases, behind `b`.
 pub fn case_chains(sheet: &[u8], flat: &mut [u32], b: Tally) -> Tally
@@ -115,14 +114,11 @@ pub fn case_chains(sheet: &[u8], flat: &mut [u32], b: Tally) -> Tally
         × Within wanted_at body_at table flat.new) }
 {
     let n = capped(get(flat, CASE_HEADS) as usize);
-    let mut a = [0u32; ENTRIES];
+    let mut room = [0u32; ENTRIES];
     let mut sum = b;
-    let mut q = 0;
-    while q < n {
-        let m = list_of_case(sheet, get(flat, HEAD_NODE + q), &mut a[..]);
-        let t = laid(flat, &a[..], m, CASE_PLACE + q, CASE_EXIT + q, sum);
-        sum = t;
-        q += 1;
+    for q in 0..n {
+        let list = case_list(sheet, get(flat, HEAD_NODE + q), &mut room[..]);
+        sum = laid(flat, list, CASE_PLACE + q, CASE_EXIT + q, sum);
     }
     sum
 }
@@ -136,14 +132,11 @@ pub fn band_chains(flat: &mut [u32], b: Tally) -> Tally
         × Within band_place_at case_place_at table flat.new) }
 {
     let n = capped_bands(get(flat, BAND_HEADS) as usize);
-    let mut a = [0u32; ENTRIES];
+    let mut room = [0u32; ENTRIES];
     let mut sum = b;
-    let mut q = 0;
-    while q < n {
-        let m = list_of_piece(&flat[..], get(flat, BAND_HEAD + q), &mut a[..]);
-        let t = laid(flat, &a[..], m, BAND_PLACE + q, BAND_EXIT + q, sum);
-        sum = t;
-        q += 1;
+    for q in 0..n {
+        let list = piece_list(&flat[..], get(flat, BAND_HEAD + q), &mut room[..]);
+        sum = laid(flat, list, BAND_PLACE + q, BAND_EXIT + q, sum);
     }
     sum
 }
@@ -156,10 +149,8 @@ pub fn want_default(flat: &mut [u32], n: usize, def: u32)
         × Within wanted_at case_place_at flat.old flat.new }
 {
     let d = def as usize;
-    let mut k = 0;
-    while k < n {
+    for k in 0..n {
         put(flat, WANTED + k, one_if(d == k + 1));
-        k += 1;
     }
 }
 
@@ -167,5 +158,5 @@ pub fn want_default(flat: &mut [u32], n: usize, def: u32)
 fn one_if(b: bool) -> u32
     ensures { result ≡ one_if b }
 {
-    if b { 1 } else { 0 }
+    u32::from(b)
 }

@@ -24,10 +24,12 @@ use switch_tables::{GUARD, GUARD_EMITTED, GUARD_LEN, GUARD_NODE};
 pub fn word(n: u64) -> u32
     ensures { n ≤ cap → result ≡ n }
 {
-    if n < 4294967296 { n as u32 } else { 0 }
+    u32::try_from(n).unwrap_or(0)
 }
 
-// Guard `k`: what it is and what it adds.
+// Guard `k`: what it is and what it adds. Constant false is 0, constant true 1, tried 2, and tried so that it reaches an `eval` 3.
+// Kept: numbers and no enum, since they are words of the table. An enum would be turned to a word here and back in
+// `chain_of`, once each, and the one test there is of a word.
 fn put_known(flat: &mut [u32], k: usize, kind: u32, len: u32, emitted: u32)
     requires { k < max_entries }
     ensures { flat.new ≡ with_known flat.old k (record { kind = kind; len = len; emitted = emitted }) }
@@ -74,11 +76,9 @@ pub fn guards(sheet: &[u8], told: &[u32], flat: &mut [u32]) -> u32
 {
     let n = capped(field_a(sheet, 0) as usize);
     let mut j = next(sheet, child(0));
-    let mut k = 0;
-    while k < n {
+    for k in 0..n {
         put_guard(sheet, told, flat, k, j);
         j = next(sheet, next(sheet, j));
-        k += 1;
     }
     j
 }

@@ -15,7 +15,7 @@ ghost use Rattle.switch_tables.specs.Columns.{size, cell, bands_at, dispatch_at,
 ghost use Rattle.switch_tables.specs.Spans.{one_if};
 ghost use Rattle.switch_tables.specs.Planned.{TablesBy};
 ghost use Rattle.switch_places.specs.Counted.{Counted};
-ghost use Rattle.switch_places.specs.Finished.{default_in, end_by, fall_by, last_ones, Finished};
+ghost use Rattle.switch_places.specs.Finished.{coded, default_in, end_by, fall_by, last_ones, Finished};
 ghost use Rattle.switch_places.specs.Idle.{Exits, idles_from, Second};
 
 mod bodies;
@@ -52,14 +52,10 @@ fn case_idle(flat: &[u32]) -> bool
 {
     let n = capped(get(flat, CASE_HEADS) as usize);
     let mut idle = false;
-    let mut q = 0;
-    while q < n {
+    for q in 0..n {
         let e = get(flat, CASE_EXIT + q);
         if e < 2 {
             idle = e == 0;
-            q += 1;
-        } else {
-            q += 1;
         }
     }
     idle
@@ -69,13 +65,7 @@ fn case_idle(flat: &[u32]) -> bool
 fn less(n: u64, yes: bool) -> u64
     ensures { result ≡ n - one_if yes }
 {
-    if yes {
-        if n == 0 {
-            return 0;
-        }
-        return n - 1;
-    }
-    n
+    n.saturating_sub(u64::from(yes))
 }
 
 // Behind the chains of the cases: the second Switch, if there are bands. The last jump before it is dropped if it goes there.
@@ -98,33 +88,23 @@ fn second(flat: &mut [u32], b: Tally) -> Tally
 }
 
 // The default: its body, or the Unit behind the bodies in its stead.
-fn default_at(flat: &[u32], def: u32, after: u64) -> u32
-    ensures { after ≤ cap → result ≡ default_in flat.now def after }
+fn default_at(flat: &[u32], def: Option<u32>, after: u64) -> u32
+    ensures { after ≤ cap → result ≡ default_in flat.now (coded def) after }
 {
-    if def == 0 {
-        return word(after);
+    match def {
+        None => word(after),
+        Some(k) => get(flat, BODY + (k as usize)),
     }
-    get(flat, BODY + (def as usize) - 1)
 }
 
 // Rotate and Pop, behind bodies from `start` to `after` and what stands for a missing default.
-fn end_at(def: u32, start: u64, after: u64) -> u32
-    ensures { after < cap → start ≤ cap → result ≡ end_by def start after }
+fn end_at(def: Option<u32>, start: u64, after: u64) -> u32
+    ensures { after < cap → start ≤ cap → result ≡ end_by (coded def) start after }
 {
-    if def == 0 {
-        return word(more(after));
+    match def {
+        None => word(after.saturating_add(1)),
+        Some(_) => word(start.max(after.saturating_sub(1))),
     }
-    if start < after {
-        return word(after - 1);
-    }
-    word(start)
-}
-
-// The next place.
-fn more(n: u64) -> u64
-    ensures { n ≤ cap → result ≡ n + 1 }
-{
-    if n < 18446744073709551615 { n + 1 } else { n }
 }
 
 // Where a case goes that no guard takes.
@@ -138,10 +118,10 @@ fn fallback_at(flat: &[u32], default: u32) -> u32
 }
 
 // The default, the end and the fallback, with bodies from `start` to `after`.
-fn finish(flat: &mut [u32], def: u32, start: u64, after: u64)
+fn finish(flat: &mut [u32], def: Option<u32>, start: u64, after: u64)
     ensures within { Within default_at case_const_at flat.old flat.new }
     ensures finished { length flat.old ≡ size → after < cap → start ≤ cap
-        → Finished flat.old flat.new def start after }
+        → Finished flat.old flat.new (coded def) start after }
 {
     let default = default_at(&flat[..], def, after);
     let fallback = fallback_at(&flat[..], default);
@@ -151,10 +131,13 @@ fn finish(flat: &mut [u32], def: u32, start: u64, after: u64)
 }
 
 // Rotate and Pop, and a missing default's Unit.
-fn closing(def: u32) -> u32
-    ensures { result ≡ last_ones def }
+fn closing(def: Option<u32>) -> u32
+    ensures { result ≡ last_ones (coded def) }
 {
-    if def == 0 { 3 } else { 2 }
+    match def {
+        None => 3,
+        Some(_) => 2,
+    }
 }
 
 // What the switch emits, and whether it reaches an `eval`; its parts get their places. The answer's length is not told.
@@ -164,8 +147,9 @@ pub fn count(sheet: &[u8], told: &[u32], flat: &mut [u32]) -> Tally
         → Counted sheet t flat.new result) }
 {
     let n = capped(field_a(sheet, 0) as usize);
-    let def = field_c(sheet, 0);
-    want_default(flat, n, def);
+    let number = field_c(sheet, 0);
+    want_default(flat, n, number);
+    let def = number.checked_sub(1);
     let head = plus(tally(MAX_DEPTH, sheet, told, child(0)), instructions(1));
     let cases = case_chains(sheet, flat, head);
     let switched = second(flat, cases);

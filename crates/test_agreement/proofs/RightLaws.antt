@@ -4,7 +4,7 @@ use mathlib.Core.Path.{◌≡◌, refl, sym, ap, ◌∙◌}
 use mathlib.Core.Bool.{true}
 use mathlib.Core.List.{List, [], ◌∷◌}
 use Rattle.laws.proofs.Bool.{lazy-true, lazy-of}
-use Rattle.checks.specs.declared.Verdict.{Verdict}
+use Rattle.checks.specs.Checked.{Verdict}
 use Rattle.check_quick.specs.Quick.{quick_checked}
 use Rattle.check_quick.proofs.QuickLaws.{quick-checked}
 use Rattle.lowering.specs.Outcome.{outcome_after}

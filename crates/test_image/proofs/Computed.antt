@@ -13,9 +13,8 @@ use Rattle.lowering.specs.MakeSheet.{bytes_of}
 use Rattle.refusals.specs.declared.Refusal.TheVariants.{IllMade}
 use Rattle.refusals.specs.Refusal.{refusal_number}
 use Rattle.refusals.proofs.RefusalLaws.{number-some}
-use Rattle.checks.specs.Checked.{verdict_number, checked}
-use Rattle.checks.specs.declared.Verdict.{Verdict}
-use Rattle.checks.specs.declared.Verdict.TheVariants.{Accepted, Refused}
+use Rattle.checks.specs.Checked.{verdict_number, checked, Verdict}
+use Rattle.std.specs.Prelude.{Ok, Err}
 use Rattle.image_rule.specs.Test.{operands_right, targets_right, well_made}
 use Rattle.image_fields.specs.Fields.{fields_right}
 use Rattle.image_check.specs.Sizes.{sizes_agree}
@@ -66,16 +65,16 @@ numbered (suc n) s w h = refl
 
 number-by : (v : Verdict) (s w : List ℕ) → verdict_number (judged_after v s w (length w)) ≡ number_by (verdict_number v) s w
 unfolding judged_after number_by
-number-by Accepted s w =
+number-by (Ok x) s w =
     let is = made-is s w ∙ lazily s w in
     rw (le-ltb (length w) (length w) (omega arith), judged_after)
     (by (well_made s w) (made s w) is)
   where
     by : (a b : Bool) → a ≡ b
-        → verdict_number (elim a [ true ↦ Accepted | false ↦ Refused IllMade ]) ≡ elim b [ true ↦ 0 | false ↦ refusal_number IllMade ]
+        → verdict_number (elim a [ true ↦ Ok tt | false ↦ Err IllMade ]) ≡ elim b [ true ↦ 0 | false ↦ refusal_number IllMade ]
     by true b e = rw (sym e)
     by false b e = rw (sym e)
-number-by (Refused r) s w = numbered (refusal_number r) s w (number-some r)
+number-by (Err r) s w = numbered (refusal_number r) s w (number-some r)
 
 -- all rows agree, computed
 abbrev row_agrees : Row → Bool

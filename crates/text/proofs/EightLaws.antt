@@ -2,7 +2,8 @@
 use Prim.Native.Nat.{ℕ, zero, suc, ◌+◌, ◌*◌, ◌-◌, ◌^◌, ◌<◌, ◌≤◌}
 use mathlib.Core.Path.{◌≡◌, ap, sym, subst, ◌∙◌}
 use mathlib.Core.Bool.{true, false, ◌&&◌, and-eq-true_iff}
-use mathlib.Core.List.{List}
+use mathlib.Core.List.{List, [], ◌∷◌}
+use Rattle.std.specs.Int.{from_le_bytes, w32, w64}
 use native.Mathlib.Decide.{ℕ_discrete, dec_lt}
 use native.Mathlib.Nat.{add-zero}
 use native.Mathlib.Omega.{arith}
@@ -27,15 +28,21 @@ four-small : (s : List ℕ) → Bytes s → (i : ℕ) → four_at s i < 2 ^ 32
 unfolding four_at
 four-small s b i = omega (arith, b.byte i, b.byte (i + 1), b.byte (i + 2), b.byte (i + 3))
 
--- as the code reads them
-pub four-read : (s : List ℕ) → Bytes s → (i : ℕ) {r : ℕ}
-    → r ≡ from_four (get_or s i 0) (get_or s (i + 1) 0) (get_or s (i + 2) 0) (get_or s (i + 3) 0) → (r ≡ four_at s i) × (r < 2 ^ 32)
+-- as std puts four bytes together, and eight
+pub four-le : (s : List ℕ) (i : ℕ)
+    → from_le_bytes w32 (get_or s i 0 ∷ get_or s (i + 1) 0 ∷ get_or s (i + 2) 0 ∷ get_or s (i + 3) 0 ∷ []) ≡ four_at s i
 unfolding four_at
-four-read s b i e = (e, omega (arith, four-small s b i))
+four-le s i = omega arith
 
-pub eight-read : (s : List ℕ) (i : ℕ) {p q : ℕ} → p ≡ four_at s i → q ≡ four_at s (i + 4) → p + 4294967296 * q ≡ eight_at s i
-unfolding eight_at
-eight-read s i h g = cc
+pub eight-le : (s : List ℕ) (i : ℕ) → from_le_bytes w64
+    (get_or s i 0 ∷ get_or s (i + 1) 0 ∷ get_or s (i + 2) 0 ∷ get_or s (i + 3) 0
+    ∷ get_or s (i + 4) 0 ∷ get_or s (i + 5) 0 ∷ get_or s (i + 6) 0 ∷ get_or s (i + 7) 0 ∷ []) ≡ eight_at s i
+unfolding eight_at four_at
+eight-le s i =
+    let e₅ : get_or s (i + 4 + 1) 0 ≡ get_or s (i + 5) 0 = ap (λ k. get_or s k 0) (omega arith) in
+    let e₆ : get_or s (i + 4 + 2) 0 ≡ get_or s (i + 6) 0 = ap (λ k. get_or s k 0) (omega arith) in
+    let e₇ : get_or s (i + 4 + 3) 0 ≡ get_or s (i + 7) 0 = ap (λ k. get_or s k 0) (omega arith) in
+    omega (arith, e₅, e₆, e₇)
 
 pub block_read : (s t : List ℕ) (i : ℕ) {p q p₁ q₁ p₂ q₂ p₃ q₃ : ℕ} → p ≡ eight_at s i → q ≡ eight_at t i
     → p₁ ≡ eight_at s (i + 8) → q₁ ≡ eight_at t (i + 8) → p₂ ≡ eight_at s (i + 16) → q₂ ≡ eight_at t (i + 16)

@@ -1,6 +1,6 @@
 -- `same` is equality of byte strings.
 use Prim.Native.Nat.{ℕ, ◌<◌}
-use mathlib.Core.Path.{◌≡◌, refl, ap, ap₂}
+use mathlib.Core.Path.{◌≡◌, refl, ap, ap₂, sym, ◌∙◌}
 use mathlib.Core.Bool.{true, false, ◌&&◌, false≢true, and-eq-true_iff}
 use mathlib.Core.List.{List, [], ◌∷◌}
 use lib.Dec.{eqb}
@@ -9,6 +9,7 @@ use lib.Seq.{ext_get_or}
 use borrow.Author.Tests.{eqb-true, eq-eqb}
 use Rattle.laws.proofs.Bool.{false-unless, and-lazy}
 use Rattle.text.specs.Same.{same}
+use Rattle.std.specs.Cmp.Lexicographic.{pointwise}
 
 same-cons : (a : ℕ) (x : List ℕ) (b : ℕ) (y : List ℕ) → same (a ∷ x) (b ∷ y) ≡ (eqb a b && same x y)
 unfolding same
@@ -45,3 +46,11 @@ same_at x y i ne = same_false x y (λ e. ne (ap (λ l. get_or l i 0) e))
 -- strings of one length that agree at each index are the same
 pub same-each : (x y : List ℕ) → length x ≡ length y → ((i : ℕ) → i < length x → get_or x i 0 ≡ get_or y i 0) → same x y ≡ true
 same-each x y l at = rw (ext_get_or 0 x y l at) (same_refl y)
+
+-- equality of each two bytes, as std has it
+pub pointwise-same : (x y : List ℕ) → pointwise eqb x y ≡ same x y
+unfolding same
+pointwise-same [] [] = refl
+pointwise-same [] (b ∷ y) = refl
+pointwise-same (a ∷ x) [] = refl
+pointwise-same (a ∷ x) (b ∷ y) = ap (λ t. eqb a b && t) (pointwise-same x y) ∙ sym (same-cons a x b y)

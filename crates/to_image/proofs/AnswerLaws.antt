@@ -9,8 +9,8 @@ use lib.ListN.{length}
 use borrow.Author.Tests.{lt-ltb, le-ltb, ltb-true, ltb-false}
 use Rattle.sheet.specs.Sections.{node_count}
 use Rattle.checks.specs.Checked as Checked
-use Rattle.checks.specs.declared.Verdict.{Verdict}
-use Rattle.checks.specs.declared.Verdict.TheVariants as Verdicts
+use Rattle.checks.specs.Checked.{Verdict}
+use Rattle.std.specs.Prelude.{Ok, Err}
 use Rattle.checks.proofs.VerdictLaws.{refused-own}
 use Rattle.refusals.specs.declared.Refusal.{Refusal}
 use Rattle.refusals.specs.declared.Refusal.TheVariants.{ImageLong}
@@ -26,9 +26,7 @@ use Rattle.needs.specs.Counts.{early, Decides}
 use Rattle.needs.proofs.CountLaws.{Early, eval, many, short, none, early-told}
 use Rattle.needs.proofs.NeedLaws.{refused-is}
 use Rattle.zeros.specs.Zeros.{zeros, Zeroed}
-use Rattle.to_image.specs.declared.Answer.{Answer}
-use Rattle.to_image.specs.declared.Answer.TheVariants.{Lowered, Refused}
-use Rattle.to_image.specs.Answer.{answer, image_after, scratch_after, Answers}
+use Rattle.to_image.specs.Answer.{answer, image_after, scratch_after, Answers, Answer}
 use Rattle.to_image.specs.Making.{ended, Ready, Built}
 
 module _ (s xs ys : List ℕ) where
@@ -37,14 +35,14 @@ module _ (s xs ys : List ℕ) where
   answers_by o e a b c = record { answers = rw e a; image_is = rw e b; scratch_is = rw e c }
 
   -- a refusal that leaves both as they were
-  stays : (r : Refusal) → scratch_left r ≡ kept → outcome s (length xs) (length ys) ≡ refused r → Answers s xs ys (Refused r) xs ys
+  stays : (r : Refusal) → scratch_left r ≡ kept → outcome s (length xs) (length ys) ≡ refused r → Answers s xs ys (Err r) xs ys
   unfolding answer image_after scratch_after leaves
   stays r keeps e = answers_by (refused r) e refl refl (rw (keeps, scratch_after))
 
 -- ---- 1 to 8
 
-pub check-stays : (s xs ys : List ℕ) (r : Refusal) {v : Verdict} → v ≡ Checked.checked s → v ≡ Verdicts.Refused r
-    → Answers s xs ys (Refused r) xs ys
+pub check-stays : (s xs ys : List ℕ) (r : Refusal) {v : Verdict} → v ≡ Checked.checked s → v ≡ Err r
+    → Answers s xs ys (Err r) xs ys
 check-stays s xs ys r v-is q =
     let e = sym v-is ∙ q in
     stays s xs ys r (own-keeps r (refused-own s r e)) (refused-is s r e (length xs) (length ys))
@@ -53,15 +51,15 @@ check-stays s xs ys r v-is q =
 
 -- what a refusal leaves of the scratch, and its outcome
 abbrev left_by : Verdict → Left
-left_by Verdicts.Accepted = kept
-left_by (Verdicts.Refused r) = scratch_left r
+left_by (Ok x) = kept
+left_by (Err r) = scratch_left r
 
 abbrev outcome_by : Verdict → Outcome
-outcome_by Verdicts.Accepted = refused ImageLong
-outcome_by (Verdicts.Refused r) = refused r
+outcome_by (Ok x) = refused ImageLong
+outcome_by (Err r) = refused r
 
 module _ (s : List ℕ) (i m : ℕ) (ok : Checked.verdict_number (Checked.checked s) ≡ 0) where
-  early-refuses : {k : Verdict} {r : Refusal} → Early (total s).defeated (total s).emitted m (node_count s) k → k ≡ Verdicts.Refused r
+  early-refuses : {k : Verdict} {r : Refusal} → Early (total s).defeated (total s).emitted m (node_count s) k → k ≡ Err r
       → (scratch_left r ≡ kept) × (outcome s i m ≡ refused r)
   unfolding scratch_total
   early-refuses (eval d) q = (ap left_by (sym q), outcome-9 s i m ok d ∙ ap outcome_by q)
@@ -93,11 +91,11 @@ module _ (s xs ys : List ℕ) (k : Verdict) (nodes : ℕ) (t : Tally) (ok : Chec
   early-ready (none d g l) (none c f h) z y =
       record { accepted = ok; reached = d; emitted = let r = D.enough in omega arith; few = f; space = h }
 
-  pub refused-early : (r : Refusal) → k ≡ Verdicts.Refused r → Answers s xs ys (Refused r) xs ys
+  pub refused-early : (r : Refusal) → k ≡ Err r → Answers s xs ys (Err r) xs ys
   refused-early r q = let o = early-refuses s (length xs) (length ys) ok way q in stays s xs ys r o.0 o.1
 
   -- the end: y is the scratch before it is zeroed
-  pub answered : k ≡ Verdicts.Accepted → (xs' y ys' : List ℕ) (n : ℕ) (r : Answer) → (Ready s t.emitted (length ys) → Built s xs n xs')
+  pub answered : k ≡ Ok tt → (xs' y ys' : List ℕ) (n : ℕ) (r : Answer) → (Ready s t.emitted (length ys) → Built s xs n xs')
       → Zeroed y ys'
       → length y ≡ length ys → length xs' ≡ length xs → r ≡ ended (length xs') n → Answers s xs ys r xs' ys'
   unfolding ended answer image_after scratch_after leaves scratch_total
@@ -129,13 +127,13 @@ module _ (s xs ys : List ℕ) (k : Verdict) (nodes : ℕ) (t : Tally) (ok : Chec
       by false e =
           let g = ltb-false (length xs') n e in
           let o = outcome-image s (length xs) (length ys) ok R.reached few room (omega (arith, B.count)) in
-          answers_by s xs ys (image (words (lower s))) o (r-is ∙ rw (e, ended) (ap Lowered B.count)) (B.fits (omega arith)) zero_is
+          answers_by s xs ys (image (words (lower s))) o (r-is ∙ rw (e, ended) (ap Ok B.count)) (B.fits (omega arith)) zero_is
 
 -- the answer of the end
-pub ended-long : (room n : ℕ) → room < n → Refused ImageLong ≡ ended room n
+pub ended-long : (room n : ℕ) → room < n → Err ImageLong ≡ ended room n
 unfolding ended
 ended-long room n h = rw (lt-ltb room n h, ended)
 
-pub ended-whole : (room n : ℕ) → n ≤ room → Lowered n ≡ ended room n
+pub ended-whole : (room n : ℕ) → n ≤ room → Ok n ≡ ended room n
 unfolding ended
 ended-whole room n h = rw (le-ltb room n h, ended)

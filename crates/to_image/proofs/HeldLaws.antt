@@ -14,7 +14,6 @@ use Rattle.scratch.specs.declared.Layout.{Layout}
 use Rattle.scratch_locals.specs.Pass.{Begins}
 use Rattle.scratch_store.specs.declared.State.{State}
 use Rattle.scratch_store.specs.States as states
-use Rattle.scratch_store.specs.States.{state_of}
 use Rattle.scratch_store.specs.Holds.{Holds}
 use Rattle.scratch_store.specs.Does.{Does}
 use Rattle.switch_model.specs.Change.{switch_to, cases_to}
@@ -32,10 +31,10 @@ use Rattle.to_image.proofs.SwitchLaws.{switched, switch-made, cases-made}
 use Rattle.to_image.proofs.TableLaws.{switches-are, case-section, range-section}
 
 -- the table w before the constants of the Cases, and v with them
-module _ (s : List ℕ) (l : Layout) (xs us ys zs c w v : List ℕ) (r q p : State) (P : Planned s l (length xs) w)
-    (c_is : state_of c ≡ states.start l) (begins : Begins s l xs us)
+module _ (s : List ℕ) (l : Layout) (xs us ys zs : List ℕ) (c : State) (w v : List ℕ) (r q p : State) (P : Planned s l (length xs) w)
+    (c_is : c ≡ states.start l) (begins : Begins s l xs us)
     (done : Ready s → Tables s w → Placed s w
-    → Does s l us (state_of c) ys r (switch_to s (lowered max_depth s) (targets_in w) (entries s) (default_block s) (want_in w)))
+    → Does s l us c ys r (switch_to s (lowered max_depth s) (targets_in w) (entries s) (default_block s) (want_in w)))
     (added : Ready s → Does s l ys r zs q (cases_to s (cases_of s)))
     (told : (a : Made) → Ready s → length w ≡ size → Holds s l ys r a → ConstsAt s v a)
     (within : length w ≡ size → Within case_const_at size w v) (p-is : p ≡ q) where

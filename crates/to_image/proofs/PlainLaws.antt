@@ -24,7 +24,6 @@ use Rattle.scratch.proofs.PlaceLaws.{index-fits}
 use Rattle.scratch_locals.specs.Pass.{Begins}
 use Rattle.scratch_store.specs.declared.State.{State}
 use Rattle.scratch_store.specs.States as states
-use Rattle.scratch_store.specs.States.{state_of}
 use Rattle.scratch_store.specs.Holds.{Fit, Holds}
 use Rattle.scratch_store.specs.Does.{Does}
 use Rattle.scratch_store.proofs.StartLaws.{fresh_holds}
@@ -36,8 +35,8 @@ checked-right : {s : List ℕ} {e m : ℕ} → Ready s e m → Right s
 checked-right {s} R = right s (accepted-sizes s R.accepted) (accepted-shape s R.accepted)
 
 -- a scratch that is cleared holds nothing
-pub first_holds : {s : List ℕ} {l : Layout} (xs zs c : List ℕ) → Ready s l.most (length xs) → l.nodes ≡ node_count s
-    → state_of c ≡ states.start l → Begins s l xs zs → Holds s l zs (state_of c) nothing
+pub first_holds : {s : List ℕ} {l : Layout} (xs zs : List ℕ) (c : State) → Ready s l.most (length xs) → l.nodes ≡ node_count s
+    → c ≡ states.start l → Begins s l xs zs → Holds s l zs c nothing
 first_holds {s} {l} xs zs c R nodes c_is begins =
     let space = R.space in
     let few = R.few in
@@ -49,8 +48,8 @@ first_holds {s} {l} xs zs c R nodes c_is begins =
 -- the image of an expression
 module _ {s : List ℕ} (h : kind s 0 ≡ switch_kind → ⊥) (l : Layout) (xs zs ys img : List ℕ) (q r : State) (len : ℕ)
     (R : Ready s l.most (length xs)) (nodes : l.nodes ≡ node_count s)
-    (c : List ℕ) (c_is : state_of c ≡ states.start l) (begins : Begins s l xs zs)
-    (done : Right s → Valid s 0 → Does s l zs (state_of c) ys q (lowered max_depth s 0)) (r-is : r ≡ q)
+    (c : State) (c_is : c ≡ states.start l) (begins : Begins s l xs zs)
+    (done : Right s → Valid s 0 → Does s l zs c ys q (lowered max_depth s 0)) (r-is : r ≡ q)
     (counted : (a : Made) → Holds s l ys r a → (sw ca ra : ℕ) → len ≡ length (front a sw ca ra) + 0) where
   plain-words : words (lower s) ≡ front (lowered max_depth s 0 nothing) 0 0 0
   unfolding lowered nothing

@@ -1,23 +1,25 @@
 -- The answer of a lowering, and what it leaves in the lent image and scratch, by the outcome of the definition.
-use Rattle.std.specs.Prelude.{ℕ, ◌≡◌, List, ◌++◌, length, drop}
-use Rattle.refusals.specs.Refusal.{refusal_number, zeroed, leaves, scratch_left}
+use Rattle.std.specs.Prelude.{ℕ, ◌≡◌, List, ◌++◌, length, drop, Result, Ok, Err}
+use Rattle.std.specs.Result.{result_unwrap_or}
+use Rattle.refusals.specs.declared.Refusal.{Refusal}
+use Rattle.refusals.specs.Refusal.{number_of, zeroed, leaves, scratch_left}
 use Rattle.lowering.specs.Outcome.{Outcome, refused, image, outcome}
-use Rattle.to_image.specs.declared.Answer.{Answer}
-use Rattle.to_image.specs.declared.Answer.TheVariants.{Lowered, Refused}
+
+-- what a lowering answers: the image's word count, or why it is refused
+abbrev pub Answer : Type 0
+Answer = Result ℕ Refusal
 
 -- 01's number of an answer: 0 is success
 abbrev pub answer_number : Answer → ℕ
-answer_number (Lowered words) = 0
-answer_number (Refused by) = refusal_number by
+answer_number r = number_of r
 
 -- the image's word count, 0 under a refusal
 abbrev pub words_of : Answer → ℕ
-words_of (Lowered words) = words
-words_of (Refused by) = 0
+words_of r = result_unwrap_or r 0
 
 unfoldable pub answer : Outcome → Answer
-answer (refused r) = Refused r
-answer (image w) = Lowered (length w)
+answer (refused r) = Err r
+answer (image w) = Ok (length w)
 
 -- the image's words are written, and the rest of the buffer is kept
 unfoldable pub image_after : Outcome → List ℕ → List ℕ

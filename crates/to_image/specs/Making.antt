@@ -1,5 +1,5 @@
 -- The making of an image: what it may take for granted and what it leaves. The answer does not speak of these.
-use Rattle.std.specs.Prelude.{ℕ, ◌+◌, ◌*◌, ◌≤◌, ◌<◌, ◌≡◌, true, false, List, ◌++◌, ltb, length, drop}
+use Rattle.std.specs.Prelude.{ℕ, ◌+◌, ◌*◌, ◌≤◌, ◌<◌, ◌≡◌, true, false, List, ◌++◌, ltb, length, drop, Ok, Err}
 use Rattle.refusals.specs.declared.Refusal.TheVariants.{ImageLong}
 use Rattle.sheet.specs.Sections.{node_count}
 use Rattle.checks.specs.Checked as Checked
@@ -7,12 +7,11 @@ use Rattle.lowering.specs.Limits.{max_emitted, scratch_per_emitted, scratch_per_
 use Rattle.lowering.specs.Image.{words}
 use Rattle.lowering.specs.Outcome.{lower}
 use Rattle.switch_count.specs.Total.{total}
-use Rattle.to_image.specs.declared.Answer.{Answer}
-use Rattle.to_image.specs.declared.Answer.TheVariants.{Lowered, Refused}
+use Rattle.to_image.specs.Answer.{Answer}
 
 -- the answer once n words are made, in an image with room for so many
 unfoldable pub ended : ℕ → ℕ → Answer
-ended room n = elim (ltb room n) [ true ↦ Refused ImageLong | false ↦ Lowered n ]
+ended room n = elim (ltb room n) [ true ↦ Err ImageLong | false ↦ Ok n ]
 
 -- what the making of an image may take for granted: nothing refuses before the image is made
 pub record Ready (s : List ℕ) (e m : ℕ) : Type 0 where

@@ -13,12 +13,10 @@ ghost use Rattle.write_rows.specs.TableRows.{table_count};
 ghost use Rattle.to_image.specs.Making.{Ready, Built};
 ghost use Rattle.to_image.specs.Switched.{Planned, Settled};
 
-use bytecode::effects;
 use lowering::{CASE_WIDTH, MAX_BANDS, RANGE_WIDTH, SWITCH_WIDTH};
 use scratch::{Layout, get};
 use scratch_locals::begin;
 use scratch_store::State;
-use scratch_store::states::{start, state_of};
 use sheet::limits::MAX_ENTRIES;
 use sheet::{field_b, node_count};
 use switch_emit::{case_consts, switch};
@@ -38,12 +36,11 @@ fn held(sheet: &[u8], layout: Layout, scratch: &mut [u32], flat: &mut [u32]) -> 
     ensures { Planned sheet.now layout (length scratch.old) flat.old
         → Settled sheet.now layout scratch.new result flat.new }
 {
-    let t = effects();
-    let mut c = start(layout);
+    let mut state = State::start(layout);
     begin(sheet, scratch, layout);
-    switch(sheet, &t, &mut c, scratch, &flat[..]);
-    case_consts(sheet, &mut c, scratch, flat);
-    state_of(&c)
+    switch(sheet, &mut state, scratch, &flat[..]);
+    case_consts(sheet, &mut state, scratch, flat);
+    state
 }
 
 // The words of a Switch that the scratch holds: the front, and the tables behind it.

@@ -6,6 +6,7 @@ use native.Mathlib.Omega.{arith}
 use native.Mathlib.Nat.{add-zero}
 use lib.ListN.{length, drop, length-drop, get_or-eq_default}
 use lib.Seq.{get_or-drop}
+use Rattle.std.specs.Int.{from_le_bytes, w32}
 use Rattle.words.specs.Word.{byte_of, from_bytes, front, word}
 
 -- a byte past the end is 0
@@ -38,3 +39,8 @@ word_bytes s i h =
 pub word-past : (s : List ℕ) (i : ℕ) → length s < 4 * i + 4 → word s i ≡ 0
 unfolding word
 word-past s i h = let l = length-drop (4 * i) s in front-short (drop (4 * i) s) (omega arith)
+
+-- a word that is there whole, as std puts four bytes together
+pub word-le : (s : List ℕ) (i : ℕ) → 4 * i + 3 < length s
+    → from_le_bytes w32 (byte_of s (4 * i) ∷ byte_of s (4 * i + 1) ∷ byte_of s (4 * i + 2) ∷ byte_of s (4 * i + 3) ∷ []) ≡ word s i
+word-le s i h = rw (word_bytes s i h) (omega arith)

@@ -9,14 +9,7 @@ ghost use Rattle.words.specs.Word.{byte_of, from_bytes, word};
 pub fn byte(s: &[u8], i: usize) -> u8
     ensures { result ≡ byte_of s.now i }
 {
-    if i < s.len() { s[i] } else { 0 }
-}
-
-// The number that four bytes stand for, the lowest first.
-fn from_bytes(a: u8, b: u8, c: u8, d: u8) -> u32
-    ensures { result ≡ from_bytes a b c d }
-{
-    (a as u32) + 256 * (b as u32) + 65536 * (c as u32) + 16777216 * (d as u32)
+    s.get(i).copied().unwrap_or(0)
 }
 
 // A word of which the string has all four bytes.
@@ -25,7 +18,7 @@ pub fn whole(s: &[u8], i: usize) -> u32
     ensures { result ≡ word s.now i }
 {
     let at = 4 * i;
-    from_bytes(s[at], s[at + 1], s[at + 2], s[at + 3])
+    u32::from_le_bytes([s[at], s[at + 1], s[at + 2], s[at + 3]])
 }
 
 // Word `i` of `s`, 0 where the string does not have it whole.

@@ -5,7 +5,7 @@ use mathlib.Core.List.{List}
 use native.Mathlib.Omega.{arith}
 use lib.ListN.{length, take, drop, length-drop}
 use lib.Seq.{length-take-le}
-use mir.Syntax.{w32, w64}
+use mir.Syntax.{w64}
 use mir.Val.{Fits}
 use Rattle.sheet.specs.Limits.{max_depth}
 use Rattle.expr_chains.specs.Kept.{step_count}
@@ -23,20 +23,6 @@ module _ (m b n : ℕ) (h : b + n ≤ m) where
   -- it does not reach beyond the slice
   pub inside : m < b + n → ⊥
   inside l = omega arith
-
-pub from_start : (b n : ℕ) → b ≤ b + n
-from_start b n = omega arith
-
--- rows of so many words
-module _ (n : ℕ) (f : Fits w32 n) where
-  few : n < 2 ^ 32
-  few = f.fits
-
-  pub two_fits : Fits w64 (2 * n)
-  two_fits = record { fits = omega (arith, few) }
-
-  pub three-fits : Fits w64 (3 * n)
-  three-fits = record { fits = omega (arith, few) }
 
 -- the length of a part
 module _ (xs : List ℕ) (b n : ℕ) (h : b + n ≤ length xs) where

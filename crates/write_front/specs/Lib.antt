@@ -1,3 +1,4 @@
 pub mod Front
 pub mod Puts
 pub mod Reach
+pub mod Rows

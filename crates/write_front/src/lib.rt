@@ -1,10 +1,10 @@
 // The finished image, written from what the scratch holds. Each section goes to its own part of the image; what does not fit is left out.
 #![tactic(auto)]
 
-ghost use Rattle.std.specs.Prelude.{◌≡◌, ℕ, ◌+◌, ◌≤◌, min, List, ◌++◌, map, length, drop};
+ghost use Rattle.std.specs.Prelude.{◌≡◌, ℕ, ◌+◌, ◌*◌, ◌<◌, ◌≤◌, refl, List, ◌++◌, map, length, drop};
 ghost use Rattle.sheet.specs.Node as nodes;
 ghost use Rattle.bytecode.specs.Chain.{chain_words};
-ghost use Rattle.lowering.specs.Limits.{max_stack_cap, sizes_words};
+ghost use Rattle.lowering.specs.Limits.{sizes_words, const_width, name_width};
 ghost use Rattle.lowering.specs.Pools as pools;
 ghost use Rattle.lowering.specs.Image.{section, const_words, name_words};
 ghost use Rattle.scratch_keys.specs.Keys.{name_of};
@@ -15,13 +15,14 @@ ghost use Rattle.scratch.specs.declared.Layout.{Layout};
 ghost use Rattle.write_front.specs.Front as fronts;
 ghost use Rattle.write_front.specs.Puts.{Puts};
 ghost use Rattle.write_front.specs.Reach.{Reach};
+ghost use Rattle.write_front.specs.Rows.{consts-long, names-long, tokens-long};
 
 use lowering::{
     CHAIN_WIDTH, CODE_WIDTH, CONST_WIDTH, MAX_STACK, NAME_WIDTH, OP_WIDTH, SIZES, STEP_WIDTH,
 };
-use scratch::{Layout, chains_at, consts_at, names_at, positions_at, residuals_at, tokens_at};
+use scratch::Layout;
+use scratch_index::Names;
 use scratch_store::State;
-use write_sections::copy;
 
 // So many chains have at most 4294967232 steps.
 const MAX_CHAINS: usize = 67108863;
@@ -39,90 +40,137 @@ pub fn beyond(m: usize, at: usize, n: usize) -> bool
     false
 }
 
-// `n` words of the scratch from `b` on.
-fn put_part(scratch: &[u32], b: usize, n: usize, image: &mut [u32], at: usize) -> usize
-    ensures { b + n ≤ length scratch.now → Puts image.old image.new at result (region b n scratch.now) }
+// A section of the image that is made of keys: as many words for each.
+trait Rows {
+    ghost words: { ℕ → ℕ };
+
+    ghost rows: { Self → List ℕ → List ℕ };
+
+    // How many words `n` keys have.
+    fn words(&self, n: usize) -> usize
+        requires { n < 2305843009213693952 }
+        ensures { result ≡ words n };
+
+    // The words of the keys `ks`.
+    fn write(&self, out: &mut [u32], ks: &[u32])
+        requires { length out.old ≡ words (length ks.now) }
+        ensures { out.new ≡ rows self.now ks.now };
+
+    ghost long: { (it : Self) (ks : List ℕ) → length (rows it ks) ≡ words (length ks) };
+}
+
+// The keys themselves.
+#[derive(Clone, Copy)]
+struct Copied {}
+
+impl Rows for Copied {
+    ghost words = { λ n. n };
+
+    ghost rows = { λ _ ks. ks };
+
+    ghost long = { λ _ _. refl };
+
+    fn words(&self, n: usize) -> usize {
+        n
+    }
+
+    fn write(&self, out: &mut [u32], ks: &[u32]) {
+        out.copy_from_slice(ks);
+    }
+}
+
+// The constants of nodes.
+#[derive(Clone, Copy)]
+struct ConstRows<'a> {
+    sheet: &'a [u8],
+}
+
+impl<'a> Rows for ConstRows<'a> {
+    ghost words = { λ n. const_width * n };
+
+    ghost rows = { λ it ks. section const_words (map (pools.const_of it.sheet.now) ks) };
+
+    ghost long = { λ it ks. consts-long it.sheet.now ks };
+
+    fn words(&self, n: usize) -> usize {
+        CONST_WIDTH * n
+    }
+
+    fn write(&self, out: &mut [u32], ks: &[u32]) {
+        write_sections::consts(self.sheet, out, ks);
+    }
+}
+
+// The names with keys.
+#[derive(Clone, Copy)]
+struct NameRows<'a> {
+    sheet: &'a [u8],
+}
+
+impl<'a> Rows for NameRows<'a> {
+    ghost words = { λ n. name_width * n };
+
+    ghost rows = { λ it ks. section name_words (map (name_of it.sheet.now) ks) };
+
+    ghost long = { λ it ks. names-long it.sheet.now ks };
+
+    fn words(&self, n: usize) -> usize {
+        NAME_WIDTH * n
+    }
+
+    fn write(&self, out: &mut [u32], ks: &[u32]) {
+        write_sections::names(self.sheet, out, ks);
+    }
+}
+
+// The tokens of nodes.
+#[derive(Clone, Copy)]
+struct TokenRows<'a> {
+    sheet: &'a [u8],
+}
+
+impl<'a> Rows for TokenRows<'a> {
+    ghost words = { λ n. n };
+
+    ghost rows = { λ it ks. map (nodes.field_c it.sheet.now) ks };
+
+    ghost long = { λ it ks. tokens-long it.sheet.now ks };
+
+    fn words(&self, n: usize) -> usize {
+        n
+    }
+
+    fn write(&self, out: &mut [u32], ks: &[u32]) {
+        write_sections::tokens(self.sheet, out, ks);
+    }
+}
+
+// The section of the `n` keys that stand in the scratch from `b` on, and the place behind it.
+fn put_rows<R: Rows>(
+    rows: &R,
+    scratch: &[u32],
+    b: usize,
+    n: usize,
+    image: &mut [u32],
+    at: usize,
+) -> usize
+    ensures { b + n ≤ length scratch.now → Puts image.old image.new at result (R.rows rows.now (region b n scratch.now)) }
 {
     if beyond(scratch.len(), b, n) {
         return at;
     }
-    if beyond(image.len(), at, n) {
+    let w = rows.words(n);
+    if beyond(image.len(), at, w) {
         return at;
     }
     let f = b + n;
-    let e = at + n;
-    copy(&mut image[at..e], &scratch[b..f]);
+    let e = at + w;
+    rows.write(&mut image[at..e], &scratch[b..f]);
     e
 }
 
-// The constants of `n` nodes.
-fn put_consts(
-    sheet: &[u8],
-    scratch: &[u32],
-    b: usize,
-    n: u32,
-    image: &mut [u32],
-    at: usize,
-) -> usize
-    ensures { b + n ≤ length scratch.now → Puts image.old image.new at result
-        (section const_words (map (pools.const_of sheet.now) (region b n scratch.now))) }
-{
-    let k = n as usize;
-    if beyond(scratch.len(), b, k) {
-        return at;
-    }
-    if beyond(image.len(), at, CONST_WIDTH * k) {
-        return at;
-    }
-    let f = b + k;
-    let e = at + CONST_WIDTH * k;
-    write_sections::consts(sheet, &mut image[at..e], &scratch[b..f]);
-    e
-}
-
-// `n` names.
-fn put_names(sheet: &[u8], scratch: &[u32], b: usize, n: u32, image: &mut [u32], at: usize) -> usize
-    ensures { b + n ≤ length scratch.now → Puts image.old image.new at result
-        (section name_words (map (name_of sheet.now) (region b n scratch.now))) }
-{
-    let k = n as usize;
-    if beyond(scratch.len(), b, k) {
-        return at;
-    }
-    if beyond(image.len(), at, NAME_WIDTH * k) {
-        return at;
-    }
-    let f = b + k;
-    let e = at + NAME_WIDTH * k;
-    write_sections::names(sheet, &mut image[at..e], &scratch[b..f]);
-    e
-}
-
-// The tokens of `n` nodes.
-fn put_tokens(
-    sheet: &[u8],
-    scratch: &[u32],
-    b: usize,
-    n: u32,
-    image: &mut [u32],
-    at: usize,
-) -> usize
-    ensures { b + n ≤ length scratch.now → Puts image.old image.new at result
-        (map (nodes.field_c sheet.now) (region b n scratch.now)) }
-{
-    let k = n as usize;
-    if beyond(scratch.len(), b, k) {
-        return at;
-    }
-    if beyond(image.len(), at, k) {
-        return at;
-    }
-    let f = b + k;
-    let e = at + k;
-    write_sections::tokens(sheet, &mut image[at..e], &scratch[b..f]);
-    e
-}
-
+// Kept: chains and steps are no `Rows`: what they are is known only where the names are held, and steps are not as many for each key, so
+// each would need a premise and a law of its own.
 // The chains. So many that their steps might not fit a word are left out.
 fn put_chains(
     sheet: &[u8],
@@ -135,7 +183,7 @@ fn put_chains(
     ensures { (a : Made) → Holds sheet.now layout scratch.now state a
         → Puts image.old image.new at result (section chain_words a.pools.chains) }
 {
-    let b = chains_at(layout);
+    let b = layout.chains_at();
     let k = state.chains as usize;
     if beyond(scratch.len(), b, k) {
         return at;
@@ -148,14 +196,13 @@ fn put_chains(
     }
     let f = b + k;
     let e = at + CHAIN_WIDTH * k;
-    write_sections::chains(
+    let names = Names {
         sheet,
-        &mut image[at..e],
-        &scratch[b..f],
         scratch,
         layout,
-        state.names,
-    );
+        count: state.names,
+    };
+    write_sections::chains(&names, &mut image[at..e], &scratch[b..f]);
     e
 }
 
@@ -171,7 +218,7 @@ fn put_steps(
     ensures { (a : Made) → Holds sheet.now layout scratch.now state a
         → Puts image.old image.new at result (pools.steps_words a.pools.steps) }
 {
-    let b = chains_at(layout);
+    let b = layout.chains_at();
     let k = state.chains as usize;
     if beyond(scratch.len(), b, k) {
         return at;
@@ -182,22 +229,14 @@ fn put_steps(
     }
     let f = b + k;
     let e = at + w;
-    write_sections::steps(
+    let names = Names {
         sheet,
-        &mut image[at..e],
-        &scratch[b..f],
         scratch,
         layout,
-        state.names,
-    );
+        count: state.names,
+    };
+    write_sections::steps(&names, &mut image[at..e], &scratch[b..f]);
     e
-}
-
-// The lesser of `n` and the cap.
-fn capped(n: u32) -> u32
-    ensures { result ≡ min n max_stack_cap }
-{
-    if n < MAX_STACK { n } else { MAX_STACK }
 }
 
 // The twelve sizes.
@@ -215,7 +254,7 @@ fn front_sizes(state: State, sw: u32, ca: u32, ra: u32) -> [u32; SIZES]
         sw,
         ca,
         ra,
-        capped(state.emitted),
+        state.emitted.min(MAX_STACK),
         state.deepest,
     ]
 }
@@ -238,8 +277,8 @@ fn put_code(layout: Layout, scratch: &[u32], state: State, image: &mut [u32], at
         → Puts image.old image.new at result (fronts.code_part a) }
 {
     let k = state.code as usize;
-    let e = put_part(scratch, 0, OP_WIDTH * k, image, at);
-    put_part(scratch, positions_at(layout), k, image, e)
+    let e = put_rows(&Copied {}, scratch, 0, OP_WIDTH * k, image, at);
+    put_rows(&Copied {}, scratch, layout.positions_at(), k, image, e)
 }
 
 // The constants, the names, the tokens and the residuals.
@@ -254,16 +293,17 @@ fn put_pools(
     ensures { (a : Made) → Holds sheet.now layout scratch.now state a
         → Puts image.old image.new at result (fronts.pools_part a) }
 {
-    let e = put_consts(sheet, scratch, consts_at(layout), state.consts, image, at);
-    let f = put_names(sheet, scratch, names_at(layout), state.names, image, e);
-    let g = put_tokens(sheet, scratch, tokens_at(layout), state.tokens, image, f);
-    put_part(
-        scratch,
-        residuals_at(layout),
-        state.residuals as usize,
-        image,
-        g,
-    )
+    let consts = ConstRows { sheet };
+    let names = NameRows { sheet };
+    let tokens = TokenRows { sheet };
+    let k = state.consts as usize;
+    let e = put_rows(&consts, scratch, layout.consts_at(), k, image, at);
+    let k = state.names as usize;
+    let f = put_rows(&names, scratch, layout.names_at(), k, image, e);
+    let k = state.tokens as usize;
+    let g = put_rows(&tokens, scratch, layout.tokens_at(), k, image, f);
+    let k = state.residuals as usize;
+    put_rows(&Copied {}, scratch, layout.residuals_at(), k, image, g)
 }
 
 // The chains and the steps.

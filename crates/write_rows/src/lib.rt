@@ -46,16 +46,17 @@ fn target_of(flat: &[u32], number: usize, exits: usize, places: usize, fallback:
     get(flat, BODY + (exit as usize) - 3)
 }
 
+// Kept: `case_rows` and `range_rows` stay two loops of a line. They differ in the width of a row, in what a row is and in how it is
+// put, so that one loop over a closure and a width would be called by two functions as long as these.
+
 // The rows of `n` cases.
 pub fn case_rows(out: &mut [u32], flat: &[u32], n: usize)
     requires { (n ≤ max_entries) × (length out.old ≡ case_width * n) }
     ensures { out.new ≡ rows_to (case_words_in flat.now) n }
 {
-    let mut i = 0;
-    while i < n {
+    for i in 0..n {
         let t = target_of(flat, CASE_NUMBER + i, CASE_EXIT, CASE_PLACE, FALLBACK);
         put_two(out, CASE_WIDTH * i, t, get(flat, CASE_CONST + i));
-        i += 1;
     }
 }
 
@@ -82,9 +83,7 @@ pub fn range_rows(out: &mut [u32], flat: &[u32], n: usize)
     requires { (n ≤ max_bands) × (length out.old ≡ range_width * n) }
     ensures { out.new ≡ rows_to (range_words_in flat.now) n }
 {
-    let mut i = 0;
-    while i < n {
+    for i in 0..n {
         put_six(out, RANGE_WIDTH * i, range_row(flat, i));
-        i += 1;
     }
 }

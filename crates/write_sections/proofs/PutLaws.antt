@@ -1,10 +1,9 @@
 -- Laws of a list that is written in place: a part that is written leaves the rest, so parts that are written one after another are
 -- followed by what stood behind them.
-use Prim.Native.Nat.{ℕ, suc, ◌+◌, ◌≤◌, ◌<◌}
+use Prim.Native.Nat.{ℕ, ◌+◌, ◌≤◌, ◌<◌}
 use mathlib.Core.Path.{◌≡◌, refl, sym, ap, ap₂, ◌∙◌}
 use mathlib.Core.List.{List, [], ◌∷◌, ◌++◌, append_assoc, append-nil}
 use native.Mathlib.Omega.{arith}
-use native.Mathlib.Numerals.{add-one}
 use lib.ListN.{length, take, drop, set, length-append, length-drop}
 use lib.Seq.{length-take-le, take_at, drop_at, drop-drop, drop-length, sets, sets-eq}
 use Rattle.write_sections.specs.Written.{Written}
@@ -69,14 +68,6 @@ puts vs l i k e h =
 module _ (l : List ℕ) (i : ℕ) where
   put_one : (a : ℕ) → i + 1 ≤ length l → set l i a ≡ put_part l i 1 (a ∷ [])
   put_one a h = puts (a ∷ []) l i 1 refl h
-
-  pub put_two : (a b : ℕ) → i + 2 ≤ length l → set (set l i a) (i + 1) b ≡ put_part l i 2 (a ∷ b ∷ [])
-  put_two a b h = ap (λ (n : ℕ). set (set l i a) n b) (add-one i) ∙ puts (a ∷ b ∷ []) l i 2 refl h
-
-  pub put_three : (a b c : ℕ) → i + 3 ≤ length l → set (set (set l i a) (i + 1) b) (i + 2) c ≡ put_part l i 3 (a ∷ b ∷ c ∷ [])
-  put_three a b c h =
-      let two : i + 2 ≡ suc (suc i) = omega arith in
-      ap₂ (λ (n m : ℕ). set (set (set l i a) n b) m c) (add-one i) two ∙ puts (a ∷ b ∷ c ∷ []) l i 3 refl h
 
 -- one word more
 pub written_one : {x₀ x done : List ℕ} → Written x₀ x done → (i v : ℕ) → length done ≡ i → i < length x₀

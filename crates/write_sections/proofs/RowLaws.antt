@@ -37,19 +37,8 @@ section-one f x = append-nil (f x)
 pub section-snoc : {A : Type 0} (f : A → List ℕ) (xs : List A) (x : A) → section f (xs ++ (x ∷ [])) ≡ section f xs ++ f x
 section-snoc f xs x = section-append f xs (x ∷ []) ∙ ap (λ (l : List ℕ). section f xs ++ l) (section-one f x)
 
--- a word for each: copied, a token
+-- a word for each
 module _ {x₀ x : List ℕ} where
-  pub copy-next :
-      (l : List ℕ) (i : ℕ) → length x₀ ≡ length l → i < length l → Written x₀ x (take i l)
-      → Written x₀ (set x i (get_or l i 0)) (take (i + 1) l)
-  copy-next l i e h w =
-      rw (take_more l i h) (written_one w i (get_or l i 0) (length-take-le i l (omega arith)) (omega arith))
-
-  pub copy-end : (l : List ℕ) (i : ℕ) → length x₀ ≡ length l → length l ≤ i → Written x₀ x (take i l) → x ≡ l
-  copy-end l i e h w =
-      let all = take_whole l i h in
-      written_all w (ap length all ∙ sym e) ∙ all
-
   pub map_next :
       (f : ℕ → ℕ) (l : List ℕ) (i v : ℕ) → length x₀ ≡ length l → i < length l → v ≡ f (get_or l i 0) → Written x₀ x (map f (take i l))
       → Written x₀ (set x i v) (map f (take (i + 1) l))
@@ -95,7 +84,8 @@ const_rows s ks i = section const_words (map (const_of s) (take i ks))
 module _ {x₀ x : List ℕ} (s ks : List ℕ) (i : ℕ) (e : length x₀ ≡ const_width * length ks) where
   pub const-next :
       {y : List ℕ} (k a b : ℕ) → i < length ks → k ≡ kind s (get_or ks i 0) → a ≡ field_a s (get_or ks i 0) → b ≡ field_b s (get_or ks i 0)
-      → y ≡ put_part x (const_width * i) const_width (k ∷ a ∷ b ∷ []) → Written x₀ x (const_rows s ks i) → Written x₀ y (const_rows s ks (i + 1))
+      → y ≡ put_part x (const_width * i) const_width (k ∷ a ∷ b ∷ []) → Written x₀ x (const_rows s ks i)
+      → Written x₀ y (const_rows s ks (i + 1))
   unfolding const_words
   const-next k a b h p q r t w =
       let row : (k ∷ a ∷ b ∷ []) ≡ const_words (const_of s (get_or ks i 0)) = rw (p, q, r) in

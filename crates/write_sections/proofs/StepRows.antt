@@ -77,15 +77,18 @@ module _ (s : List ℕ) (ns : List Name) (j : ℕ) where
   step-rows-length : (i : ℕ) → i ≤ link_count s j → length (step_rows s ns j i) ≡ step_width * i
   step-rows-length i h =
       let n = steps-length s ns j in
-      Decode.steps-length (take i (chain_steps s ns j)) ∙ ap (λ (m : ℕ). step_width * m) (length-take-le i (chain_steps s ns j) (omega arith))
+      Decode.steps-length (take i (chain_steps s ns j))
+      ∙ ap (λ (m : ℕ). step_width * m) (length-take-le i (chain_steps s ns j) (omega arith))
 
   words-one : (x : Step) → steps_words (x ∷ []) ≡ step_words x
   unfolding steps_words
   words-one x = append-nil (step_words x)
 
   pub step-next :
-      {x₀ x y : List ℕ} (i n left c : ℕ) (z : Step) (w : List ℕ) → length x₀ ≡ step_width * link_count s j → 0 < left → Left s ns j i n left c
-      → z ≡ step_as (step_rule s c) s ns c n → w ≡ step_words z → y ≡ put_part x (step_width * i) step_width w → Written x₀ x (step_rows s ns j i)
+      {x₀ x y : List ℕ} (i n left c : ℕ) (z : Step) (w : List ℕ) → length x₀ ≡ step_width * link_count s j → 0 < left
+      → Left s ns j i n left c
+      → z ≡ step_as (step_rule s c) s ns c n → w ≡ step_words z → y ≡ put_part x (step_width * i) step_width w
+      → Written x₀ x (step_rows s ns j i)
       → Written x₀ y (step_rows s ns j (i + 1))
   step-next i n left c z w e h l p q r v =
       let t = (next-step i n left c h l).at in

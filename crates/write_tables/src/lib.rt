@@ -1,7 +1,8 @@
 // The tables of a switch, each section at its place in the image; what does not fit is left out.
 #![tactic(auto)]
 
-ghost use Rattle.std.specs.Prelude.{◌≡◌, ◌≤◌};
+ghost use Rattle.std.specs.Prelude.{◌≡◌, ℕ, ◌≤◌, List, length};
+ghost use Rattle.std.specs.Fn.{FnOnceReturnsAtMut};
 ghost use Rattle.sheet.specs.Limits.{max_entries};
 ghost use Rattle.bytecode.specs.Switch.{switch_words};
 ghost use Rattle.lowering.specs.Limits.{max_bands};
@@ -26,6 +27,21 @@ pub fn table_count(ranges: u32) -> u32
     if 0 < ranges { 2 } else { 1 }
 }
 
+// A section of so many words at its place, as `write` writes it.
+fn put_section<F: FnOnce(&mut [u32])>(image: &mut [u32], at: usize, words: usize, write: F) -> usize
+    requires { (part : _) → length part.now ≡ words → F.pre write part }
+    ensures { (section : List ℕ) → length section ≡ words
+        → ((before after : List ℕ) → length before ≡ words → FnOnceReturnsAtMut F.FnOnce write before tt after → after ≡ section)
+        → Puts image.old image.new at result section }
+{
+    if beyond(image.len(), at, words) {
+        return at;
+    }
+    let e = at + words;
+    write(&mut image[at..e]);
+    e
+}
+
 // The tables.
 pub fn put_switches(
     image: &mut [u32],
@@ -38,12 +54,12 @@ pub fn put_switches(
     ensures { Puts image.old image.new at result (section switch_words (tables_of cases fallback ranges default)) }
 {
     let k = SWITCH_WIDTH * (table_count(ranges) as usize);
-    if beyond(image.len(), at, k) {
-        return at;
-    }
-    let e = at + k;
-    switch_rows(&mut image[at..e], cases, fallback, ranges, default);
-    e
+    put_section(
+        image,
+        at,
+        k,
+        |part| switch_rows(part, cases, fallback, ranges, default),
+    )
 }
 
 // The rows of `n` cases, by the flat table.
@@ -54,12 +70,7 @@ pub fn put_cases(image: &mut [u32], at: usize, flat: &[u32], n: usize) -> usize
     if CASES < n {
         return at;
     }
-    if beyond(image.len(), at, CASE_WIDTH * n) {
-        return at;
-    }
-    let e = at + CASE_WIDTH * n;
-    case_rows(&mut image[at..e], flat, n);
-    e
+    put_section(image, at, CASE_WIDTH * n, |part| case_rows(part, flat, n))
 }
 
 // The rows of `n` bands, by the flat table.
@@ -70,10 +81,5 @@ pub fn put_ranges(image: &mut [u32], at: usize, flat: &[u32], n: usize) -> usize
     if RUNS < n {
         return at;
     }
-    if beyond(image.len(), at, RANGE_WIDTH * n) {
-        return at;
-    }
-    let e = at + RANGE_WIDTH * n;
-    range_rows(&mut image[at..e], flat, n);
-    e
+    put_section(image, at, RANGE_WIDTH * n, |part| range_rows(part, flat, n))
 }

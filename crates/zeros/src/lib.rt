@@ -7,9 +7,5 @@ ghost use Rattle.zeros.specs.Zeros.{Zeroed};
 pub fn zero(out: &mut [u32])
     ensures { Zeroed out.old out.new }
 {
-    let mut i = 0;
-    while i < out.len() {
-        out[i] = 0;
-        i += 1;
-    }
+    out.fill(0);
 }

@@ -4,4 +4,4 @@ use Rattle.api.proofs.sheet_lower.Goals as goal
 
 pub returns : goal.returns
 returns c =
-    given _ _ _ _ _ _ _ _ c.lower-a.ensures c.number.ensures c.words.ensures
+    given _ _ _ _ _ _ _ _ c.lower-a.ensures c.number.ensures c.unwrap_or.ensures

@@ -1,16 +1,13 @@
--- The cycle of calls {within}: the levels left fall by one at each call. Invariant of the walk: what is left to do from child i on,
--- which is node j, equals the whole.
-use Rattle.check_depth.specs.Depth as depths
-use Rattle.sheet.specs.Walk.{siblings}
+-- The cycle of calls {within}: the levels left fall by one at each call. Invariant of the walk: what is left of it equals the whole.
 use mathlib.Core.Path.{◌≡◌}
-use Prim.Native.Nat.{◌-◌, ◌≤◌}
+use Prim.Native.Nat.{◌-◌}
+use Rattle.std.specs.List.{list_all}
+use Rattle.sheet.specs.Rest.{rest}
+use Rattle.check_depth.specs.Depth as depths
 use Rattle.check_depth.proofs.+within.Given as goal
 
 abbrev pub decreases-within : goal.decreases-within
 decreases-within l = l.left
 
-abbrev pub invariant-loop-i : goal.invariant-loop-i
-invariant-loop-i l = (l.i ≤ l.m) × (siblings (depths.within (l.left - 1) l.sheet) l.sheet (l.m - l.i) l.j ≡ depths.within l.left l.sheet l.n)
-
-abbrev pub decreases-loop-i : goal.decreases-loop-i
-decreases-loop-i l = l.m - l.i
+abbrev pub invariant-loop-j : goal.invariant-loop-j
+invariant-loop-j l = list_all (depths.within (l.left - 1) l.sheet) (rest l.j-iterator) ≡ depths.within l.left l.sheet l.n

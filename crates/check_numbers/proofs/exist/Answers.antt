@@ -5,4 +5,5 @@ use Rattle.check_numbers.proofs.exist.Goals as goal
 pub returns : goal.returns
 returns c =
     let a = c.args in
-    exist-read a.x a.blocks a.k a.a a.b a.c c.names_text-named.ensures
+    let v = a.v in
+    exist-read a.x a.blocks v.kind v.a v.b v.c c.names_text-named.ensures

@@ -4,5 +4,5 @@ use Rattle.check_pass.proofs.node.Goals as goal
 
 pub returns : goal.returns
 returns c =
-    node-words _ _ c.whole-k.ensures c.whole-w.ensures c.whole-m.ensures c.whole-m.type_inv
-    c.whole-a.ensures c.whole-b.ensures c.whole-c.ensures
+    node-words _ _ c.whole.ensures c.whole-2.ensures c.whole-3.ensures c.whole-3.type_inv
+    c.whole-4.ensures c.whole-5.ensures c.whole-6.ensures

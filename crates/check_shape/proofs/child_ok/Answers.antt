@@ -5,5 +5,6 @@ use Rattle.check_shape.proofs.child_ok.Goals as goal
 pub returns : goal.returns
 returns c =
     let a = c.args in
-    fits_read a.sheet.now a.p a.a a.b a.e a.i a.j c.span-w.ensures c.kind.ensures
+    let p = a.p in
+    fits_read a.sheet.now p.kind p.a p.b a.e a.i a.j c.span-w.ensures c.kind.ensures
     c.child_kind.ensures

@@ -5,4 +5,5 @@ use Rattle.check_shape.proofs.self_ok.Goals as goal
 pub returns : goal.returns
 returns c =
     let a = c.args in
-    own_read a.n a.k a.w a.m a.a a.b a.c a.total c.within_bounds.ensures c.own_rule.ensures
+    let v = a.v in
+    own_read a.n v.kind v.span v.count v.a v.b v.c a.total c.within_bounds.ensures c.own_rule.ensures

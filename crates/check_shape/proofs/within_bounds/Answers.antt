@@ -4,6 +4,6 @@ use Rattle.check_shape.proofs.within_bounds.Goals as goal
 
 pub returns : goal.returns
 returns c =
-    let a = c.args in
-    bounds-read a.k a.m a.a a.b a.c c.bound-least.ensures c.bound-most.ensures c.bound-most_a.ensures
+    let v = c.args.v in
+    bounds-read v.kind v.count v.a v.b v.c c.bound-least.ensures c.bound-most.ensures c.bound-most_a.ensures
     c.bound-most_b.ensures c.bound-most_c.ensures

@@ -1,23 +1,17 @@
--- `check_switches::each_apart` meets its contract. Invariant: what is left to do from node j on equals the whole.
-use native.Mathlib.Omega.{arith}
-use Rattle.check_switches.proofs.ReadLaws.{pass-more, pass-fails, pass-done}
+-- `check_switches::each_apart` meets its contract. Invariant: what is left of the walk differs where the whole does.
+use Rattle.check_switches.proofs.SwitchLaws.{list_distinct-siblings, pass-goes, pass-stops, pass-ends}
 use Rattle.check_switches.proofs.each_apart.Goals as goal
 
-pub loop-left-preserved : goal.loop-left-preserved
-loop-left-preserved c =
-    let s = c.args.sheet.now in
-    let l = c.loop-left in
-    let known = c.loop-left-test.true in
-    (omega arith, pass-more s l.left l.j l.invariant.1 known c.next-q.ensures c.apart_from.ensures c.if-apart_from.true)
+pub loop-p-init : goal.loop-p-init
+loop-p-init c = let a = c.args in cc (list_distinct-siblings a.sheet.now a.m a.at)
 
-pub returns-else-apart_from : goal.returns-else-apart_from
-returns-else-apart_from c =
-    let s = c.args.sheet.now in
-    let l = c.loop-left in
-    pass-fails s l.left l.j l.invariant.1 c.loop-left-test.true c.next-q.ensures c.apart_from.ensures c.if-apart_from.false
+pub loop-p-preserved : goal.loop-p-preserved
+loop-p-preserved c =
+    pass-goes c.args.sheet.now c.in-Some.ensures.steps c.loop-p.invariant c.apart_from.ensures c.if-not-apart_from.false
+
+pub returns-then-not-apart_from : goal.returns-then-not-apart_from
+returns-then-not-apart_from c =
+    pass-stops c.args.sheet.now c.in-Some.ensures.steps c.loop-p.invariant c.apart_from.ensures c.if-not-apart_from.true
 
 pub returns : goal.returns
-returns c =
-    let s = c.args.sheet.now in
-    let l = c.loop-left in
-    pass-done s l.left l.j l.invariant.1 c.loop-left-test.false
+returns c = pass-ends c.args.sheet.now c.in_default.ensures.steps.0 c.loop-p.invariant

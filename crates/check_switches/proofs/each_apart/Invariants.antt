@@ -1,11 +1,12 @@
--- `check_switches::each_apart` meets its contract. Invariant: what is left to do from node j on equals the whole.
-use Rattle.check_switches.specs.Switch as switches
+-- `check_switches::each_apart` meets its contract. Invariant: what is left of the walk differs where the whole does.
 use mathlib.Core.Path.{◌≡◌}
-use Prim.Native.Nat.{◌≤◌}
+use Rattle.sheet.specs.Rest.{rest}
+use Rattle.check_switches.specs.Switch.{distinct}
+use Rattle.check_switches.proofs.SwitchLaws.{list_distinct}
 use Rattle.check_switches.proofs.each_apart.Given as goal
 
-abbrev pub invariant-loop-left : goal.invariant-loop-left
-invariant-loop-left l = (l.left ≤ l.m) × (switches.distinct l.sheet l.left l.j ≡ switches.distinct l.sheet l.m l.at)
+abbrev pub invariant-loop-p : goal.invariant-loop-p
+invariant-loop-p l = list_distinct l.sheet (rest l.rest) ≡ distinct l.sheet l.m l.at
 
-abbrev pub decreases-loop-left : goal.decreases-loop-left
-decreases-loop-left l = l.left
+abbrev pub decreases-loop-p : goal.decreases-loop-p
+decreases-loop-p l = l.rest.left

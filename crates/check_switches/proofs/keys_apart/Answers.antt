@@ -1,10 +1,9 @@
 -- `check_switches::keys_apart` meets its contract. Invariant: the numbers of the cases passed are kept, and differ.
 use borrow.Author.Rules.{rules}
 use native.Mathlib.Omega.{arith}
-use mathlib.Core.Path.{refl, sym}
+use mathlib.Core.Path.{refl}
 use mathlib.Core.Bool.{false≢true}
-use lib.Seq.{length-take-le}
-use Rattle.check_switches.proofs.KeyLaws.{keys-start, keys_step, keys-end}
+use Rattle.check_switches.proofs.KeyLaws.{keys-start, keys_step, keys-end, not-among}
 use Rattle.check_switches.proofs.keys_apart.Goals as goal
 
 pub returns-then-m-lt6 : goal.returns-then-m-lt6
@@ -13,32 +12,26 @@ returns-then-m-lt6 c = λ e. absurd (false≢true e)
 pub returns-then-m-gt64 : goal.returns-then-m-gt64
 returns-then-m-gt64 c = λ e. absurd (false≢true e)
 
-pub loop-i-init : goal.loop-i-init
-loop-i-init c =
+pub returns-then-contains : goal.returns-then-contains
+returns-then-contains c = λ e. absurd (false≢true e)
+
+pub loop-n-init : goal.loop-n-init
+loop-n-init c =
     let a = c.args in
-    (omega arith, c.if-m-gt64.false, refl, keys-start a.sheet.now a.at _)
+    (c.if-m-gt64.false, refl, keys-start a.sheet.now a.at _)
 
-pub slice_bounds-among-end : goal.slice_bounds-among-end
-slice_bounds-among-end c =
-    let w = c.loop-i in
-    sym (length-take-le w.i w.k (omega arith))
-
-pub returns-then-among : goal.returns-then-among
-returns-then-among c = λ e. absurd (false≢true e)
-
-pub loop-i-preserved : goal.loop-i-preserved
-loop-i-preserved c =
-    let w = c.loop-i in
+pub loop-n-preserved : goal.loop-n-preserved
+loop-n-preserved c =
+    let w = c.loop-n in
     let a = c.args in (
+      w.invariant.0,
       search rules,
-      w.invariant.1,
-      search rules,
-      keys_step a.sheet.now a.at w.invariant.3 (omega arith) c.child.ensures c.value_key-key.ensures c.next-j.ensures
-          (c.among.ensures c.if-among.false),
+      keys_step a.sheet.now a.at w.invariant.2 (omega arith) c.child.ensures c.value_key-key.ensures c.next-j.ensures
+          (not-among _ _ _ c.contains.ensures.cases c.if-contains.false),
     )
 
 pub returns : goal.returns
 returns c =
-    let w = c.loop-i in
+    let w = c.loop-n in
     let a = c.args in
-    λ e. keys-end a.sheet.now a.at a.m w.invariant.3 c.loop-i-test.false
+    λ e. keys-end a.sheet.now a.at a.m w.invariant.2 (omega arith)

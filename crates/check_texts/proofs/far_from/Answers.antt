@@ -2,6 +2,6 @@
 use Rattle.check_texts.proofs.MarkLaws.{run-onto}
 use Rattle.check_texts.proofs.far_from.Goals as goal
 
-pub returns-then-r-p : goal.returns-then-r-p
-returns-then-r-p c =
-    run-onto c.run-r.ensures.passed c.if-r-p.true c.requires
+pub returns-then-r-f : goal.returns-then-r-f
+returns-then-r-f c =
+    run-onto c.run-r.ensures.passed c.if-r-f.true c.requires

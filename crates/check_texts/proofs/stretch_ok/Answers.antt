@@ -4,18 +4,17 @@ use Rattle.check_texts.proofs.TextsLaws.{due-none, due-more, due-fails, due_all}
 use Rattle.check_texts.proofs.stretch_ok.Goals as goal
 
 pub loop-t-init : goal.loop-t-init
-loop-t-init c = (omega arith, due-none _ _ _)
+loop-t-init c = due-none _ _ _
 
 pub due_ok-requires : goal.due_ok-requires
 due_ok-requires c = record { b_value = c.requires.b_value; marks = c.requires.marks }
 
 pub loop-t-preserved : goal.loop-t-preserved
-loop-t-preserved c =
-    (omega arith, due-more c.loop-t.t c.loop-t.invariant.1 c.due_ok.ensures c.if-due_ok.true)
+loop-t-preserved c = due-more c.loop-t.t c.loop-t.invariant c.due_ok.ensures c.if-not-due_ok.false
 
-pub returns-else-due_ok : goal.returns-else-due_ok
-returns-else-due_ok c =
-    due-fails c.loop-t.t (omega arith) c.due_ok.ensures c.if-due_ok.false
+pub returns-then-not-due_ok : goal.returns-then-not-due_ok
+returns-then-not-due_ok c =
+    due-fails c.loop-t.t (omega arith) c.due_ok.ensures c.if-not-due_ok.true
 
 pub returns : goal.returns
-returns c = due_all c.loop-t.t (omega arith) c.loop-t.invariant.1
+returns c = due_all c.loop-t.t (omega arith) c.loop-t.invariant

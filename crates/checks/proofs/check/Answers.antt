@@ -4,10 +4,8 @@ use Rattle.checks.proofs.CheckedLaws.{says-1}
 use Rattle.checks.proofs.RestLaws.{rest_is}
 use Rattle.checks.proofs.check.Goals as goal
 
-pub returns-then-passes : goal.returns-then-passes
-returns-then-passes c =
-    let sizes = sym c.sizes_ok.ensures ∙ c.if-sizes_ok.true in
-    c.rest.ensures ∙ rest_is _ sizes (c.passes.ensures c.if-passes.true)
+pub returns-then-not-sizes_ok : goal.returns-then-not-sizes_ok
+returns-then-not-sizes_ok c = sym (says-1 _ (sym c.if-not-sizes_ok.ensures))
 
-pub returns : goal.returns
-returns c = sym (says-1 _ (sym c.sizes_ok.ensures ∙ c.if-sizes_ok.false))
+pub returns-then-passes : goal.returns-then-passes
+returns-then-passes c = c.rest.ensures ∙ rest_is _ (sym c.if-not-sizes_ok.ensures) (c.passes.ensures c.if-passes.true)

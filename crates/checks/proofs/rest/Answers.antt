@@ -3,30 +3,23 @@ use mathlib.Core.Path.{sym, ◌∙◌}
 use Rattle.checks.proofs.RestLaws.{rest_0, rest-3, rest-4, rest-6, rest-7}
 use Rattle.checks.proofs.rest.Goals as goal
 
-pub returns-then-cases_ok : goal.returns-then-cases_ok
-returns-then-cases_ok c =
-    let texts = sym c.texts_ok-texts.ensures ∙ c.if-texts.true in
-    let locals = sym c.locals_ok.ensures ∙ c.if-locals_ok.true in
-    let entries = sym c.entries_ok.ensures ∙ c.if-entries_ok.true in
-    sym (rest_0 _ texts locals entries (sym c.cases_ok.ensures ∙ c.if-cases_ok.true))
+pub returns-then-not-texts : goal.returns-then-not-texts
+returns-then-not-texts c = sym (rest-3 _ (sym c.texts_ok-texts.ensures ∙ c.if-not-texts.true))
 
-pub returns-then-entries_ok : goal.returns-then-entries_ok
-returns-then-entries_ok c =
-    let texts = sym c.texts_ok-texts.ensures ∙ c.if-texts.true in
-    let locals = sym c.locals_ok.ensures ∙ c.if-locals_ok.true in
-    let entries = sym c.entries_ok.ensures ∙ c.if-entries_ok.true in
-    sym (rest-7 _ texts locals entries (sym c.cases_ok.ensures ∙ c.if-cases_ok.false))
+pub returns-then-not-locals_ok : goal.returns-then-not-locals_ok
+returns-then-not-locals_ok c =
+    sym (rest-4 _ (sym c.texts_ok-texts.ensures ∙ c.if-not-texts.false) (sym c.if-not-locals_ok.ensures))
 
-pub returns-then-locals_ok : goal.returns-then-locals_ok
-returns-then-locals_ok c =
-    let texts = sym c.texts_ok-texts.ensures ∙ c.if-texts.true in
-    let locals = sym c.locals_ok.ensures ∙ c.if-locals_ok.true in
-    sym (rest-6 _ texts locals (sym c.entries_ok.ensures ∙ c.if-entries_ok.false))
+pub returns-then-not-entries_ok : goal.returns-then-not-entries_ok
+returns-then-not-entries_ok c =
+    sym (rest-6 _ (sym c.texts_ok-texts.ensures ∙ c.if-not-texts.false) (sym c.if-not-locals_ok.ensures) (sym c.if-not-entries_ok.ensures))
 
-pub returns-then-texts : goal.returns-then-texts
-returns-then-texts c =
-    let texts = sym c.texts_ok-texts.ensures ∙ c.if-texts.true in
-    sym (rest-4 _ texts (sym c.locals_ok.ensures ∙ c.if-locals_ok.false))
+pub returns-then-not-cases_ok : goal.returns-then-not-cases_ok
+returns-then-not-cases_ok c =
+    sym (rest-7 _ (sym c.texts_ok-texts.ensures ∙ c.if-not-texts.false) (sym c.if-not-locals_ok.ensures) (sym c.if-not-entries_ok.ensures)
+    (sym c.if-not-cases_ok.ensures))
 
 pub returns : goal.returns
-returns c = sym (rest-3 _ (sym c.texts_ok-texts.ensures ∙ c.if-texts.false))
+returns c =
+    sym (rest_0 _ (sym c.texts_ok-texts.ensures ∙ c.if-not-texts.false) (sym c.if-not-locals_ok.ensures) (sym c.if-not-entries_ok.ensures)
+    (sym c.if-not-cases_ok.ensures))

@@ -10,11 +10,11 @@ returns-then-position c =
     let a = c.args in
     let s = a.sheet.now in
     let here = sym c.position.ensures ∙ c.if-position.true ∙ c.position-2.ensures in
-    λ e f. ap₂ eqb (c.start_of.ensures ∙ ap (start_of s) e) (c.start_of-then-position.ensures ∙ ap (start_of s) f)
-    ∙ sym (index-here s a.c a.d here)
+    λ p q. ap₂ eqb (c.start_of.ensures ∙ ap (start_of s) p.with_is) (c.start_of-then-position.ensures ∙ ap (start_of s) q.with_is)
+    ∙ sym (index-here s a.p.link a.q.link here)
 
 pub returns : goal.returns
 returns c =
     let a = c.args in
-    λ e f. sym (index-apart a.sheet.now a.c a.d
+    λ p q. sym (index-apart a.sheet.now a.p.link a.q.link
     (λ g. c.if-position.false (c.position.ensures ∙ g ∙ sym c.position-2.ensures)))

@@ -1,81 +1,48 @@
--- `expr_chains::same_steps` meets its contract. Invariant: what is left to compare from links c and d on equals the whole.
+-- `expr_chains::same_steps` meets its contract. Invariant: what is left to compare equals the whole.
 use mathlib.Core.Path.{ap, ap₂, sym, ◌∙◌}
-use mathlib.Core.Bool.{not}
-use Prim.Native.Nat.{◌-◌}
-use Rattle.expr_chains.specs.Same as sames
-use Rattle.expr_chains.proofs.LoopLaws.{same-fails, same_more, same-spent, same_parts, same_ends, same-done}
+use Rattle.expr_rules.specs.Links.{links_left, nodes_left}
+use Rattle.expr_rules.proofs.LinksLaws.{links-begin, links-turn, links-over}
+use Rattle.expr_chains.specs.Same.{same_steps, same_links}
+use Rattle.expr_chains.proofs.LoopLaws.{same-on, same-off, same-longer, same_ends}
 use Rattle.expr_chains.proofs.same_steps.Goals as goal
 
-pub loop-left-init : goal.loop-left-init
-loop-left-init c = cc
+pub loop-p-init : goal.loop-p-init
+unfolding same_links
+loop-p-init c =
+    let a = links-begin (ap links_left c.into_iter-p-iterator.ensures.into_iter_gives ∙ c.links_of-p-items.ensures) in
+    let b = links-begin c.links_of-others.ensures in
+    (a.left, b.left, ap₂ (same_steps c.args.sheet.now) a.nodes b.nodes)
 
-pub returns-then-left-eq0 : goal.returns-then-left-eq0
-returns-then-left-eq0 c =
-    let w = c.loop-left in
-    let a = c.args in
-    let s = a.sheet.now in
-    let h = c.loop-left-test.true in
-    let p = c.read_link-p.ensures in
-    let q = c.read_link-q.ensures in
-    let same = sym (c.same_step.ensures p q) in
-    sym (same-spent s w.left w.c w.d h (same ∙ c.if-same_step.true) c.if-left-eq0.true) ∙ w.invariant
+pub returns-then-not-same_step : goal.returns-then-not-same_step
+returns-then-not-same_step c =
+    let s = c.args.sheet.now in
+    let r = c.loop-p.invariant in
+    let p = links-turn c.next.new.self r.0 c.in-Some.ensures.steps in
+    let q = links-turn c.next-in-loop-p.new.self r.1 c.in-Some-next.ensures.steps in
+    sym (same-off s _ _ _ _ (sym (c.same_step.ensures p.says q.says) ∙ c.if-not-same_step.true))
+    ∙ sym (ap₂ (same_steps s) p.nodes q.nodes)
+    ∙ r.2
 
-pub loop-left-preserved : goal.loop-left-preserved
-loop-left-preserved c =
-    let w = c.loop-left in
-    let a = c.args in
-    let s = a.sheet.now in
-    let h = c.loop-left-test.true in
-    let p = c.read_link-p.ensures in
-    let q = c.read_link-q.ensures in
-    let same = sym (c.same_step.ensures p q) in
-    let on = sym p.on_is ∙ c.if-p.true in
-    let on2 = sym q.on_is ∙ c.if-q.true in
-    ap₂ (sames.same_links (w.left - 1) s) p.rest_is q.rest_is
-    ∙ sym (same_more s w.left w.c w.d h (same ∙ c.if-same_step.true) on on2)
-    ∙ w.invariant
+pub loop-p-preserved : goal.loop-p-preserved
+loop-p-preserved c =
+    let s = c.args.sheet.now in
+    let r = c.loop-p.invariant in
+    let p = links-turn c.next.new.self r.0 c.in-Some.ensures.steps in
+    let q = links-turn c.next-in-loop-p.new.self r.1 c.in-Some-next.ensures.steps in
+    let on = same-on s _ _ _ _ (sym (c.same_step.ensures p.says q.says) ∙ c.if-not-same_step.false) in
+    (p.left, q.left, sym on ∙ sym (ap₂ (same_steps s) p.nodes q.nodes) ∙ r.2)
 
-pub returns-else-q : goal.returns-else-q
-returns-else-q c =
-    let w = c.loop-left in
-    let a = c.args in
-    let s = a.sheet.now in
-    let h = c.loop-left-test.true in
-    let p = c.read_link-p.ensures in
-    let q = c.read_link-q.ensures in
-    let same = sym (c.same_step.ensures p q) in
-    let on = sym p.on_is ∙ c.if-p.true in
-    let off = sym q.on_is ∙ c.if-q.false in
-    sym (same_parts s w.left w.c w.d h (same ∙ c.if-same_step.true) c.if-left-eq0.false on off)
-    ∙ w.invariant
-
-pub returns-else-p : goal.returns-else-p
-returns-else-p c =
-    let w = c.loop-left in
-    let a = c.args in
-    let s = a.sheet.now in
-    let h = c.loop-left-test.true in
-    let p = c.read_link-p.ensures in
-    let q = c.read_link-q.ensures in
-    let same = sym (c.same_step.ensures p q) in
-    let off = sym p.on_is ∙ c.if-p.false in
-    ap not q.on_is
-    ∙ sym (same_ends s w.left w.c w.d h (same ∙ c.if-same_step.true) c.if-left-eq0.false off)
-    ∙ w.invariant
-
-pub returns-else-same_step : goal.returns-else-same_step
-returns-else-same_step c =
-    let w = c.loop-left in
-    let a = c.args in
-    let s = a.sheet.now in
-    let h = c.loop-left-test.true in
-    let p = c.read_link-p.ensures in
-    let q = c.read_link-q.ensures in
-    let same = sym (c.same_step.ensures p q) in
-    sym (same-fails s w.left w.c w.d h (same ∙ c.if-same_step.false)) ∙ w.invariant
+pub returns-in-None-next : goal.returns-in-None-next
+returns-in-None-next c =
+    let s = c.args.sheet.now in
+    let r = c.loop-p.invariant in
+    let p = links-turn c.next.new.self r.0 c.in-Some.ensures.steps in
+    sym (same-longer s _ _) ∙ sym (ap₂ (same_steps s) p.nodes (links-over c.loop-p.others c.in-None-next.ensures.steps.0)) ∙ r.2
 
 pub returns : goal.returns
 returns c =
-    let a = c.args in
-    let w = c.loop-left in
-    sym (same-done a.sheet.now w.left w.c w.d c.loop-left-test.false) ∙ w.invariant
+    let s = c.args.sheet.now in
+    let r = c.loop-p.invariant in
+    same_ends s c.loop-p.others c.next-2.new.self c.next-2.result c.is_none.result c.is_none.ensures r.1 c.next-2.ensures.steps
+    ∙ sym (ap (λ l. same_steps s l (nodes_left c.loop-p.others)) (links-over c.loop-p.p-iterator c.in-None.ensures.steps.0))
+    ∙ r.2

@@ -1,5 +1,6 @@
 -- `expr_chains::width` meets its contract: each arm is the definition's, by the rule that the link says.
-use mathlib.Core.Path.{ap, ◌∙◌}
+use mathlib.Core.Path.{◌≡◌, ap, ◌∙◌}
+use borrow.Author.Rules.{rules}
 use Prim.Native.Nat.{min}
 use Rattle.sheet.specs.Node.{count}
 use Rattle.lowering.specs.Limits.{max_args}
@@ -22,7 +23,8 @@ pub returns-in-Method : goal.returns-in-Method
 unfolding step_rule_from step_operands width_by
 returns-in-Method c =
     let s = c.args.sheet.now in
-    λ k h. c.few.ensures
+    let cut : c.min.result ≡ min c.count.result max_args = search rules in
+    λ k h. cut
     ∙ ap (λ n. min n max_args) (c.count.ensures ∙ ap (count s) h.with_is)
     ∙ ap (λ r. width_by r s k) (rule_told h c.in-Method.is)
 

@@ -2,16 +2,20 @@
 -- Invariant of both loops: what is passed and what is left make the whole, cut off.
 use mathlib.Core.Path.{refl, sym, ap, ◌∙◌}
 use Rattle.expr_count.specs.Locals.{answer}
+use Rattle.expr_count.specs.Link.{reach_number}
 use Rattle.expr_count.specs.Plan.{is_leaf}
 use Rattle.expr_count.proofs.CodeLaws.{sum-none, leaf-tally, tally-none, tally-coalesce, tally-chain}
 use Rattle.expr_count.proofs.AnswerLaws.{chain-plain, sum-begins, sum-passes}
 use Rattle.expr_count.proofs.AnswerLaws.{sum_goes, sum-ends, coalesce-counted, tally-parted}
-use Rattle.expr_count.proofs.AnswerLaws.{walk_begins, walk-goes, walk-stops, walk-failed, walk-lost, walk_ends}
-use Rattle.expr_count.proofs.AnswerLaws.{lowers-two, reach-begins, reach-goes, reach-stops, reach-lost, reach-ends}
+use Rattle.expr_count.proofs.AnswerLaws.{walk_begins, walk-goes, walk-failed, walk-lost, walk_ends}
+use Rattle.expr_count.proofs.AnswerLaws.{lowers-two, reach-begins, reach-goes, reach-lost, reach-ends}
 use Rattle.expr_count.proofs.AnswerLaws.{chain-stayed, chain-failed, chain-lowered}
 use native.Mathlib.Omega.{arith}
+use Rattle.expr_rules.specs.Links.{links_left}
+use Rattle.expr_rules.proofs.LinksLaws.{links-begin, links-turn, links-over}
 use Rattle.expr_count.specs.Count as counts
 use Rattle.expr_count.proofs.+chain_coalesce_siblings_tally_walk.Goals as goal
+use Rattle.expr_count.proofs.+chain_coalesce_siblings_tally_walk.Goals.{siblings-then-is_leaf, siblings-else-is_leaf}
 
 pub chain-returns-then-is_plain : goal.chain-returns-then-is_plain
 chain-returns-then-is_plain t c =
@@ -21,26 +25,30 @@ chain-returns-then-is_plain t c =
     c.if-is_plain.true
     c.instructions.ensures
 
-pub chain-returns-then-w-eq0 : goal.chain-returns-then-w-eq0
-chain-returns-then-w-eq0 t c =
+pub chain-returns-in-Nowhere : goal.chain-returns-in-Nowhere
+unfolding reach_number
+chain-returns-in-Nowhere t c =
     let a = c.args in
     chain-stayed a.sheet.now (counts.tally_by (answer a.told.now a.sheet.now) a.levels a.sheet.now) a.j
-    c.walk-w.ensures.far_value c.if-w-eq0.true c.instructions-then-w-eq0.ensures
+    c.walk-w.ensures.far_value (ap reach_number c.in-Nowhere.is) c.instructions-in-Nowhere.ensures
 
-pub chain-returns-then-w-eq1 : goal.chain-returns-then-w-eq1
-chain-returns-then-w-eq1 t c =
+pub chain-returns-in-TakenBack : goal.chain-returns-in-TakenBack
+unfolding reach_number
+chain-returns-in-TakenBack t c =
     let a = c.args in
     chain-failed a.sheet.now (counts.tally_by (answer a.told.now a.sheet.now) a.levels a.sheet.now) a.j
-    c.walk-w.ensures.far_value c.if-w-eq1.true
-    c.walk-w.ensures.sum_value c.taken_back.ensures c.instructions-then-w-eq1.ensures c.plus.ensures
+    c.walk-w.ensures.far_value (ap reach_number c.in-TakenBack.is)
+    c.walk-w.ensures.sum_value c.taken_back.ensures c.instructions-in-TakenBack.ensures c.plus.ensures
 
-pub chain-returns : goal.chain-returns
-chain-returns t c =
+pub chain-returns-in-Whole : goal.chain-returns-in-Whole
+unfolding reach_number
+chain-returns-in-Whole t c =
     let a = c.args in
+    let whole = ap reach_number c.in-Whole.is in
     chain-lowered a.sheet.now (counts.tally_by (answer a.told.now a.sheet.now) a.levels a.sheet.now) a.j
-    c.walk-w.ensures.far_value c.if-w-eq0.false c.if-w-eq1.false
+    c.walk-w.ensures.far_value (λ q. omega (arith, whole, q)) (λ q. omega (arith, whole, q))
     c.walk-w.ensures.sum_value c.child-root.ensures c.temporary.ensures c.siblings-lowered.ensures
-    c.plus-2.ensures c.instructions-2.ensures c.plus-3.ensures
+    c.plus-in-Whole.ensures c.instructions-in-Whole.ensures c.plus-in-Whole-2.ensures
 
 pub coalesce-returns : goal.coalesce-returns
 coalesce-returns t c =
@@ -67,30 +75,29 @@ siblings-overflow_add-leaves t c =
     let l = c.loop-i in
     omega (arith, l.invariant.few)
 
-pub siblings-loop-i-preserved-then-is_leaf : goal.siblings-loop-i-preserved-then-is_leaf
-siblings-loop-i-preserved-then-is_leaf t c =
-    let l = c.loop-i in
-    let a = c.args in
-    let s = a.sheet.now in
-    let leaf = sym (c.is_leaf.ensures ∙ ap is_leaf c.kind.ensures) ∙ c.if-is_leaf.true in
-    sum-passes s (counts.tally_by (answer a.told.now s) a.levels s) a.gap a.n a.from l.leaves l.i l.j l.sum
-    l.invariant
-    c.loop-i-test.true (leaf-tally (answer a.told.now s) a.levels s l.j leaf) c.next-j.ensures
-
 pub siblings-loop-i-preserved : goal.siblings-loop-i-preserved
 siblings-loop-i-preserved t c =
     let l = c.loop-i in
     let a = c.args in
-    sum_goes a.sheet.now (counts.tally_by (answer a.told.now a.sheet.now) a.levels a.sheet.now) a.gap a.n a.from
-    l.leaves l.i l.j l.sum l.invariant
-    c.loop-i-test.true c.tally.ensures c.plus-sum.ensures c.next-j-else-is_leaf.ensures
+    let s = a.sheet.now in
+    let rec = counts.tally_by (answer a.told.now s) a.levels s in
+    let leaf-is = c.is_leaf.ensures ∙ ap is_leaf c.kind.ensures in
+    elim c.if-is_leaf.branch [
+      | siblings-then-is_leaf w ↦
+          let one = leaf-tally (answer a.told.now s) a.levels s l.j (sym leaf-is ∙ w.if-is_leaf.true) in
+          sum-passes s rec a.gap a.n a.from l.leaves l._i l.j l.sum l.invariant c.loop-i-test.true one w.sum-is w.leaves-is
+          c.next-j.ensures
+      | siblings-else-is_leaf w ↦
+          sum_goes s rec a.gap a.n a.from l.leaves l._i l.j l.sum l.invariant c.loop-i-test.true w.tally.ensures
+          (w.sum-is ∙ w.plus-sum.ensures) w.leaves-is c.next-j.ensures
+    ]
 
 pub siblings-returns : goal.siblings-returns
 siblings-returns t c =
     let l = c.loop-i in
     let a = c.args in
     sum-ends a.sheet.now (counts.tally_by (answer a.told.now a.sheet.now) a.levels a.sheet.now) a.gap a.n a.from
-    l.leaves l.i l.j l.sum l.invariant
+    l.leaves l._i l.j l.sum l.invariant
     c.loop-i-test.false c.spaced.ensures c.plus.ensures
 
 pub tally-returns-then-levels-eq0 : goal.tally-returns-then-levels-eq0
@@ -120,72 +127,41 @@ tally-returns-in-Chain t c =
     c.chain.ensures ∙ tally-chain (answer a.told.now a.sheet.now) a.levels a.sheet.now a.j
     c.if-levels-eq0.false told
 
-pub walk-loop-left-init : goal.walk-loop-left-init
-walk-loop-left-init t c =
-    let a = c.args in (
-      walk_begins a.sheet.now (counts.tally_by (answer a.told.now a.sheet.now) a.levels a.sheet.now) a.j
-          c.nothing-sum.ensures,
-      reach-begins a.sheet.now a.j,
-    )
+pub walk-loop-p-init : goal.walk-loop-p-init
+walk-loop-p-init t c =
+    let begun = links-begin (ap links_left c.into_iter-p-iterator.ensures.into_iter_gives ∙ c.links_of-p-items.ensures) in
+    (walk_begins begun c.nothing-sum.ensures, reach-begins begun)
 
-pub walk-loop-left-preserved : goal.walk-loop-left-preserved
-walk-loop-left-preserved t c =
-    let l = c.loop-left in
-    let a = c.args in
-    let test = c.loop-left-test.true in
+pub walk-loop-p-preserved : goal.walk-loop-p-preserved
+walk-loop-p-preserved t c =
+    let l = c.loop-p in
+    let u = links-turn c.next.new.self l.invariant.0.left c.in-Some.ensures.steps in
     let told = c.in-Lowers.is in
-    let on = c.goes_on.ensures in (
-      walk-goes a.sheet.now (counts.tally_by (answer a.told.now a.sheet.now) a.levels a.sheet.now) a.j l.sum
-          l.left l.c
-          l.invariant.0 test c.link_of-l.ensures told
-          c.siblings.ensures c.plus-sum.ensures on c.if-goes_on.true c.rest_of-c.ensures,
-      reach-goes a.sheet.now a.j 2 l.left l.c l.invariant.1 test c.link_of-l.ensures (lowers-two told) refl on
-          c.if-goes_on.true c.rest_of-c.ensures,
+    let says = c.link_with.ensures _ u.says in (
+      walk-goes l.invariant.0 u says told c.siblings.ensures c.plus-sum.ensures,
+      reach-goes l.invariant.1 u says (lowers-two told) refl,
     )
-
-pub walk-returns-else-goes_on : goal.walk-returns-else-goes_on
-walk-returns-else-goes_on t c =
-    let l = c.loop-left in
-    let a = c.args in
-    let test = c.loop-left-test.true in
-    let told = c.in-Lowers.is in
-    let on = c.goes_on.ensures in record {
-      sum_value = walk-stops a.sheet.now (counts.tally_by (answer a.told.now a.sheet.now) a.levels a.sheet.now) a.j l.sum
-          l.left l.c
-          l.invariant.0 test c.link_of-l.ensures told
-          c.siblings.ensures c.plus-sum.ensures on c.if-goes_on.false;
-      far_value = reach-stops a.sheet.now a.j 2 l.left l.c l.invariant.1 test c.link_of-l.ensures (lowers-two told) refl on
-          c.if-goes_on.false;
-    }
 
 pub walk-returns-in-Fails : goal.walk-returns-in-Fails
 walk-returns-in-Fails t c =
-    let l = c.loop-left in
-    let a = c.args in record {
-      sum_value = walk-failed a.sheet.now (counts.tally_by (answer a.told.now a.sheet.now) a.levels a.sheet.now) a.j l.sum
-          l.left
-          l.c l.invariant.0 c.loop-left-test.true
-          c.link_of-l.ensures c.in-Fails.is;
+    let l = c.loop-p in
+    let u = links-turn c.next.new.self l.invariant.0.left c.in-Some.ensures.steps in
+    record {
+      sum_value = walk-failed l.invariant.0 u (c.link_with.ensures _ u.says) c.in-Fails.is;
       far_value = c.reach-far.ensures;
     }
 
 pub walk-returns-in-Nowhere : goal.walk-returns-in-Nowhere
+unfolding reach_number
 walk-returns-in-Nowhere t c =
-    let l = c.loop-left in
-    let a = c.args in
-    let test = c.loop-left-test.true in record {
-      sum_value = walk-lost a.sheet.now (counts.tally_by (answer a.told.now a.sheet.now) a.levels a.sheet.now) a.j l.sum
-          l.left l.c
-          l.invariant.0 test c.link_of-l.ensures c.in-Nowhere.is;
-      far_value = reach-lost a.sheet.now a.j 2 l.left l.c l.invariant.1 test c.link_of-l.ensures c.in-Nowhere.is;
-    }
+    let l = c.loop-p in
+    let u = links-turn c.next.new.self l.invariant.0.left c.in-Some.ensures.steps in
+    let says = c.link_with.ensures _ u.says in
+    record { sum_value = walk-lost l.invariant.0 u says c.in-Nowhere.is; far_value = reach-lost l.invariant.1 u says c.in-Nowhere.is }
 
 pub walk-returns : goal.walk-returns
+unfolding reach_number
 walk-returns t c =
-    let l = c.loop-left in
-    let a = c.args in record {
-      sum_value = walk_ends a.sheet.now (counts.tally_by (answer a.told.now a.sheet.now) a.levels a.sheet.now) a.j l.sum
-          l.left l.c
-          l.invariant.0 c.loop-left-test.false;
-      far_value = reach-ends a.sheet.now a.j 2 l.left l.c l.invariant.1 c.loop-left-test.false;
-    }
+    let l = c.loop-p in
+    let none = links-over l.p-iterator c.in-None.ensures.steps.0 in
+    record { sum_value = walk_ends l.invariant.0 none; far_value = reach-ends l.invariant.1 none }

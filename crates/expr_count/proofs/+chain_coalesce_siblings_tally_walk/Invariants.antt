@@ -1,6 +1,6 @@
 -- The cycle of calls of the count. The measure: four for each level left, and a step for each member between a node and its operands.
 -- Invariant of both loops: what is passed and what is left make the whole, cut off.
-use Prim.Native.Nat.{◌+◌, ◌*◌, ◌-◌}
+use Prim.Native.Nat.{◌+◌, ◌*◌}
 use Rattle.expr_count.specs.Locals.{answer}
 use Rattle.expr_count.proofs.AnswerLaws.{SumLeft}
 use Rattle.expr_count.proofs.AnswerLaws.{WalkLeft}
@@ -25,14 +25,9 @@ decreases-walk l = 4 * l.levels + 2
 
 abbrev pub invariant-siblings-loop-i : goal.invariant-siblings-loop-i
 invariant-siblings-loop-i l = SumLeft l.sheet
-    (counts.tally_by (answer l.told l.sheet) l.levels l.sheet) l.gap l.n l.from l.sum l.leaves l.i l.j
+    (counts.tally_by (answer l.told l.sheet) l.levels l.sheet) l.gap l.n l.from l.sum l.leaves l._i l.j
 
-abbrev pub decreases-siblings-loop-i : goal.decreases-siblings-loop-i
-decreases-siblings-loop-i l = l.n - l.i
-
-abbrev pub invariant-walk-loop-left : goal.invariant-walk-loop-left
-invariant-walk-loop-left l =
-    WalkLeft l.sheet (counts.tally_by (answer l.told l.sheet) l.levels l.sheet) l.j l.sum l.left l.c × ReachLeft l.sheet l.j 2 l.left l.c
-
-abbrev pub decreases-walk-loop-left : goal.decreases-walk-loop-left
-decreases-walk-loop-left l = l.left
+abbrev pub invariant-walk-loop-p : goal.invariant-walk-loop-p
+invariant-walk-loop-p l =
+    WalkLeft l.sheet (counts.tally_by (answer l.told l.sheet) l.levels l.sheet) l.j l.sum l.p-iterator
+    × ReachLeft l.sheet l.j 2 l.p-iterator

@@ -9,9 +9,7 @@ use Rattle.expr_emit.specs.Linked.{Linked}
 use Rattle.lowering.specs.Nodes.{Right, Row}
 use Rattle.sheet.specs.Walk.{skip}
 use Rattle.sheet.specs.Limits.{max_depth}
-use Rattle.bytecode.specs.Table.{effect_table}
 use Rattle.scratch.specs.declared.Layout.{Layout}
-use Rattle.scratch_store.specs.States.{state_of}
 use Rattle.expr_emit.proofs.+array_call_chain_coalesce_expression_interpolated_short_circuit_siblings_walk.Given as goal
 
 abbrev pub decreases-array : goal.decreases-array
@@ -43,17 +41,14 @@ decreases-walk l = 4 * l.levels + 2
 
 abbrev pub invariant-siblings-loop-i : goal.invariant-siblings-loop-i
 invariant-siblings-loop-i v =
-    (v.i ≤ v.n) × (length v.scratch ≡ length v.initial.scratch) × (v.j ≡ skip v.sheet v.i v.from)
-    × ((l : Layout) → v.t ≡ effect_table → Right v.sheet → Row v.sheet v.n v.from
-    → Does v.sheet l v.initial.scratch (state_of v.initial.counts) v.scratch (state_of v.counts) (rows v.sheet (lowered v.levels v.sheet) v.by v.i v.from))
-
-abbrev pub decreases-siblings-loop-i : goal.decreases-siblings-loop-i
-decreases-siblings-loop-i l = l.n - l.i
+    (length v.scratch ≡ length v.initial.scratch) × (v.j ≡ skip v.sheet v.i v.from)
+    × ((l : Layout) → Right v.sheet → Row v.sheet v.n v.from
+    → Does v.sheet l v.initial.scratch v.initial.state v.scratch v.state (rows v.sheet (lowered v.levels v.sheet) v.by v.i v.from))
 
 abbrev pub invariant-walk-loop-left : goal.invariant-walk-loop-left
 invariant-walk-loop-left v =
     (v.left ≤ max_depth) × (length v.scratch ≡ length v.initial.scratch)
-    × ((l : Layout) → v.t ≡ effect_table → Right v.sheet → Linked v.sheet v.j → Walking v.sheet l v.levels v.initial.scratch (state_of v.initial.counts) v.j v.scratch (state_of v.counts) v.left v.at)
+    × ((l : Layout) → Right v.sheet → Linked v.sheet v.j → Walking v.sheet l v.levels v.initial.scratch v.initial.state v.j v.scratch v.state v.left v.at)
 
 abbrev pub decreases-walk-loop-left : goal.decreases-walk-loop-left
 decreases-walk-loop-left l = l.left

@@ -1,5 +1,4 @@
 -- `expr_slots::by_length` meets its contract. Invariant: the answer among the locals left is the answer among all.
-use native.Mathlib.Omega.{arith}
 use Prim.Native.Nat.{◌-◌}
 use mathlib.Core.Path.{sym, ◌∙◌}
 use Rattle.expr_slots.proofs.SlotLaws.{search-starts, search-finds, search-passes, search-ends}
@@ -9,7 +8,7 @@ use Rattle.expr_slots.proofs.by_length.Goals as goal
 pub loop-left-init : goal.loop-left-init
 loop-left-init c =
     let a = c.args in
-    (omega arith, cc (search-starts a.sheet.now a.name.now))
+    cc (search-starts a.sheet.now a.name.now)
 
 pub returns-then-same_part : goal.returns-then-same_part
 returns-then-same_part c =
@@ -21,7 +20,7 @@ returns-then-same_part c =
     equal-length s name a.t (w.left - 1) c.requires.0 c.requires.1 c.text_length-n.ensures
     c.lengths_at-lengths.ensures.0 c.locals_at-locals.ensures.0 c.word_at-k.ensures c.word_at.ensures
     c.if-word_at-n.true c.bytes_at-bytes.ensures.0 c.text_start.ensures c.same_part.ensures in
-    sym (sym w.invariant.1 ∙ search-finds s name w.left c.loop-left-test.true (sym same-is ∙ c.if-same_part.true))
+    sym (sym w.invariant ∙ search-finds s name w.left c.loop-left-test.true (sym same-is ∙ c.if-same_part.true))
 
 pub loop-left-preserved-else-same_part : goal.loop-left-preserved-else-same_part
 loop-left-preserved-else-same_part c =
@@ -33,7 +32,7 @@ loop-left-preserved-else-same_part c =
     equal-length s name a.t (w.left - 1) c.requires.0 c.requires.1 c.text_length-n.ensures
     c.lengths_at-lengths.ensures.0 c.locals_at-locals.ensures.0 c.word_at-k.ensures c.word_at.ensures
     c.if-word_at-n.true c.bytes_at-bytes.ensures.0 c.text_start.ensures c.same_part.ensures in
-    (omega arith, sym (search-passes s name w.left c.loop-left-test.true (sym same-is ∙ c.if-same_part.false)) ∙ w.invariant.1)
+    sym (search-passes s name w.left c.loop-left-test.true (sym same-is ∙ c.if-same_part.false)) ∙ w.invariant
 
 pub loop-left-preserved : goal.loop-left-preserved
 loop-left-preserved c =
@@ -45,10 +44,10 @@ loop-left-preserved c =
     other_length s name a.t (w.left - 1) c.requires.0 c.requires.1 c.text_length-n.ensures
     c.lengths_at-lengths.ensures.0 c.locals_at-locals.ensures.0 c.word_at-k.ensures c.word_at.ensures
     c.if-word_at-n.false in
-    (omega arith, sym (search-passes s name w.left c.loop-left-test.true other) ∙ w.invariant.1)
+    sym (search-passes s name w.left c.loop-left-test.true other) ∙ w.invariant
 
 pub returns : goal.returns
 returns c =
     let w = c.loop-left in
     let a = c.args in
-    sym (sym w.invariant.1 ∙ search-ends a.sheet.now a.name.now w.left c.loop-left-test.false)
+    sym (sym w.invariant ∙ search-ends a.sheet.now a.name.now w.left c.loop-left-test.false)

@@ -8,12 +8,11 @@ returns-then-mark_all c =
     let a = c.args in
     λ K e.
     let P = c.starts_of-o.ensures in
-    let T = c.effects-t.ensures in
     let fits = room a.image.now K in
-    let M = c.mark_all.ensures P T K.named K.pooled (omega (arith, fits, e)) in
+    let M = c.mark_all.ensures P K.named K.pooled (omega (arith, fits, e)) in
     let C = c.count_runs.ensures P in
     let R = C.runs (omega (arith, fits, e, c.mark_all.auto.scratch)) in
-    marked-right a.image.now _ _ _ _ M c.if-mark_all.true C (c.marks_right.ensures P T K.pooled R)
+    marked-right a.image.now _ _ _ _ M c.if-mark_all.true C (c.marks_right.ensures P K.pooled R)
 
 pub returns : goal.returns
 returns c =
@@ -21,5 +20,5 @@ returns c =
     λ K e.
     let P = c.starts_of-o.ensures in
     let fits = room a.image.now K in
-    let M = c.mark_all.ensures P c.effects-t.ensures K.named K.pooled (omega (arith, fits, e)) in
+    let M = c.mark_all.ensures P K.named K.pooled (omega (arith, fits, e)) in
     marked-wrong a.image.now _ _ K (omega (arith, P.places, c.starts_of-o.type_inv)) M c.if-mark_all.false

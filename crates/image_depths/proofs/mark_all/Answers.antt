@@ -11,9 +11,8 @@ pub loop-p-init : goal.loop-p-init
 loop-p-init c =
     let a = c.args in
     let same = c.come.auto.scratch ∙ c.zero.auto.out in (
-      omega arith,
       refl,
-      λ P T N R room.
+      λ P N R room.
           held_start a.image.now a.o _ (length a.scratch.now) _ _ c.marks_there.ensures.value c.zero.ensures.is
           c.come.ensures P (omega (arith, room, same)),
     )
@@ -22,34 +21,33 @@ pub loop-p-preserved : goal.loop-p-preserved
 loop-p-preserved c =
     let a = c.args in
     let v = c.loop-p.invariant in (
-      omega (arith, c.loop-p-test.true),
-      c.pass.auto.scratch ∙ v.1,
-      λ P T N R room.
-          held_on a.image.now _ _ _ _ (v.2 P T N R room)
-          (c.pass.ensures P T (pooled-at a.image.now _ N R (omega (arith, c.loop-p-test.true, P.places)))) c.if-pass.true,
+      c.pass.auto.scratch ∙ v.0,
+      λ P N R room.
+          held_on a.image.now _ _ _ _ (v.1 P N R room)
+          (c.pass.ensures P (pooled-at a.image.now _ N R (omega (arith, c.loop-p-test.true, P.places)))) c.if-not-pass.false,
     )
 
-pub shape_of-scratch-else-pass : goal.shape_of-scratch-else-pass
-shape_of-scratch-else-pass c =
-    c.pass.auto.scratch ∙ c.loop-p.invariant.1 ∙ c.come.auto.scratch ∙ c.zero.auto.out
+pub shape_of-scratch-then-not-pass : goal.shape_of-scratch-then-not-pass
+shape_of-scratch-then-not-pass c =
+    c.pass.auto.scratch ∙ c.loop-p.invariant.0 ∙ c.come.auto.scratch ∙ c.zero.auto.out
 
-pub returns-else-pass : goal.returns-else-pass
-returns-else-pass c =
+pub returns-then-not-pass : goal.returns-then-not-pass
+returns-then-not-pass c =
     let a = c.args in
     let same = c.come.auto.scratch ∙ c.zero.auto.out in
-    λ P T N R room.
+    λ P N R room.
     let inside : c.loop-p.p < instructions a.image.now = omega (arith, c.loop-p-test.true, P.places) in
-    held-deep a.image.now _ _ _ _ _ inside (c.loop-p.invariant.2 P T N R (omega (arith, room, same)))
-    (c.pass.ensures P T (pooled-at a.image.now _ N R inside)) c.if-pass.false
+    held-deep a.image.now _ _ _ _ _ inside (c.loop-p.invariant.1 P N R (omega (arith, room, same)))
+    (c.pass.ensures P (pooled-at a.image.now _ N R inside)) c.if-not-pass.true
 
 pub shape_of-scratch : goal.shape_of-scratch
 shape_of-scratch c =
-    c.loop-p.invariant.1 ∙ c.come.auto.scratch ∙ c.zero.auto.out
+    c.loop-p.invariant.0 ∙ c.come.auto.scratch ∙ c.zero.auto.out
 
 pub returns : goal.returns
 returns c =
     let a = c.args in
     let same = c.come.auto.scratch ∙ c.zero.auto.out in
     let v = c.loop-p.invariant in
-    λ P T N R room.
-    held-done a.image.now _ _ (omega (arith, v.0, c.loop-p-test.false, P.places)) (v.2 P T N R (omega (arith, room, same)))
+    λ P N R room.
+    held-done a.image.now _ _ (omega (arith, c.loop-p.auto.p-end, c.loop-p-test.false, P.places)) (v.1 P N R (omega (arith, room, same)))

@@ -1,8 +1,7 @@
 -- `image_depths::mark_all` meets its contract. Invariant: the places below p have handed on their marks (`Held`).
-use Prim.Native.Nat.{◌≤◌, ◌-◌}
+use Prim.Native.Nat.{◌≤◌}
 use mathlib.Core.Path.{◌≡◌}
 use lib.ListN.{length}
-use Rattle.bytecode.specs.Table.{effect_table}
 use Rattle.image_rule.specs.Marks.{marks_there}
 use Rattle.image_rule.proofs.Right.{TablesNamed}
 use Rattle.image_rows.specs.AllRows.{Placed}
@@ -12,9 +11,5 @@ use Rattle.image_depths.proofs.mark_all.Given as goal
 
 abbrev pub invariant-loop-p : goal.invariant-loop-p
 invariant-loop-p l =
-    (l.p ≤ l.n)
-    × (length l.scratch ≡ length l.initial.scratch)
-    × (Placed l.image l.o → l.t ≡ effect_table → TablesNamed l.image → RowsPooled l.image → marks_there l.image ≤ length l.initial.scratch → Held l.image l.p l.scratch)
-
-abbrev pub decreases-loop-p : goal.decreases-loop-p
-decreases-loop-p l = l.n - l.p
+    (length l.scratch ≡ length l.initial.scratch)
+    × (Placed l.image l.o → TablesNamed l.image → RowsPooled l.image → marks_there l.image ≤ length l.initial.scratch → Held l.image l.p l.scratch)

@@ -13,8 +13,8 @@ pub returns : goal.returns
 returns c =
     let a = c.args in
     let size = c.marks_there-size.ensures.value in
-    λ P T Q R.
+    λ P Q R.
     marks-by a.image.now (marks_of a.image.now a.scratch.now) _ _ _ _ _ _ P.places c.word_of.ensures
-    (c.places_right-places.ensures P T) (c.tables_right-tables.ensures P Q R)
+    (c.places_right-places.ensures P) (c.tables_right-tables.ensures P Q R)
     (place-mark a.image.now a.o _ _ _ a.scratch.now size c.mark_of.ensures P)
     (c.most.ensures ∙ ap (λ (n : ℕ). marks.most (take n a.scratch.now) a.o.places) (size_is a.image.now a.o _ size P))

@@ -7,7 +7,7 @@ use Rattle.image_depths.proofs.place_right.Goals as goal
 pub returns-then-m-eq0 : goal.returns-then-m-eq0
 returns-then-m-eq0 c =
     let a = c.args in
-    λ P T.
+    λ P.
     place_none a.image.now (marks_of a.image.now a.scratch.now) a.p _
     (place-mark a.image.now a.o a.p _ _ a.scratch.now c.marks_there.ensures.value c.mark_of-m.ensures P)
     c.if-m-eq0.true
@@ -15,8 +15,8 @@ returns-then-m-eq0 c =
 pub returns : goal.returns
 returns c =
     let a = c.args in
-    λ P T.
-    let R = c.code_at-c.ensures P T in
+    λ P.
+    let R = c.code_at-c.ensures P in
     place-by a.image.now (marks_of a.image.now a.scratch.now) a.p _ _ _ _
     (place-mark a.image.now a.o a.p _ _ a.scratch.now c.marks_there.ensures.value c.mark_of-m.ensures P)
     c.if-m-eq0.false

@@ -1,5 +1,4 @@
 -- `image_depths::tables_right` meets its contract. Invariant: the tables below i are right.
-use Prim.Native.Nat.{◌≤◌, ◌-◌}
 use mathlib.Core.Path.{◌≡◌}
 use mathlib.Core.Bool.{true}
 use Rattle.words.specs.Count.{all_below}
@@ -11,8 +10,4 @@ use Rattle.image_depths.proofs.tables_right.Given as goal
 
 abbrev pub invariant-loop-i : goal.invariant-loop-i
 invariant-loop-i l =
-    (l.i ≤ l.n)
-    × (Placed l.image l.o → RowsPooled l.image → Runs l.image l.scratch → all_below l.i (λ i. table_by (mark (marks_of l.image l.scratch) (table_node l.image i)) l.image (marks_of l.image l.scratch) i) ≡ true)
-
-abbrev pub decreases-loop-i : goal.decreases-loop-i
-decreases-loop-i l = l.n - l.i
+    Placed l.image l.o → RowsPooled l.image → Runs l.image l.scratch → all_below l.i (λ i. table_by (mark (marks_of l.image l.scratch) (table_node l.image i)) l.image (marks_of l.image l.scratch) i) ≡ true

@@ -6,6 +6,3 @@ use Rattle.image_maxima.proofs.build.Given as goal
 
 abbrev pub invariant-loop-k : goal.invariant-loop-k
 invariant-loop-k l = (2 * l.size ≤ length l.initial.t) × From l.initial.t l.t l.size l.k
-
-abbrev pub decreases-loop-k : goal.decreases-loop-k
-decreases-loop-k l = l.k

@@ -8,17 +8,16 @@ use Rattle.image_rows.proofs.count_runs.Goals as goal
 pub loop-q-init : goal.loop-q-init
 loop-q-init c =
     let a = c.args in
-    (omega arith, refl, λ P. counting-start a.image.now a.scratch.now)
+    (refl, λ P. counting-start a.image.now a.scratch.now)
 
 pub loop-q-preserved : goal.loop-q-preserved
 loop-q-preserved c =
     let a = c.args in
     let v = c.loop-q.invariant in
     let test = c.loop-q-test.true in (
-      omega (arith, test),
-      c.put.auto.scratch ∙ v.1,
+      c.put.auto.scratch ∙ v.0,
       λ P.
-          counting-on a.image.now a.scratch.now _ _ _ _ _ _ _ _ _ (v.2 P) (omega (arith, test, P.cases, P.ranges)) v.1
+          counting-on a.image.now a.scratch.now _ _ _ _ _ _ _ _ _ (v.1 P) (omega (arith, test, P.cases, P.ranges)) v.0
           (size_is a.image.now a.o _ c.marks_there-size.ensures.value P) (c.row_target-t.ensures P)
           c.mark_of-m.ensures c.run_on-run.ensures.same c.run_on-run.ensures.other c.put.ensures,
     )
@@ -27,4 +26,4 @@ pub returns : goal.returns
 returns c =
     let a = c.args in
     let v = c.loop-q.invariant in
-    λ P. counting-done a.image.now a.o a.scratch.now _ _ _ _ _ P refl (omega (arith, v.0, c.loop-q-test.false)) (v.2 P)
+    λ P. counting-done a.image.now a.o a.scratch.now _ _ _ _ _ P refl (omega (arith, c.loop-q.auto.q-end, c.loop-q-test.false)) (v.1 P)

@@ -1,5 +1,4 @@
 -- `image_rows::count_runs` meets its contract. Invariant: the runs that end at the first q rows are counted (`Counting`).
-use Prim.Native.Nat.{◌≤◌, ◌-◌}
 use mathlib.Core.Path.{◌≡◌}
 use lib.ListN.{length}
 use Rattle.image_rows.specs.AllRows.{Placed}
@@ -8,7 +7,4 @@ use Rattle.image_rows.proofs.count_runs.Given as goal
 
 abbrev pub invariant-loop-q : goal.invariant-loop-q
 invariant-loop-q l =
-    (l.q ≤ l.total) × (length l.scratch ≡ length l.initial.scratch) × (Placed l.image l.o → Counting l.image l.initial.scratch l.q l.before l.run l.scratch)
-
-abbrev pub decreases-loop-q : goal.decreases-loop-q
-decreases-loop-q l = l.total - l.q
+    (length l.scratch ≡ length l.initial.scratch) × (Placed l.image l.o → Counting l.image l.initial.scratch l.q l.before l.run l.scratch)

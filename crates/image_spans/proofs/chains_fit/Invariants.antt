@@ -1,5 +1,4 @@
 -- `image_spans::chains_fit` meets its contract. Invariant: the first i chains have the operands of their steps.
-use Prim.Native.Nat.{◌-◌, ◌≤◌}
 use mathlib.Core.Path.{◌≡◌}
 use mathlib.Core.Bool.{true}
 use Rattle.words.specs.Count.{all_below}
@@ -8,7 +7,4 @@ use Rattle.image_spans.specs.Needs.{NeedTree}
 use Rattle.image_spans.proofs.chains_fit.Given as goal
 
 abbrev pub invariant-loop-i : goal.invariant-loop-i
-invariant-loop-i l = (l.i ≤ l.n) × (NeedTree l.image l.t → all_below l.i (λ j. operands_by l.image j) ≡ true)
-
-abbrev pub decreases-loop-i : goal.decreases-loop-i
-decreases-loop-i l = l.n - l.i
+invariant-loop-i l = NeedTree l.image.words.now l.t → all_below l.i (operands_by l.image.words.now) ≡ true

@@ -1,4 +1,4 @@
--- `image_spans::code_aims` meets its contract. Invariant: the targets of the first p instructions are right.
+-- `image_spans::code_aims` meets its contract. Invariant: the first p instructions' targets are right.
 use Prim.Native.Nat.{◌<◌}
 use mathlib.Core.Path.{sym, ◌∙◌}
 use native.Mathlib.Omega.{arith}
@@ -9,27 +9,23 @@ use Rattle.image_spans.proofs.AllLaws.{all_done}
 use Rattle.image_spans.proofs.code_aims.Goals.{In-loop-p}
 use Rattle.image_spans.proofs.code_aims.Goals as goal
 
--- the instruction is one of the image's
-inside :
-    (c : In-loop-p) →
-    c.loop-p.p < instructions c.args.image.now
-inside c = omega (arith, c.loop-p-test.true, c.word_of-n.ensures)
+inside : (c : In-loop-p) → c.loop-p.p < instructions c.args.image.now.words.now
+inside c = omega (arith, c.loop-p-test.true, c.args.image.now.sized.places)
 
 pub loop-p-init : goal.loop-p-init
-loop-p-init c = (omega arith, λ q T. all_none _)
+loop-p-init c = λ T. all_none _
 
 pub loop-p-preserved : goal.loop-p-preserved
 loop-p-preserved c =
-    (omega arith, λ q T. all_more _ _ (c.loop-p.invariant.1 q T) (sym (c.aims.ensures q T (inside (goal.at.loop-p-preserved c).In-loop-p)) ∙ c.if-aims.true))
+    let h = inside (goal.at.loop-p-preserved c).In-loop-p in
+    λ T. all_more _ _ (c.loop-p.invariant T) (sym (c.aims.ensures T h) ∙ c.if-not-aims.false)
 
-pub returns-else-aims : goal.returns-else-aims
+pub returns-then-not-aims : goal.returns-then-not-aims
 unfolding test.targets_right
-returns-else-aims c =
-    let h = inside (goal.at.returns-else-aims c).In-loop-p in
-    λ q T. sym (all-fails _ _ _ h (sym (c.aims.ensures q T h) ∙ c.if-aims.false))
+returns-then-not-aims c =
+    let h = inside (goal.at.returns-then-not-aims c).In-loop-p in
+    λ T. sym (all-fails _ _ _ h (sym (c.aims.ensures T h) ∙ c.if-not-aims.true))
 
 pub returns : goal.returns
 unfolding test.targets_right
-returns c =
-    let loop = c.loop-p in
-    λ q T. all_done _ _ _ _ c.word_of-n.ensures loop.invariant.0 c.loop-p-test.false (loop.invariant.1 q T)
+returns c = λ T. all_done _ _ _ _ c.args.image.now.sized.places c.loop-p.auto.p-end c.loop-p-test.false (c.loop-p.invariant T)

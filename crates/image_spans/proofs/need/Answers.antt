@@ -1,12 +1,11 @@
 -- `image_spans::need` meets its contract.
-use Rattle.image_spans.proofs.NeedLaws.{need-index, need-method, need-none}
+use native.Mathlib.Omega.{arith}
+use Rattle.image_spans.proofs.NeedLaws.{need-index, need-method}
 use Rattle.image_spans.proofs.need.Goals as goal
 
-pub returns-then-kind-eq0 : goal.returns-then-kind-eq0
-returns-then-kind-eq0 c = need-index _ _ _ _ _ c.if-kind-eq0.true c.cut_off.ensures
+pub returns-in-0 : goal.returns-in-0
+returns-in-0 c = need-index _ _ _ _ _ c.in-0.is (omega (arith, c.min.ensures, c.saturating_add.ensures))
 
-pub returns-then-kind-eq2 : goal.returns-then-kind-eq2
-returns-then-kind-eq2 c = need-method _ _ _ _ _ c.if-kind-eq0.false c.if-kind-eq2.true c.cut_off-then-kind-eq2.ensures
-
-pub returns : goal.returns
-returns c = need-none _ _ _ _ c.if-kind-eq0.false c.if-kind-eq2.false
+pub returns-in-2 : goal.returns-in-2
+returns-in-2 c =
+    need-method _ _ _ _ _ (λ e. absurd (omega (arith, e, c.in-2.is))) c.in-2.is (omega (arith, c.min-in-2.ensures, c.saturating_add-in-2.ensures))

@@ -10,7 +10,7 @@ returns-then-alike c =
     λ h.
     let between = plain-between _ h in
     greater-decides _ _ _ _ _ _ between.0 between.1 (cut-back _ c.least.ensures) (cut-back _ c.greatest-most.ensures)
-    c.node_count-n.ensures c.alike.ensures c.if-alike.true
+    c.node_count-n.ensures (c.alike.ensures.0 c.if-alike.true)
 
 pub returns : goal.returns
 returns c = λ h. exact-decides _ _ (c.count_plain-2.ensures h)

@@ -15,7 +15,7 @@ returns-then-alike c =
     let second = c.planned-low.ensures in record {
       fact = λ z ok k. (
         greater-switch _ _ _ _ _ _ k (first.fact z ok k) (second.fact (first.flat_len_unchanged ∙ z) ok k)
-            c.node_count-n.ensures c.alike.ensures c.if-alike.true,
+            c.node_count-n.ensures (c.alike.ensures.0 c.if-alike.true),
         λ few. absurd (omega (arith, c.local_count.ensures, c.if-local_count-le-FEW_LOCALS.false, few)),
       );
       flat_len_unchanged = second.flat_len_unchanged ∙ first.flat_len_unchanged;

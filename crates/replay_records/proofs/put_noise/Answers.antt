@@ -6,15 +6,11 @@ use Rattle.replay_records.proofs.LeftLaws.{noisy-more}
 use Rattle.replay_records.proofs.put_noise.Goals as goal
 
 pub loop-i-init : goal.loop-i-init
-loop-i-init c = (omega arith, refl, λ k h. absurd (omega arith))
+loop-i-init c = (refl, λ k h. absurd (omega arith))
 
 pub loop-i-preserved : goal.loop-i-preserved
 loop-i-preserved c =
     let v = c.noise.result in (
-      omega arith,
-      length-set c.loop-i.buf c.loop-i.i v ∙ c.loop-i.invariant.1,
-      noisy-more c.loop-i.buf c.loop-i.i v (omega (arith, c.loop-i.invariant.1)) c.loop-i.invariant.2 c.noise.ensures,
+      length-set c.loop-i.buf c.loop-i.i v ∙ c.loop-i.invariant.0,
+      noisy-more c.loop-i.buf c.loop-i.i v (omega (arith, c.loop-i.invariant.0)) c.loop-i.invariant.1 c.noise.ensures,
     )
-
-pub returns : goal.returns
-returns c = let here = c.loop-i in λ k h. here.invariant.2 k (omega (arith, here.invariant.0))

@@ -1,21 +1,14 @@
--- `scratch_folds::all_short` meets its contract. Invariant: each text passed is short.
-use mathlib.Core.Path.{sym}
-use native.Mathlib.Omega.{arith}
-use Rattle.words.proofs.CountLaws.{all_none, all_more}
-use Rattle.scratch_folds.proofs.SumsLaws.{short-by, short-fails, short-passes}
+-- `scratch_folds::all_short` meets its contract: every text is looked at.
+use Rattle.std.proofs.Common.{rules}
+use borrow.Author.Tests.{tests}
+use mathlib.Core.Path.{refl, ap, ◌∙◌}
+use Rattle.words.specs.Count.{all_below}
+use Rattle.words.proofs.RangeLaws.{all_below-range}
+use Rattle.scratch_folds.specs.Sums.{is_short, all_short}
 use Rattle.scratch_folds.proofs.all_short.Goals as goal
 
-pub loop-t-init : goal.loop-t-init
-loop-t-init c = (omega arith, all_none _)
-
-pub loop-t-preserved : goal.loop-t-preserved
-loop-t-preserved c =
-    (omega arith, all_more _ c.loop-t.t c.loop-t.invariant.1 (short-by _ c.loop-t.t _ c.text_length.ensures c.if-text_length-lt-LONG.true))
-
-pub returns-else-text_length-lt-LONG : goal.returns-else-text_length-lt-LONG
-returns-else-text_length-lt-LONG c =
-    let e = c.text_length.ensures in
-    sym (short-fails _ c.loop-t.t (omega arith) (omega arith))
-
 pub returns : goal.returns
-returns c = sym (short-passes _ c.loop-t.t (omega arith) c.loop-t.invariant.1)
+unfolding all_short
+returns c =
+    all_below-range (is_short c.args.sheet.now) _ _ _ _ c.all.ensures.ran refl (λ x b q k. search (rules, tests))
+    ∙ ap (λ n. all_below n (is_short c.args.sheet.now)) c.text_count-n.ensures

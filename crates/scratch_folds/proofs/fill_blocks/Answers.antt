@@ -7,28 +7,26 @@ use Rattle.scratch_folds.proofs.fill_blocks.Goals as goal
 pub loop-k-init : goal.loop-k-init
 loop-k-init c =
     let a = c.args in
-    (omega arith, filling-starts a.b.now a.at a.scratch.now)
+    filling-starts a.b.now a.at a.scratch.now
 
-pub fold_on-g-requires : goal.fold_on-g-requires
-fold_on-g-requires c = let w = c.loop-k.invariant.1.word in search rules
+pub fold_on-h-requires : goal.fold_on-h-requires
+fold_on-h-requires c = let w = c.loop-k.invariant.word in search rules
 
 pub loop-k-preserved : goal.loop-k-preserved
 loop-k-preserved c =
     let w = c.loop-k in
-    let a = c.args in (
-      omega arith,
-      filling-goes a.b.now a.at w.k w.h _ _ a.scratch.now w.scratch _ w.invariant.1 (omega arith) c.part.ensures
-          c.fold_on-g.ensures c.put.ensures,
-    )
+    let a = c.args in
+    filling-goes a.b.now a.at w.k w.h _ _ a.scratch.now w.scratch _ w.invariant (omega arith) c.part.ensures
+    c.fold_on-h.ensures c.put.ensures
 
 pub shape_of-scratch : goal.shape_of-scratch
 shape_of-scratch c =
     let w = c.loop-k in
     let a = c.args in
-    filling-length a.b.now a.at w.k w.h a.scratch.now w.scratch w.invariant.1
+    filling-length a.b.now a.at w.k w.h a.scratch.now w.scratch w.invariant
 
 pub returns : goal.returns
 returns c =
     let w = c.loop-k in
     let a = c.args in
-    filling-ends a.b.now a.at w.k w.h a.scratch.now w.scratch w.invariant.1 (omega arith)
+    filling-ends a.b.now a.at w.k w.h a.scratch.now w.scratch w.invariant (omega arith)

@@ -3,20 +3,20 @@ use native.Mathlib.Omega.{arith}
 use Rattle.scratch_folds.proofs.HashLaws.{folding-starts, folding-goes, folding-ends}
 use Rattle.scratch_folds.proofs.fold_rest.Goals as goal
 
-pub loop-i-init : goal.loop-i-init
-loop-i-init c =
+pub loop-b-init : goal.loop-b-init
+loop-b-init c =
     let a = c.args in
-    (omega arith, folding-starts a.x.now a.from a.start (omega arith))
+    (omega arith, folding-starts a.x.now 0 a.start (omega arith))
 
-pub loop-i-preserved : goal.loop-i-preserved
-loop-i-preserved c =
-    let w = c.loop-i in
+pub loop-b-preserved : goal.loop-b-preserved
+loop-b-preserved c =
+    let w = c.loop-b in
     let a = c.args in
     let f = c.byte_step-h in
-    (omega arith, folding-goes a.x.now _ w.i w.h f.result w.invariant.1 c.loop-i-test.true f.ensures)
+    (omega arith, folding-goes a.x.now _ w.b-index w.h f.result w.invariant.1 (omega arith) f.ensures)
 
 pub returns : goal.returns
 returns c =
-    let w = c.loop-i in
+    let w = c.loop-b in
     let a = c.args in
-    folding-ends a.x.now _ w.i w.h w.invariant.1 c.loop-i-test.false
+    folding-ends a.x.now _ w.b-index w.h w.invariant.1 (omega arith)

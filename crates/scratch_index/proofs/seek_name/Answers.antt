@@ -1,58 +1,7 @@
--- `scratch_index::seek_name` meets its contract: each step of the loop is a law over plain variables.
-use Rattle.std.proofs.Common.{ℕ, ◌-◌, get_or, refl, ap, ◌∙◌, arith}
-use Rattle.scratch_index.specs.Names.{is_name, name_with, name_hash, name_slot}
-use Rattle.scratch_index.proofs.LookupLaws.{lookup-starts, lookup-goes, lookup-finds, lookup-falls, lookup-ends}
+-- `scratch_index::seek_name` meets its contract: it is a search.
+use Rattle.scratch_index.specs.Names.{name_hash}
+use Rattle.scratch_index.proofs.LookupLaws.{finds-as}
 use Rattle.scratch_index.proofs.seek_name.Goals as goal
 
-pub loop-c-init : goal.loop-c-init
-loop-c-init c =
-    let a = c.args in (
-      omega arith,
-      lookup-starts (is_name a.sheet.now (name_with a.sheet.now a.t a.m)) (name_hash a.sheet.now) name_slot
-          a.ix a.n a.h a.scratch.now
-          c.get-c.result (omega arith) (c.get-c.ensures ∙ ap (λ (i : ℕ). get_or a.scratch.now i 0) c.head.ensures),
-    )
-
-pub returns-then-name_hit : goal.returns-then-name_hit
-returns-then-name_hit c =
-    let v = c.get-v in
-    let k = c.get-k in
-    let w = c.loop-c in
-    let a = c.args in
-    lookup-finds (is_name a.sheet.now (name_with a.sheet.now a.t a.m)) (name_hash a.sheet.now) name_slot a.ix a.n a.h
-    a.scratch.now
-    w.c (w.c - 1) k.result v.result c.name_hit.result w.invariant.1 c.loop-c-test.true refl k.ensures
-    (v.ensures ∙ ap (λ (i : ℕ). get_or a.scratch.now i 0) c.name_link.ensures) c.name_hit.ensures c.if-name_hit.true
-
-pub returns-then-c-d : goal.returns-then-c-d
-returns-then-c-d c =
-    let v = c.get-v in
-    let k = c.get-k in
-    let w = c.loop-c in
-    let a = c.args in
-    lookup-falls (is_name a.sheet.now (name_with a.sheet.now a.t a.m)) (name_hash a.sheet.now) name_slot a.ix a.n a.h
-    a.scratch.now
-    w.c (w.c - 1) k.result v.result c.name_hit.result w.invariant.1 c.loop-c-test.true refl k.ensures
-    (v.ensures ∙ ap (λ (i : ℕ). get_or a.scratch.now i 0) c.name_link.ensures) c.name_hit.ensures c.if-c-d.true
-
-pub loop-c-preserved : goal.loop-c-preserved
-loop-c-preserved c =
-    let v = c.get-v in
-    let k = c.get-k in
-    let w = c.loop-c in
-    let a = c.args in (
-      omega arith,
-      lookup-goes (is_name a.sheet.now (name_with a.sheet.now a.t a.m)) (name_hash a.sheet.now) name_slot
-          a.ix a.n a.h a.scratch.now
-          w.c (w.c - 1) k.result v.result c.name_hit.result w.invariant.1 c.loop-c-test.true refl k.ensures
-          (v.ensures ∙ ap (λ (i : ℕ). get_or a.scratch.now i 0) c.name_link.ensures) c.name_hit.ensures
-          c.if-name_hit.false,
-    )
-
 pub returns : goal.returns
-returns c =
-    let w = c.loop-c in
-    let a = c.args in
-    lookup-ends (is_name a.sheet.now (name_with a.sheet.now a.t a.m)) (name_hash a.sheet.now) name_slot a.ix a.n a.h
-    a.scratch.now
-    w.c w.invariant.1 c.loop-c-test.false
+returns c = finds-as c.unwrap_or.ensures (c.seek.ensures (name_hash c.args.sheet.now) c.args.n tt).found

@@ -1,5 +1,7 @@
 -- `scratch_locals::meet` meets its contract: one law for each way.
 use Rattle.scratch_locals.proofs.MeetLaws.{meets-other, meets-old, meets-new}
+use Rattle.scratch_index.proofs.LookupLaws.{finds-as}
+use Rattle.scratch_locals.specs.Pass.{text_hash}
 use Rattle.scratch_locals.proofs.meet.Goals as goal
 
 pub returns-then-kind-ne-VARIABLE : goal.returns-then-kind-ne-VARIABLE
@@ -8,13 +10,15 @@ returns-then-kind-ne-VARIABLE c = meets-other c.kind.ensures c.if-kind-ne-VARIAB
 pub returns-then-r-n : goal.returns-then-r-n
 returns-then-r-n c =
     meets-old c.kind.ensures c.if-kind-ne-VARIABLE.false c.name_index-ix.ensures c.field_a-t.ensures
-    c.sums_at.ensures c.hash_text-h.ensures c.seek_text-r.ensures c.chain_place.ensures
+    c.sums_at.ensures c.hash_text-h.ensures (finds-as c.unwrap_or-r.ensures (c.seek.ensures (text_hash c.args.sheet.now) c.args.n tt).found)
+    c.chain_place.ensures
     c.put.ensures c.if-r-n.true
 
 pub returns : goal.returns
 returns c =
     meets-new c.kind.ensures c.if-kind-ne-VARIABLE.false c.name_index-ix.ensures c.field_a-t.ensures
-    c.sums_at.ensures c.hash_text-h.ensures c.seek_text-r.ensures c.chain_place.ensures
+    c.sums_at.ensures c.hash_text-h.ensures (finds-as c.unwrap_or-r.ensures (c.seek.ensures (text_hash c.args.sheet.now) c.args.n tt).found)
+    c.chain_place.ensures
     c.put.ensures c.if-r-n.false c.token_place.ensures c.put-2.ensures c.name_place.ensures
     c.put-3.ensures
     c.link.ensures c.note.ensures c.wrapping_add_u32.ensures.value

@@ -5,18 +5,17 @@ use Rattle.scratch_locals.specs.Pass.{Telling}
 use Rattle.scratch_locals.proofs.tell_all.Goals as goal
 
 pub loop-k-init : goal.loop-k-init
-loop-k-init c = (omega arith, refl, λ h. h)
+loop-k-init c = (refl, λ h. h)
 
 pub loop-k-preserved : goal.loop-k-preserved
 loop-k-preserved c =
     let w = c.loop-k in (
-      omega arith,
-      c.tell.auto.scratch ∙ w.invariant.1,
-      λ h. c.tell.ensures.told (omega arith) (w.invariant.2 h),
+      c.tell.auto.scratch ∙ w.invariant.0,
+      λ h. c.tell.ensures.told (omega arith) (w.invariant.1 h),
     )
 
 pub shape_of-scratch : goal.shape_of-scratch
-shape_of-scratch c = c.loop-k.invariant.1
+shape_of-scratch c = c.loop-k.invariant.0
 
 pub returns : goal.returns
 returns c =
@@ -24,4 +23,4 @@ returns c =
     let w = c.loop-k in
     let n = c.local_count-m.ensures in
     let e : w.k ≡ local_count a.sheet.now = omega arith in
-    λ h. subst (λ (i : ℕ). Telling a.sheet.now a.layout a.n i w.scratch) e (w.invariant.2 h)
+    λ h. subst (λ (i : ℕ). Telling a.sheet.now a.layout a.n i w.scratch) e (w.invariant.1 h)

@@ -1,10 +1,9 @@
 -- `scratch_locals::tell_all` meets its contract: each turn is a law.
-use Rattle.std.proofs.Common.{◌≡◌, ◌-◌, ◌≤◌, length}
+use Rattle.std.proofs.Common.{◌≡◌, length}
 use Rattle.scratch_locals.specs.Pass.{Telling}
 use Rattle.scratch_locals.proofs.tell_all.Given as goal
 
 abbrev pub invariant-loop-k : goal.invariant-loop-k
-invariant-loop-k l = (l.k ≤ l.m) × (length l.scratch ≡ length l.initial.scratch) × (Telling l.sheet l.layout l.n 0 l.initial.scratch → Telling l.sheet l.layout l.n l.k l.scratch)
-
-abbrev pub decreases-loop-k : goal.decreases-loop-k
-decreases-loop-k l = l.m - l.k
+invariant-loop-k l =
+    (length l.scratch ≡ length l.initial.scratch)
+    × (Telling l.sheet l.layout l.n 0 l.initial.scratch → Telling l.sheet l.layout l.n l.k l.scratch)

@@ -11,8 +11,8 @@ returns-then-is_marked c = λ l.
 
 pub returns-then-knows : goal.returns-then-knows
 returns-then-knows c =
-    adds-any c.layout_of.ensures
-    (name-adds-told c.args.sheet.now c.layout_of.result c.args.scratch.now _ c.args.k
+    adds-any c.layout.ensures
+    (name-adds-told c.args.sheet.now c.layout.result c.args.scratch.now _ c.args.k
     c.text_of-t.result
     c.recall.result c.memos_at-ms.result c.knows.result c.is_marked.result c.text_of-t.ensures
     c.is_marked.ensures c.if-is_marked.false c.memos_at-ms.ensures c.knows.ensures c.if-knows.true
@@ -21,9 +21,9 @@ returns-then-knows c =
 pub returns-then-t-lt-NO_TEXT : goal.returns-then-t-lt-NO_TEXT
 returns-then-t-lt-NO_TEXT c =
     let still = sym c.if-is_marked.false ∙ c.is_marked.ensures in
-    adds-any c.layout_of.ensures
+    adds-any c.layout.ensures
     (name-adds-kept c.args.k c.text_of-t.result _ false c.text_of-t.ensures still refl
-    (c.push_name-at.ensures c.layout_of.result c.text_of-t.ensures still)
+    (c.push_name-at.ensures c.layout.result c.text_of-t.ensures still)
     c.memos_at-ms.result _ c.if-t-lt-NO_TEXT.true c.memos_at-ms.ensures c.remember.ensures)
 
 pub returns-else-t-lt-NO_TEXT : goal.returns-else-t-lt-NO_TEXT

@@ -2,5 +2,5 @@
 use Rattle.scratch_store.proofs.emit.Goals as goal
 
 pub returns : goal.returns
-returns c = λ l table s narrow.
-    c.push.ensures l table s c.args.op (c.op_words.ensures narrow)
+returns c = λ l s narrow.
+    c.push.ensures l s c.args.op (c.op_words.ensures narrow)

@@ -1,18 +1,8 @@
--- `sheet::skip` meets its contract. Invariant: what is left to pass from node at on leads where the whole does.
-use Rattle.sheet.proofs.WalkLaws.{skip-more, skip-done}
-use Rattle.std.proofs.Common.{arith}
-use native.Mathlib.Nat.{sub-zero}
+-- `sheet::skip` meets its contract: each step goes on to the next sibling.
+use Rattle.std.proofs.Common.{rules, refl}
+use borrow.Author.Tests.{tests}
+use Rattle.sheet.proofs.RangeWalkLaws.{fold_skip}
 use Rattle.sheet.proofs.skip.Goals as goal
 
-pub loop-i-init : goal.loop-i-init
-loop-i-init c = (omega arith, cc (sub-zero c.args.m))
-
-pub loop-i-preserved : goal.loop-i-preserved
-loop-i-preserved c = (
-  omega arith,
-  cc (skip-more c.args.sheet.now c.args.m c.loop-i.i c.loop-i.at c.loop-i-test.true),
-)
-
 pub returns : goal.returns
-returns c =
-    cc (skip-done c.args.sheet.now c.args.m c.loop-i.i c.loop-i.at c.loop-i-test.false)
+returns c = fold_skip c.args.sheet.now c.args.m c.args.j _ c.fold.ensures.ran refl (λ a x b q k. search (rules, tests))

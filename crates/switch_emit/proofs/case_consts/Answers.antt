@@ -6,38 +6,36 @@ use Rattle.switch_emit.proofs.TableLaws.{capped-below}
 use Rattle.sheet.proofs.WalkLaws.{skip_step}
 use Rattle.expr_emit.proofs.CycleDoes.{skip_first}
 use Rattle.sheet.specs.Walk.{skip}
-use Rattle.std.proofs.Common.{◌-◌, refl, ap, ◌∙◌, arith}
+use Rattle.std.proofs.Common.{refl, ap, ◌∙◌, arith}
 use Rattle.switch_emit.proofs.case_consts.Goals as goal
 
 pub loop-i-init : goal.loop-i-init
-loop-i-init c = (omega arith, refl, refl, skip_first _ _, within_none _ _ _, λ l C. cases_begin _)
+loop-i-init c = (refl, refl, skip_first _ _, within_none _ _ _, λ l C. cases_begin _)
 
 pub loop-i-preserved : goal.loop-i-preserved
 loop-i-preserved c =
     let s = c.args.sheet.now in
     let v = c.loop-i in
-    let lt = c.loop-i-test.true in
-    let here = v.invariant.3 ∙ ap (skip s v.i) c.first_case-j.ensures in
+    let here = v.invariant.2 ∙ ap (skip s v.i) c.first_case-j.ensures in
     let n-is = count_is s _ _ c.capped-n.ensures c.field_b.ensures in (
-      omega arith,
-      c.add_const-p.auto.scratch ∙ v.invariant.1,
-      c.put.auto.scratch ∙ v.invariant.2,
-      skip_step _ _ _ v.invariant.3 c.next-j.ensures,
-      within_step _ v.invariant.4 (omega arith) c.put.ensures,
+      c.add_const-p.auto.scratch ∙ v.invariant.0,
+      c.put.auto.scratch ∙ v.invariant.1,
+      skip_step _ _ _ v.invariant.2 c.next-j.ensures,
+      within_step _ v.invariant.3 (omega arith) c.put.ensures,
       λ l C.
-          cases_step (v.invariant.5 l C) _ _ _ C n-is lt here c.child.ensures
-          (case-key _ _ _ C (capped-below _ _ _ _ c.capped-n.ensures c.field_b.ensures lt) here
+          cases_step (v.invariant.4 l C) _ _ _ C n-is (omega arith) here c.child.ensures
+          (case-key _ _ _ C (capped-below _ _ _ _ c.capped-n.ensures c.field_b.ensures (omega arith)) here
           c.child.ensures) (c.add_const-p.ensures l) c.put.ensures,
     )
 
 pub shape_of-scratch : goal.shape_of-scratch
-shape_of-scratch c = c.loop-i.invariant.1
+shape_of-scratch c = c.loop-i.invariant.0
 
 pub shape_of-flat : goal.shape_of-flat
-shape_of-flat c = c.loop-i.invariant.2
+shape_of-flat c = c.loop-i.invariant.1
 
 pub returns : goal.returns
 returns c =
     let s = c.args.sheet.now in
     let v = c.loop-i in
-    let n-is = count_is s _ _ c.capped-n.ensures c.field_b.ensures in record { fact = λ l C. cases-does (v.invariant.5 l C) _ C n-is c.loop-i-test.false; fact_2 = λ l a C e h. cases-places (v.invariant.5 l C) _ C n-is c.loop-i-test.false a (v.invariant.2 ∙ e) h; within = λ e. v.invariant.4 }
+    let n-is = count_is s _ _ c.capped-n.ensures c.field_b.ensures in record { fact = λ l C. cases-does (v.invariant.4 l C) _ C n-is (omega arith); fact_2 = λ l a C e h. cases-places (v.invariant.4 l C) _ C n-is (omega arith) a (v.invariant.1 ∙ e) h; within = λ e. v.invariant.3 }

@@ -1,17 +1,13 @@
 -- `switch_emit::case_consts` meets its contract. The invariant: the Cases passed, whose values are constants, and their places.
 use Rattle.scratch.specs.declared.Layout.{Layout}
-use Rattle.scratch_store.specs.States.{state_of}
 use Rattle.switch_tables.specs.Columns.{size, case_const_at, Within}
 use Rattle.switch_emit.proofs.CaseDoes.{CasesDone}
 use Rattle.switch_emit.specs.Ready.{Ready}
 use Rattle.sheet.specs.Walk.{skip}
-use Rattle.std.proofs.Common.{◌≡◌, ◌-◌, ◌≤◌, length}
+use Rattle.std.proofs.Common.{◌≡◌, ◌≤◌, length}
 use Rattle.switch_emit.proofs.case_consts.Given as goal
 
 abbrev pub invariant-loop-i : goal.invariant-loop-i
 invariant-loop-i v =
-    (v.i ≤ v.n) × (length v.scratch ≡ length v.initial.scratch) × (length v.flat ≡ length v.initial.flat) × (v.j ≡ skip v.sheet v.i v.initial.j) × Within case_const_at size v.initial.flat v.flat
-    × ((l : Layout) → Ready v.sheet → CasesDone v.sheet l v.initial.scratch (state_of v.initial.counts) v.scratch (state_of v.counts) v.flat v.i)
-
-abbrev pub decreases-loop-i : goal.decreases-loop-i
-decreases-loop-i l = l.n - l.i
+    (length v.scratch ≡ length v.initial.scratch) × (length v.flat ≡ length v.initial.flat) × (v.j ≡ skip v.sheet v.i v.initial.j) × Within case_const_at size v.initial.flat v.flat
+    × ((l : Layout) → Ready v.sheet → CasesDone v.sheet l v.initial.scratch v.initial.state v.scratch v.state v.flat v.i)

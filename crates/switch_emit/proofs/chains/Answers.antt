@@ -7,15 +7,15 @@ use Rattle.switch_emit.proofs.chains.Goals as goal
 pub returns-then-get-eq0 : goal.returns-then-get-eq0
 returns-then-get-eq0 c =
     let a = c.args in
-    λ l table C T P.
+    λ l C T P.
     chains-none a.flat.now (entries a.sheet.now) (no-split T (sym c.get.ensures ∙ c.if-get-eq0.true))
-    (c.case_arms.ensures l table C T P)
+    (c.case_arms.ensures l C T P)
 
 pub returns : goal.returns
 returns c =
     let a = c.args in
-    λ l table C T P.
+    λ l C T P.
     chains-some a.flat.now (entries a.sheet.now)
     (some-split T (λ e. c.if-get-eq0.false (c.get.ensures ∙ e)))
-    (c.case_arms-2.ensures l table C T P) (c.emit.ensures l table _ tt)
-    (c.range_arms.ensures l table C T)
+    (c.case_arms-2.ensures l C T P) (c.emit.ensures l _ tt)
+    (c.range_arms.ensures l C T)

@@ -4,6 +4,6 @@ use Rattle.switch_emit.proofs.subject.Goals as goal
 
 pub returns : goal.returns
 returns c =
-    λ l table.
+    λ l.
     λ C. subject-does _ c.child.ensures C
-    (c.expression.ensures l table) (c.emit.ensures l table _ tt)
+    (c.expression.ensures l) (c.emit.ensures l _ tt)

@@ -15,7 +15,7 @@ shape_of-scratch c =
 pub returns : goal.returns
 returns c =
     let a = c.args in
-    λ l table C T P.
+    λ l C T P.
     switch-does a.flat.now (entries a.sheet.now) _ _ c.has_default.ensures c.field_c-def.ensures
-    (c.subject.ensures l table C) (c.chains.ensures l table C T P) (c.bodies.ensures l table C T)
-    (c.missing.ensures l table _) (c.close.ensures l table _)
+    (c.subject.ensures l C) (c.chains.ensures l C T P) (c.bodies.ensures l C T)
+    (c.missing.ensures l _) (c.close.ensures l _)

@@ -1,10 +1,6 @@
 -- `switch_heads::band_heads` meets its contract. The invariant is `BandFill`: heads and numbers of the bands passed.
-use Prim.Native.Nat.{◌-◌}
 use Rattle.switch_heads.proofs.BandLaws.{BandFill}
 use Rattle.switch_heads.proofs.band_heads.Given as goal
 
 abbrev pub invariant-loop-i : goal.invariant-loop-i
 invariant-loop-i l = BandFill l.initial.flat l.n l.flat l.heads l.i
-
-abbrev pub decreases-loop-i : goal.decreases-loop-i
-decreases-loop-i l = l.n - l.i

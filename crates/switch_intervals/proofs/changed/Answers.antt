@@ -1,34 +1,33 @@
 -- `switch_intervals::changed` meets its contract: one law for each way through the code.
+use mathlib.Core.Path.{sym, ◌∙◌}
+use borrow.Author.Tests.{eqb-true, eqb-false}
 use native.Mathlib.Omega.{arith}
 use Rattle.switch_intervals.proofs.JoiningLaws.{closed-most, looks, changed-stayed, changed-ended, changed-opened}
-use borrow.Author.Rules.{rules}
 use Rattle.switch_intervals.proofs.changed.Goals as goal
 
-pub returns-then-band-i : goal.returns-then-band-i
-returns-then-band-i c =
+pub returns-then-o-i : goal.returns-then-o-i
+returns-then-o-i c =
     let known =
-    looks _ _ _ _ _ _ _ _ _ (search rules) (search rules)
-    (c.list_of_piece-m.ensures.upper_bound, c.list_of_piece-m.ensures.listed) c.hash-h.ensures c.goes_on.ensures in
-    let both = changed-stayed _ _ _ _ _ _ _ _ known c.if-band-i.true in
+    looks _ _ _ _ _ _ _ (c.piece_list-list.ensures.upper_bound, c.piece_list-list.ensures.list) c.hash-h.ensures c.goes_on.ensures in
+    let both = changed-stayed _ _ _ _ _ _ _ known c.if-o-i.true in
     record { bands_bound = both.0; band_bound = both.1.0; fact = both.1.1 }
 
-pub returns-then-m-eq0 : goal.returns-then-m-eq0
-returns-then-m-eq0 c =
+pub returns-then-is_empty : goal.returns-then-is_empty
+returns-then-is_empty c =
     let known =
-    looks _ _ _ _ _ _ _ _ _ (search rules) (search rules)
-    (c.list_of_piece-m.ensures.upper_bound, c.list_of_piece-m.ensures.listed) c.hash-h.ensures c.goes_on.ensures in
-    let both = changed-ended _ _ _ _ _ _ _ _ known _ _ c.if-band-i.false (c.closed-k.ensures.value, c.closed-k.ensures.flat_after) c.if-m-eq0.true in
+    looks _ _ _ _ _ _ _ (c.piece_list-list.ensures.upper_bound, c.piece_list-list.ensures.list) c.hash-h.ensures c.goes_on.ensures in
+    let both = changed-ended _ _ _ _ _ _ _ known _ _ c.if-o-i.false (c.closed-bands.ensures.value, c.closed-bands.ensures.flat_after)
+    (eqb-true _ _ (sym c.is_empty.ensures ∙ c.if-is_empty.true)) in
     record { bands_bound = both.0; band_bound = both.1.0; fact = both.1.1 }
 
-pub overflow_add-k : goal.overflow_add-k
-overflow_add-k c =
-    omega (arith, closed-most _ _ _ _ c.closed-k.ensures.value c.requires.n_le_max_bands)
+pub overflow_add-bands : goal.overflow_add-bands
+overflow_add-bands c =
+    omega (arith, closed-most _ _ _ _ c.closed-bands.ensures.value c.requires.n_le_max_bands)
 
 pub returns : goal.returns
 returns c =
     let known =
-    looks _ _ _ _ _ _ _ _ _ (search rules) (search rules)
-    (c.list_of_piece-m.ensures.upper_bound, c.list_of_piece-m.ensures.listed) c.hash-h.ensures c.goes_on.ensures in
-    let both = changed-opened _ _ _ _ _ _ _ _ known _ _ c.if-band-i.false (c.closed-k.ensures.value, c.closed-k.ensures.flat_after) _
-    c.if-m-eq0.false c.put.ensures in
+    looks _ _ _ _ _ _ _ (c.piece_list-list.ensures.upper_bound, c.piece_list-list.ensures.list) c.hash-h.ensures c.goes_on.ensures in
+    let both = changed-opened _ _ _ _ _ _ _ known _ _ c.if-o-i.false (c.closed-bands.ensures.value, c.closed-bands.ensures.flat_after) _
+    (eqb-false _ _ (sym c.is_empty.ensures ∙ c.if-is_empty.false)) c.put.ensures in
     record { bands_bound = both.0; band_bound = both.1.0; fact = both.1.1 }

@@ -2,12 +2,12 @@
 use Rattle.switch_intervals.proofs.JoiningLaws.{closed-made, closed-kept}
 use Rattle.switch_intervals.proofs.closed.Goals as goal
 
-pub returns-then-band-i : goal.returns-then-band-i
-returns-then-band-i c =
-    let both = closed-made _ _ _ _ _ _ c.if-band-i.true c.put.ensures c.put-then-band-i.ensures in
+pub returns-then-o-i : goal.returns-then-o-i
+returns-then-o-i c =
+    let both = closed-made _ _ _ _ _ _ c.if-o-i.true c.put.ensures c.put-then-o-i.ensures in
     record { value = both.0; flat_after = both.1 }
 
 pub returns : goal.returns
 returns c =
-    let both = closed-kept _ _ _ _ c.if-band-i.false in
+    let both = closed-kept _ _ _ _ c.if-o-i.false in
     record { value = both.0; flat_after = both.1 }

@@ -2,5 +2,5 @@
 use Rattle.switch_intervals.proofs.FirstLaws.{cuts-by}
 use Rattle.switch_intervals.proofs.cuts_of.Goals as goal
 
-pub returns : goal.returns
-returns c = λ f e. cuts-by _ _ _ _ _ _ _ (c.points.ensures f e) c.sorted.ensures c.distinct.ensures
+pub returns-clause-cuts : goal.returns-clause-cuts
+returns-clause-cuts c = λ f e. cuts-by _ _ _ _ _ (c.put_points.ensures f e) c.sorted.ensures c.distinct.ensures.numbers

@@ -4,7 +4,7 @@ use Rattle.switch_intervals.proofs.SearchLaws.{Finding}
 use Rattle.switch_intervals.proofs.place_of.Given as goal
 
 abbrev pub invariant-loop-lo : goal.invariant-loop-lo
-invariant-loop-lo l = Finding l.at l.n l.v l.lo l.hi
+invariant-loop-lo l = Finding l.cuts l.v l.lo l.hi
 
 abbrev pub decreases-loop-lo : goal.decreases-loop-lo
 decreases-loop-lo l = l.hi - l.lo

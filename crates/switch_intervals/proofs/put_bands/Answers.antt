@@ -3,6 +3,7 @@
 use native.Mathlib.Omega.{arith}
 use Rattle.switch_intervals.proofs.JoiningLaws.{closed-most, joins-start, joins-step, joins-still, joins-end}
 use Rattle.switch_intervals.proofs.put_bands.Goals as goal
+use Rattle.switch_intervals.proofs.put_bands.Goals.{then-get-eq1, else-get-eq1}
 
 pub loop-i-init : goal.loop-i-init
 loop-i-init c = joins-start _ _ _ c.requires
@@ -12,14 +13,17 @@ changed-o-requires c =
     let a = c.loop-i.invariant in
     record { n_le_max_bands = omega (arith, a.few, a.within); band_le_max_bands = omega (arith, a.start, a.within); i_lt_max_bands = omega (arith, c.loop-i-test.true) }
 
-pub loop-i-preserved-then-get-eq1 : goal.loop-i-preserved-then-get-eq1
-loop-i-preserved-then-get-eq1 c =
-    joins-step _ _ _ _ _ _ _ c.loop-i.invariant _ _ _ c.loop-i-test.true c.changed-o.auto.flat (c.changed-o.ensures.bands_bound, (c.changed-o.ensures.band_bound, c.changed-o.ensures.fact))
-
 pub loop-i-preserved : goal.loop-i-preserved
 loop-i-preserved c =
-    joins-still _ _ _ _ _ _ _ c.loop-i.invariant _ _ c.loop-i-test.true c.get.ensures
-    c.if-get-eq1.false c.unchanged-band.ensures
+    elim c.if-get-eq1.branch [
+      | then-get-eq1 w ↦
+          rw (w.flat-is, w.o-is)
+          (joins-step _ _ _ _ _ _ _ c.loop-i.invariant _ _ _ c.loop-i-test.true w.changed-o.auto.flat
+          (w.changed-o.ensures.bands_bound, (w.changed-o.ensures.band_bound, w.changed-o.ensures.fact)))
+      | else-get-eq1 w ↦
+          rw (w.flat-is, w.o-is)
+          (joins-still _ _ _ _ _ _ _ c.loop-i.invariant _ _ c.loop-i-test.true c.get.ensures w.if-get-eq1.false w.unchanged.ensures)
+    ]
 
 pub closed-k-requires : goal.closed-k-requires
 closed-k-requires c =

@@ -1,11 +1,7 @@
 -- `switch_intervals::put_bands` meets its contract. The invariant is `Joins`: the bands that end before the
 -- piece are there, with their hashes.
-use Prim.Native.Nat.{◌-◌}
 use Rattle.switch_intervals.proofs.JoiningLaws.{Joins}
 use Rattle.switch_intervals.proofs.put_bands.Given as goal
 
 abbrev pub invariant-loop-i : goal.invariant-loop-i
-invariant-loop-i l = Joins l.initial.flat l.pieces l.marks l.flat l.n l.band l.i
-
-abbrev pub decreases-loop-i : goal.decreases-loop-i
-decreases-loop-i l = l.pieces - l.i
+invariant-loop-i l = Joins l.initial.flat l.pieces l.marks l.flat l.o.bands l.o.band l.i

@@ -1,27 +1,19 @@
 -- `switch_intervals::put_spans` meets its contract. The invariant is `Spanning`: the ranges passed stand in the table, and are marked.
 use native.Mathlib.Omega.{arith}
-use Rattle.switch_split.proofs.HeldLaws.{held-length}
+use Rattle.switch_split.proofs.HeldLaws.{excesses-length}
 use Rattle.switch_intervals.proofs.SpanLaws.{spanning-start, spanning-on, spanning-end}
 use Rattle.switch_intervals.proofs.put_spans.Goals as goal
 
 pub loop-i-init : goal.loop-i-init
 loop-i-init c = spanning-start _ _ _ _ _ _
 
-pub put_span-requires : goal.put_span-requires
-put_span-requires c =
-    record { m_in_bounds = c.requires.m_in_bounds; m_le_max_cuts = c.requires.m_le_max_cuts; i_lt_max_entries = omega (arith, c.requires.n_le_max_entries) }
-
-pub overflow_add-i : goal.overflow_add-i
-overflow_add-i c =
-    omega (arith, c.requires.n_le_max_entries)
-
 pub loop-i-preserved : goal.loop-i-preserved
 loop-i-preserved c =
-    let long = held-length c.args.at.now c.args.m c.requires.m_in_bounds in
-    spanning-on _ _ _ _ _ _ _ _ _ _ (omega (arith, long, c.requires.m_le_max_cuts)) c.loop-i.invariant _ _ _ c.loop-i-test.true
+    let long = excesses-length c.args.cuts.now in
+    spanning-on _ _ _ _ _ _ _ _ _ _ (omega (arith, long, c.requires.few_cuts)) c.loop-i.invariant _ _ _ c.loop-i-test.true
     c.requires.n_le_max_entries c.put_span.auto.flat c.put_span.auto.marks c.put_span.ensures c.next-r.ensures
 
 pub returns : goal.returns
 returns c =
-    let long = held-length c.args.at.now c.args.m c.requires.m_in_bounds in
-    spanning-end _ _ _ _ _ _ _ _ _ _ (omega (arith, long, c.requires.m_le_max_cuts)) c.loop-i.invariant c.loop-i-test.false
+    let long = excesses-length c.args.cuts.now in
+    spanning-end _ _ _ _ _ _ _ _ _ _ (omega (arith, long, c.requires.few_cuts)) c.loop-i.invariant c.loop-i-test.false

@@ -10,10 +10,6 @@ use Rattle.switch_lists.proofs.list_of_case.Goals as goal
 pub loop-i-init : goal.loop-i-init
 loop-i-init c = reading-start _ _ _ _ _ (omega (arith, c.ref_count-m.ensures))
 
-pub overflow_add-i : goal.overflow_add-i
-overflow_add-i c =
-    omega (arith, c.loop-i.invariant.room)
-
 pub loop-i-preserved : goal.loop-i-preserved
 loop-i-preserved c =
     reading-on _ _ _ _ _ _ _ _ c.loop-i.invariant _ _ _ c.loop-i-test.true c.field_a.ensures

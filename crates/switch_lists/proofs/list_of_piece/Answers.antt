@@ -3,6 +3,7 @@
 use native.Mathlib.Omega.{arith}
 use Rattle.switch_lists.proofs.SpanLaws.{listing_start, listing-yes, listing-no, listing-end}
 use Rattle.switch_lists.proofs.list_of_piece.Goals as goal
+use Rattle.switch_lists.proofs.list_of_piece.Goals.{then-get-p, else-get-p}
 
 pub overflow_cast-get : goal.overflow_cast-get
 overflow_cast-get c = omega (arith, c.get.type_inv)
@@ -10,37 +11,22 @@ overflow_cast-get c = omega (arith, c.get.type_inv)
 pub loop-i-init : goal.loop-i-init
 loop-i-init c = listing_start _ _ _ _ (omega (arith, c.capped-n.ensures))
 
-pub overflow_add-i : goal.overflow_add-i
-overflow_add-i c = omega (arith, c.loop-i.invariant.room)
-
-pub overflow_add-i-in-loop-i : goal.overflow_add-i-in-loop-i
-overflow_add-i-in-loop-i c = omega (arith, c.loop-i.invariant.room)
-
-pub overflow_add-i-then-get-p : goal.overflow_add-i-then-get-p
-overflow_add-i-then-get-p c =
-    omega (arith, c.loop-i.invariant.room)
-
 pub overflow_add-k : goal.overflow_add-k
 overflow_add-k c =
     omega (arith, c.loop-i.invariant.room, c.loop-i.invariant.few)
 
-pub overflow_add-i-then-get-p-2 : goal.overflow_add-i-then-get-p-2
-overflow_add-i-then-get-p-2 c =
-    omega (arith, c.loop-i.invariant.room)
-
-pub loop-i-preserved-then-get-p : goal.loop-i-preserved-then-get-p
-loop-i-preserved-then-get-p c =
-    listing-yes _ _ _ _ _ _ _ c.loop-i.invariant _ _ _ _ c.loop-i-test.true c.get-in-loop-i.ensures
-    c.get-in-loop-i-2.ensures
-    c.get-then-get-p.ensures c.put.ensures c.if-get-p.true
-
-pub overflow_add-i-else-get-p : goal.overflow_add-i-else-get-p
-overflow_add-i-else-get-p c = omega (arith, c.loop-i.invariant.room)
-
 pub loop-i-preserved : goal.loop-i-preserved
 loop-i-preserved c =
-    listing-no _ _ _ _ _ _ _ c.loop-i.invariant _ _ c.loop-i-test.true c.get-in-loop-i.ensures c.get-in-loop-i-2.ensures
-    c.if-get-p.false
+    elim c.if-get-p.branch [
+      | then-get-p w ↦
+          rw (w.out-is, w.k-is)
+          (listing-yes _ _ _ _ _ _ _ c.loop-i.invariant _ _ _ _ c.loop-i-test.true c.get-in-loop-i.ensures c.get-in-loop-i-2.ensures
+          w.get-then-get-p.ensures w.put.ensures w.if-get-p.true)
+      | else-get-p w ↦
+          rw (w.out-is, w.k-is)
+          (listing-no _ _ _ _ _ _ _ c.loop-i.invariant _ _ c.loop-i-test.true c.get-in-loop-i.ensures c.get-in-loop-i-2.ensures
+          w.if-get-p.false)
+    ]
 
 pub shape_of-out : goal.shape_of-out
 shape_of-out c = c.loop-i.invariant.size

@@ -1,11 +1,8 @@
--- `switch_lists::same_case` meets its contract: the list of the Case is made in an array of its own, and compared.
-use native.Mathlib.Omega.{arith}
-use Rattle.switch_lists.proofs.FrontLaws.{same-listed}
+-- `switch_lists::same_case` meets its contract: the list is made in a room of its own, and compared.
+use mathlib.Core.Path.{ap, ◌∙◌}
+use Rattle.text.specs.Same.{same}
+use Rattle.switch_lists.proofs.EqualLaws.{pointwise-same}
 use Rattle.switch_lists.proofs.same_case.Goals as goal
 
 pub returns : goal.returns
-returns c =
-    let a = c.args in
-    let made = c.list_of_case-m in
-    λ there. same-listed _ a.a.now _ a.n _ _ (c.same_front.ensures there) (omega (arith, made.auto.out, made.ensures.upper_bound))
-    (made.ensures.listed (omega arith))
+returns c = c.eq.ensures ∙ pointwise-same _ _ ∙ ap (same c.args.list.now) c.case_list.ensures.list

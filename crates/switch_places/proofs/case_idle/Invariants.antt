@@ -1,10 +1,6 @@
 -- `switch_places::case_idle` meets its contract: what is left of the lists gives what all do.
-use Prim.Native.Nat.{◌-◌}
 use Rattle.switch_places.proofs.IdleLaws.{Idling}
 use Rattle.switch_places.proofs.case_idle.Given as goal
 
 abbrev pub invariant-loop-q : goal.invariant-loop-q
 invariant-loop-q l = Idling l.flat l.idle l.q
-
-abbrev pub decreases-loop-q : goal.decreases-loop-q
-decreases-loop-q l = l.n - l.q

@@ -13,6 +13,7 @@ use Rattle.switch_places.proofs.KeptLaws.{tables-kept}
 use Rattle.switch_places.proofs.CountLaws.{default-in, most, second-most, head_of, exits_of, second-in, second-by, wanted-by}
 use Rattle.switch_places.proofs.CountLaws.{bodies-of}
 use Rattle.switch_places.proofs.CountLaws.{counted}
+use Rattle.switch_places.proofs.SmallLaws.{coded-of}
 use Rattle.switch_places.proofs.count.Goals as goal
 
 pub bodies-all-requires : goal.bodies-all-requires
@@ -32,7 +33,8 @@ returns c l₀ ok k t₀ =
     let n : c.capped-n.result ≡ block_count s =
     omega (arith, c.capped-n.ensures, c.field_a.ensures, t₀.few_blocks) in
     let few : c.capped-n.result ≤ max_entries = omega (arith, n, t₀.few_blocks) in
-    let d-is = c.field_c-def.ensures in
+    let d-is = c.field_c-number.ensures in
+    let def-is = coded-of _ _ c.checked_sub-def.ensures ∙ d-is in
     let l₂ = c.case_chains-cases.auto.flat ∙ c.want_default.auto.flat ∙ l₀ in
     let l₃ = c.second-switched.auto.flat ∙ l₂ in
     let l₄ = c.band_chains-bands.auto.flat ∙ l₃ in
@@ -53,6 +55,6 @@ returns c l₀ ok k t₀ =
     let wanted = wanted-by n few d-is p₁.0 p₂.0 (second-in p₃) p₄.0 in
     let p₅ =
     bodies-of n t₄ (c.bodies-all.ensures (case_lists s ++ split_lists (entries s)) (default_block s) l₄ few m₄.0 m₄.1) wanted in
-    counted (default-in s ok k) d-is head p₂.0 p₃ l₂ p₄ wanted p₅ (tables-kept t₄ p₅.1 (omega arith)) c.finish.ensures.within
+    counted (default-in s ok k) def-is head p₂.0 p₃ l₂ p₄ wanted p₅ (tables-kept t₄ p₅.1 (omega arith)) c.finish.ensures.within
     (c.finish.ensures.finished (c.bodies-all.auto.flat ∙ l₄)) c.closing.ensures c.instructions-2.ensures
     c.plus.ensures

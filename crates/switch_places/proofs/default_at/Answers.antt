@@ -1,10 +1,10 @@
 -- `switch_places::default_at` meets its contract.
-use mathlib.Core.Path.{◌∙◌}
-use Rattle.switch_places.proofs.SmallLaws.{none, some}
+use mathlib.Core.Path.{refl, ◌∙◌}
+use Rattle.switch_places.proofs.SmallLaws.{none, default-some}
 use Rattle.switch_places.proofs.default_at.Goals as goal
 
-pub returns-then-def-eq0 : goal.returns-then-def-eq0
-returns-then-def-eq0 c l = c.word.ensures l ∙ none _ _ _ c.if-def-eq0.true
+pub returns-in-None : goal.returns-in-None
+returns-in-None c l = rw c.in-None.is (c.word.ensures l ∙ none 0 _ _ refl)
 
-pub returns : goal.returns
-returns c l = c.get.ensures ∙ some _ _ _ c.if-def-eq0.false
+pub returns-in-Some : goal.returns-in-Some
+returns-in-Some c l = rw c.in-Some.is (c.get.ensures ∙ default-some _ _ _)

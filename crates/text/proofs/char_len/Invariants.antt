@@ -10,6 +10,3 @@ use Rattle.text.proofs.char_len.Given as goal
 abbrev pub invariant-loop-k : goal.invariant-loop-k
 invariant-loop-k l =
     (l.k ≤ l.n) × (char_left l.s (l.n - l.k) l.low l.high (l.i + 1 + l.k) (l.n + 1) ≡ char_length (drop l.i l.s))
-
-abbrev pub decreases-loop-k : goal.decreases-loop-k
-decreases-loop-k l = l.n - l.k

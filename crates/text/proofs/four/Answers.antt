@@ -1,8 +1,7 @@
 -- `text::four` meets its contract: the four bytes are there, and stand for the number. Assumes nothing.
-use Rattle.text.proofs.EightLaws.{bytes_of, four-read}
+use Rattle.std.proofs.Common.{◌∙◌}
+use Rattle.text.proofs.EightLaws.{four-le}
 use Rattle.text.proofs.four.Goals as goal
 
 pub returns : goal.returns
-returns c =
-    let s = c.args.s.now in
-    four-read s (bytes_of s c.shared_slice_known-1.given) _ c.from_four.ensures
+returns c = c.from_le_bytes.ensures ∙ four-le c.args.s.now c.args.i

@@ -9,7 +9,7 @@ returns c =
     let t = c.args.b.now in
     ends-four s t (bytes_of s c.shared_slice_known-1.given) (bytes_of t c.shared_slice_known-2-1.given) c.requires.2
     _ (omega arith) (omega arith)
-    c.four.ensures.0
-    c.four-2.ensures.0
-    c.four-3.ensures.0
-    c.four-4.ensures.0
+    c.four.ensures
+    c.four-2.ensures
+    c.four-3.ensures
+    c.four-4.ensures

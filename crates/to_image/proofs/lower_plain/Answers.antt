@@ -1,4 +1,5 @@
 -- `to_image::lower_plain` meets its contract: refused by its counts, or built and ended.
+use Rattle.std.proofs.lemmas.Result.{err_from_is_err_and}
 use Rattle.needs.proofs.CountLaws.{early-told, few-emitted}
 use Rattle.to_image.proofs.AnswerLaws.{refused-early, answered}
 use borrow.Author.Rules.{rules}
@@ -6,16 +7,17 @@ use Rattle.to_image.proofs.lower_plain.Goals as goal
 
 pub overflow_cast-t : goal.overflow_cast-t
 overflow_cast-t c =
-    let few = few-emitted (early-told _ _ _ _ _ c.refusal-k.ensures) c.in-Accepted.is in
+    let few = few-emitted (early-told _ _ _ _ _ c.refusal.ensures) c.in_ok-refusal.was in
     search rules
 
-pub returns-in-Refused : goal.returns-in-Refused
-returns-in-Refused c =
-    λ ok h. refused-early _ _ _ _ _ _ ok (c.plain_counts-t.ensures h) c.node_count.ensures c.refusal-k.ensures _
-    c.in-Refused.is
+pub returns-in_err-refusal : goal.returns-in_err-refusal
+returns-in_err-refusal c =
+    let p = err_from_is_err_and c.from_residual.result c.from_residual.ensures.1 in
+    rw (p.1, p.2) (λ ok h. refused-early _ _ _ _ _ _ ok (c.plain_counts-t.ensures h) c.node_count.ensures c.refusal.ensures _
+    c.in_err-refusal.was)
 
-pub returns-in-Accepted : goal.returns-in-Accepted
-returns-in-Accepted c =
+pub returns : goal.returns
+returns c =
     λ ok h. answered _ _ _ _ _ _ ok (c.plain_counts-t.ensures h) c.node_count.ensures
-    c.refusal-k.ensures c.in-Accepted.is _ _ _ _ _ (λ R. c.build_plain-words.ensures R h) c.ended.ensures.zeroed
+    c.refusal.ensures c.in_ok-refusal.was _ _ _ _ _ (λ R. c.build_plain-words.ensures R h) c.ended.ensures.zeroed
     c.build_plain-words.auto.scratch c.build_plain-words.auto.image c.ended.ensures.value

@@ -5,4 +5,4 @@ use Rattle.write_front.proofs.front_sizes.Goals as goal
 pub returns : goal.returns
 returns c =
     let a = c.args in
-    λ s l xs m h. sizes-held h c.capped.result a.sw a.ca a.ra c.capped.ensures
+    λ s l xs m h. sizes-held h c.min.result a.sw a.ca a.ra c.min.ensures

@@ -7,5 +7,5 @@ use Rattle.write_front.proofs.put_code.Goals as goal
 pub returns : goal.returns
 unfolding code_part
 returns c =
-    λ s m h. puts-next _ _ (code_put h c.put_part-e.ensures)
-    (positions-put h c.positions_at.result c.positions_at.ensures c.put_part.ensures)
+    λ s m h. puts-next _ _ (code_put h c.put_rows-e.ensures)
+    (positions-put h c.positions_at.result c.positions_at.ensures c.put_rows.ensures)

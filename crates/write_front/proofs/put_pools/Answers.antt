@@ -8,10 +8,10 @@ pub returns : goal.returns
 unfolding pools_part
 returns c =
     λ m h.
-    let one = consts-put h c.consts_at.result c.consts_at.ensures c.put_consts-e.ensures in
+    let one = consts-put h c.consts_at.result c.consts_at.ensures c.put_rows-e.ensures in
     let two = puts-next _ _ one
-    (names-put h c.names_at.result c.names_at.ensures c.put_names-f.ensures) in
+    (names-put h c.names_at.result c.names_at.ensures c.put_rows-f.ensures) in
     let three = puts-next _ _ two
-    (tokens-put h c.tokens_at.result c.tokens_at.ensures c.put_tokens-g.ensures) in
+    (tokens-put h c.tokens_at.result c.tokens_at.ensures c.put_rows-g.ensures) in
     puts-next _ _ three
-    (residuals-put h c.residuals_at.result c.residuals_at.ensures c.put_part.ensures)
+    (residuals-put h c.residuals_at.result c.residuals_at.ensures c.put_rows.ensures)

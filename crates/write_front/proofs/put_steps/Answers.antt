@@ -30,16 +30,9 @@ pub offset_bounds-image-at : goal.offset_bounds-image-at
 offset_bounds-image-at c =
     place-fits _ _ _ (c.beyond-2.ensures.within c.if-beyond-2.false) c.well_formed.1.1.1.1.0.1
 
-pub slice_bounds-steps-end : goal.slice_bounds-steps-end
-slice_bounds-steps-end c = c.beyond-2.ensures.within c.if-beyond-2.false
-
 pub offset_bounds-scratch-b : goal.offset_bounds-scratch-b
 offset_bounds-scratch-b c =
     place-fits _ _ _ (c.beyond.ensures.within c.if-beyond.false) c.well_formed.1.1.0.1
-
-pub slice_bounds-steps-end-2 : goal.slice_bounds-steps-end-2
-slice_bounds-steps-end-2 c =
-    c.beyond.ensures.within c.if-beyond.false
 
 pub returns : goal.returns
 returns c =

@@ -8,7 +8,7 @@ use Rattle.write_sections.proofs.consts.Goals as goal
 
 pub loop-i-init : goal.loop-i-init
 unfolding section
-loop-i-init c = (omega arith, refl, written_none c.args.out.now)
+loop-i-init c = (refl, written_none c.args.out.now)
 
 pub loop-i-preserved : goal.loop-i-preserved
 loop-i-preserved c =
@@ -16,19 +16,18 @@ loop-i-preserved c =
     let w =
     const-next a.sheet.now a.ks.now c.loop-i.i
     c.requires _ _ _
-    c.loop-i-test.true
+    (omega arith)
     c.kind.ensures c.field_a.ensures
-    c.field_b.ensures c.put_three.ensures
-    c.loop-i.invariant.2 in (
-      omega arith,
-      c.put_three.auto.out ∙ c.loop-i.invariant.1,
+    c.field_b.ensures c.put.ensures
+    c.loop-i.invariant.1 in (
+      c.put.auto.out ∙ c.loop-i.invariant.0,
       w,
     )
 
 pub shape_of-out : goal.shape_of-out
-shape_of-out c = c.loop-i.invariant.1
+shape_of-out c = c.loop-i.invariant.0
 
 pub returns : goal.returns
 returns c =
     const-end c.args.sheet.now c.args.ks.now
-    c.loop-i.i c.requires c.loop-i-test.false c.loop-i.invariant.2
+    c.loop-i.i c.requires (omega arith) c.loop-i.invariant.1

@@ -7,15 +7,17 @@ use Rattle.write_sections.proofs.root_at.Goals as goal
 pub returns-then-kind-eq-VARIABLE : goal.returns-then-kind-eq-VARIABLE
 returns-then-kind-eq-VARIABLE c =
     let a = c.args in
+    let it = a.names.now in
     λ h.
-    c.root_of.ensures (λ _. c.local_of.ensures h.slots)
-    ∙ root-named a.sheet.now (names_held a.sheet.now a.layout a.n a.scratch.now) a.v c.field_a.ensures
-    (placed c.text_place-name.ensures h)
+    c.root_of.ensures (λ _. c.local_of-local.ensures h.slots)
+    ∙ root-named it.sheet.now (names_held it.sheet.now it.layout it.count it.scratch.now) a.v c.field_a.ensures
+    (placed c.place-name.ensures h)
 
 pub returns : goal.returns
 returns c =
     let a = c.args in
+    let it = a.names.now in
     λ _.
     c.root_of-2.ensures (λ e. absurd (c.if-kind-eq-VARIABLE.false (c.kind.ensures ∙ e)))
-    ∙ root-plain a.sheet.now (names_held a.sheet.now a.layout a.n a.scratch.now) a.v 0 (λ e. c.if-kind-eq-VARIABLE.false
+    ∙ root-plain it.sheet.now (names_held it.sheet.now it.layout it.count it.scratch.now) a.v 0 (λ e. c.if-kind-eq-VARIABLE.false
     (c.kind.ensures ∙ e))

@@ -12,36 +12,40 @@ pub returns-in-Index : goal.returns-in-Index
 unfolding step_rule_from
 returns-in-Index c =
     let a = c.args in
-    let s = a.sheet.now in
-    let ns = names_held s a.layout a.n a.scratch.now in
+    let it = a.names.now in
+    let s = it.sheet.now in
+    let ns = names_held s it.layout it.count it.scratch.now in
     λ p _. step-index s ns a.c a.k 0 0 0 (sym (rule_told p c.in-Index.is)) (c.step_of.ensures p)
 
 pub returns-in-Property : goal.returns-in-Property
 returns-in-Property c =
     let a = c.args in
-    let s = a.sheet.now in
-    let ns = names_held s a.layout a.n a.scratch.now in
+    let it = a.names.now in
+    let s = it.sheet.now in
+    let ns = names_held s it.layout it.count it.scratch.now in
     λ p h.
-    let name = named_by s ns a.c (field_a s) p.with_is c.field_a.ensures (placed c.text_place.ensures h) in
+    let name = named_by s ns a.c (field_a s) p.with_is c.field_a.ensures (placed c.place.ensures h) in
     let getter = named_by s ns a.c (field_b s) p.with_is c.field_b.ensures
-    (placed c.text_place-in-Property.ensures h) in
-    let setter = named_by s ns a.c (field_c s) p.with_is c.field_c.ensures (placed c.text_place-in-Property-2.ensures h) in
+    (placed c.place-in-Property.ensures h) in
+    let setter = named_by s ns a.c (field_c s) p.with_is c.field_c.ensures (placed c.place-in-Property-2.ensures h) in
     step-property s ns a.c a.k _ _ _ name getter setter (c.step_of-in-Property.ensures p)
 
 pub returns-in-Method : goal.returns-in-Method
 unfolding step_rule_from
 returns-in-Method c =
     let a = c.args in
-    let s = a.sheet.now in
-    let ns = names_held s a.layout a.n a.scratch.now in
+    let it = a.names.now in
+    let s = it.sheet.now in
+    let ns = names_held s it.layout it.count it.scratch.now in
     λ p h.
-    let name = named_by s ns a.c (field_a s) p.with_is c.field_a-in-Method.ensures (placed c.text_place-in-Method.ensures h) in
+    let name = named_by s ns a.c (field_a s) p.with_is c.field_a-in-Method.ensures (placed c.place-in-Method.ensures h) in
     step-method s ns a.c a.k _ 0 0 (sym (rule_told p c.in-Method.is)) name (c.step_of-in-Method.ensures p)
 
 pub returns-in-Nothing : goal.returns-in-Nothing
 unfolding step_rule_from
 returns-in-Nothing c =
     let a = c.args in
-    let s = a.sheet.now in
-    let ns = names_held s a.layout a.n a.scratch.now in
+    let it = a.names.now in
+    let s = it.sheet.now in
+    let ns = names_held s it.layout it.count it.scratch.now in
     λ p _. step-none s ns a.c a.k 0 0 0 (sym (rule_told p c.in-Nothing.is)) (c.step_of-in-Nothing.ensures p)

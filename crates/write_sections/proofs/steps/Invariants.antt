@@ -1,6 +1,6 @@
 -- `write_sections::steps` meets its contract. Invariant: the steps of the first i chains are written, and the next stand at `at`. Where the
 -- part has the length of them all, they are within it.
-use Prim.Native.Nat.{◌≤◌, ◌-◌, ◌*◌}
+use Prim.Native.Nat.{◌≤◌, ◌*◌}
 use mathlib.Core.Path.{◌≡◌}
 use lib.ListN.{length, take}
 use Rattle.write_sections.specs.Written.{Written}
@@ -12,8 +12,9 @@ use Rattle.write_sections.proofs.steps.Given as goal
 
 abbrev pub invariant-loop-i : goal.invariant-loop-i
 invariant-loop-i l =
-    (l.i ≤ length l.js) × (l.at ≡ step_width * step_count l.sheet (take l.i l.js)) × (l.at ≤ length l.initial.out) × (length l.out ≡ length l.initial.out) ×
-    (NamesHold l.sheet l.layout l.n l.scratch → length l.initial.out ≡ step_width * step_count l.sheet l.js → Written l.initial.out l.out (all_rows l.sheet (names_held l.sheet l.layout l.n l.scratch) l.js l.i))
-
-abbrev pub decreases-loop-i : goal.decreases-loop-i
-decreases-loop-i l = length l.js - l.i
+    (l.at ≡ step_width * step_count l.names.sheet.now (take l.i l.js)) × (l.at ≤ length l.initial.out)
+    × (length l.out ≡ length l.initial.out) ×
+    (NamesHold l.names.sheet.now l.names.layout l.names.count l.names.scratch.now
+    → length l.initial.out ≡ step_width * step_count l.names.sheet.now l.js
+    → Written l.initial.out l.out
+    (all_rows l.names.sheet.now (names_held l.names.sheet.now l.names.layout l.names.count l.names.scratch.now) l.js l.i))

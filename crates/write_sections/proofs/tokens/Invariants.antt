@@ -1,15 +1,10 @@
 -- `write_sections::tokens` meets its contract. Invariant: the first i words are the tokens of the first i nodes.
-use Prim.Native.Nat.{◌≤◌, ◌-◌}
 use mathlib.Core.Path.{◌≡◌}
 use lib.ListN.{length, take}
 use Rattle.write_sections.specs.Written.{Written}
 use mathlib.Core.List.{map}
 use Rattle.sheet.specs.Node.{field_c}
-use Prim.Native.Nat.{◌≤◌, ◌-◌}
 use Rattle.write_sections.proofs.tokens.Given as goal
 
 abbrev pub invariant-loop-i : goal.invariant-loop-i
-invariant-loop-i l = (l.i ≤ length l.ks) × (length l.out ≡ length l.initial.out) × Written l.initial.out l.out (map (field_c l.sheet) (take l.i l.ks))
-
-abbrev pub decreases-loop-i : goal.decreases-loop-i
-decreases-loop-i l = length l.ks - l.i
+invariant-loop-i l = (length l.out ≡ length l.initial.out) × Written l.initial.out l.out (map (field_c l.sheet) (take l.i l.ks))

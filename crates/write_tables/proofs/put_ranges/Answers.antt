@@ -1,31 +1,11 @@
 -- `write_tables::put_ranges` meets its contract: a part of the image becomes the section.
-use Rattle.write_rows.proofs.RowLaws.{ranges-length}
-use Rattle.write_front.proofs.PutsLaws.{puts-part, puts_none}
-use Prim.Native.Nat.{◌*◌}
+use Rattle.std.proofs.Common.{rules}
 use native.Mathlib.Omega.{arith}
-use Rattle.lowering.specs.Limits.{range_width}
+use Rattle.write_rows.proofs.RowLaws.{ranges-length}
 use Rattle.write_tables.proofs.put_ranges.Goals as goal
 
 pub returns-then-n-gt-RUNS : goal.returns-then-n-gt-RUNS
 returns-then-n-gt-RUNS c = λ h. absurd (omega arith)
 
-pub returns-then-beyond : goal.returns-then-beyond
-returns-then-beyond c =
-    λ h.
-    let a = c.args in
-    puts_none _ _ _ (omega (arith, c.beyond.ensures.beyond c.if-beyond.true, ranges-length a.flat.now a.n))
-
-pub overflow_add-e : goal.overflow_add-e
-overflow_add-e c = omega (arith, c.beyond.ensures.within c.if-beyond.false)
-
-pub offset_bounds-image-at : goal.offset_bounds-image-at
-offset_bounds-image-at c = omega (arith, c.beyond.ensures.within c.if-beyond.false)
-
-pub slice_bounds-range_rows-end : goal.slice_bounds-range_rows-end
-slice_bounds-range_rows-end c = omega (arith, c.beyond.ensures.within c.if-beyond.false)
-
 pub returns : goal.returns
-returns c =
-    λ h.
-    let a = c.args in
-    puts-part _ _ (range_width * a.n) _ _ c.range_rows.ensures (ranges-length a.flat.now a.n)
+returns c = λ h. c.put_section.ensures _ (ranges-length c.args.flat.now c.args.n) (λ b a l w. search rules)

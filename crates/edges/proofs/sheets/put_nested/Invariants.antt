@@ -1,11 +1,7 @@
--- `edges::sheets::put_nested` is safe and ends.
-use Prim.Native.Nat.{◌-◌}
+-- `edges::sheets::put_nested` is safe.
 use mathlib.Core.Path.{◌≡◌}
 use lib.ListN.{length}
 use Rattle.edges.proofs.sheets.put_nested.Given as goal
 
 abbrev pub invariant-loop-n : goal.invariant-loop-n
 invariant-loop-n l = length l.sheet ≡ length l.initial.sheet
-
-abbrev pub decreases-loop-n : goal.decreases-loop-n
-decreases-loop-n l = l.last - l.n

@@ -1,31 +1,22 @@
 -- `expr_count::links::reach` meets its contract. Invariant: how far the chain comes with the links passed and with
 -- those left is how far it comes.
-use Rattle.expr_count.proofs.AnswerLaws.{reach-begins, reach-goes, reach-stops, reach-ends}
+use mathlib.Core.Path.{ap, ◌∙◌}
+use Rattle.expr_rules.specs.Links.{links_left}
+use Rattle.expr_rules.proofs.LinksLaws.{links-begin, links-turn, links-over}
+use Rattle.expr_count.specs.Link.{reach_number}
+use Rattle.expr_count.proofs.AnswerLaws.{reach-begins, reach-goes, reach-min, reach-ends}
 use Rattle.expr_count.proofs.links.reach.Goals as goal
 
-pub loop-left-init : goal.loop-left-init
-loop-left-init c = let a = c.args in reach-begins a.sheet.now a.j
+pub loop-p-init : goal.loop-p-init
+unfolding reach_number
+loop-p-init c = reach-begins (links-begin (ap links_left c.into_iter-p-iterator.ensures.into_iter_gives ∙ c.links_of-p-items.ensures))
 
-pub loop-left-preserved : goal.loop-left-preserved
-loop-left-preserved c =
-    let l = c.loop-left in
-    let a = c.args in
-    let says = c.read_link-p.ensures in
-    reach-goes a.sheet.now a.j l.least l.left l.c l.invariant c.loop-left-test.true
-    (c.link_with.ensures l.c says) c.grade.ensures c.lesser-least.ensures says.on_is
-    c.if-p.true says.rest_is
-
-pub returns-else-p : goal.returns-else-p
-returns-else-p c =
-    let l = c.loop-left in
-    let a = c.args in
-    let says = c.read_link-p.ensures in
-    reach-stops a.sheet.now a.j l.least l.left l.c l.invariant c.loop-left-test.true
-    (c.link_with.ensures l.c says) c.grade.ensures c.lesser-least.ensures says.on_is
-    c.if-p.false
+pub loop-p-preserved : goal.loop-p-preserved
+loop-p-preserved c =
+    let r = c.loop-p.invariant in
+    let u = links-turn c.next.new.self r.left c.in-Some.ensures.steps in
+    let lesser = ap reach_number c.min-least.ensures ∙ reach-min c.loop-p.least c.grade.result in
+    reach-goes r u (c.link_with.ensures _ u.says) c.grade.ensures lesser
 
 pub returns : goal.returns
-returns c =
-    let a = c.args in
-    let l = c.loop-left in
-    reach-ends a.sheet.now a.j l.least l.left l.c l.invariant c.loop-left-test.false
+returns c = reach-ends c.loop-p.invariant (links-over c.loop-p.p-iterator c.in-None.ensures.steps.0)

@@ -1,27 +1,19 @@
--- `expr_count::locals::receiver_by` meets its contract: the test is the definition's.
-use mathlib.Core.Path.{sym, ap, ap₂, ◌∙◌}
-use mathlib.Core.Bool.{◌&&◌}
-use lib.Dec.{eqb, leb}
+-- `expr_count::locals::receiver_by` meets its contract: by the receiver that the call has.
+use mathlib.Core.Path.{sym, ap, ◌∙◌}
 use Rattle.expr_rules.specs.Answers.{first_of}
-use Rattle.expr_count.specs.Locals.{answer, first_by}
-use Rattle.expr_count.proofs.LocalLaws.{receiver-first, receiver-none}
+use Rattle.expr_count.specs.Locals.{answer}
+use Rattle.expr_count.proofs.LocalLaws.{receiver-some, receiver-nothing}
 use Rattle.expr_count.proofs.locals.receiver_by.Goals as goal
 
-pub returns-then-c-b : goal.returns-then-c-b
-returns-then-c-b c =
+pub returns-in-Some : goal.returns-in-Some
+returns-in-Some c =
     let a = c.args in
     let s = a.sheet.now in
-    let here = answer a.told.now s in
-    let plain = ap₂ (λ x y. eqb x 0 && eqb y 0) c.field_c-c.ensures c.field_b-b.ensures in
-    let test-is = ap₂ ◌&&◌ plain (ap (leb 1) c.count-n.ensures) in
     c.first_by.ensures
-    ∙ ap (λ v. first_of (first_by here s v)) c.child.ensures
-    ∙ ap first_of (sym (receiver-first here s a.j (sym test-is ∙ c.if-c-b.true)))
+    ∙ ap first_of (sym (receiver-some (answer a.told.now s) s a.j _ (sym c.receiver_node.ensures ∙ c.in-Some.is)))
 
-pub returns : goal.returns
-returns c =
+pub returns-in-None : goal.returns-in-None
+returns-in-None c =
     let a = c.args in
     let s = a.sheet.now in
-    let plain = ap₂ (λ x y. eqb x 0 && eqb y 0) c.field_c-c.ensures c.field_b-b.ensures in
-    let test-is = ap₂ ◌&&◌ plain (ap (leb 1) c.count-n.ensures) in
-    receiver-none (answer a.told.now s) s a.j (sym test-is ∙ c.if-c-b.false)
+    receiver-nothing (answer a.told.now s) s a.j (sym c.receiver_node.ensures ∙ c.in-None.is)

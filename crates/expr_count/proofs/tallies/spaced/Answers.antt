@@ -10,10 +10,10 @@ most : (a b : ℕ) → a ≤ 4294967295 → b ≤ 4294967295 → a * b ≤ 18446
 most a b h k = omega (arith, mul-le-mul_right b h)
 
 pub overflow_mul-k : goal.overflow_mul-k
-overflow_mul-k c = let a = c.args in omega (arith, most a.gap a.m (omega arith) (omega arith))
+overflow_mul-k c = omega (arith, most c.from-2.result c.from-3.result (omega arith) (omega arith))
 
 pub overflow_add-k : goal.overflow_add-k
-overflow_add-k c = let a = c.args in omega (arith, most a.gap a.m (omega arith) (omega arith))
+overflow_add-k c = omega (arith, most c.from-2.result c.from-3.result (omega arith) (omega arith))
 
 pub returns : goal.returns
 unfolding instructions

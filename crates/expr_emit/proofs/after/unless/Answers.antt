@@ -4,5 +4,5 @@ use Rattle.expr_emit.proofs.after.unless.Goals as goal
 
 pub returns : goal.returns
 returns c =
-    λ l table.
-    λ s i. unless-does _ i _ (c.emit.ensures l table s tt) (c.emit-2.ensures l table s tt)
+    λ l.
+    λ s i. unless-does _ i _ (c.emit.ensures l s tt) (c.emit-2.ensures l s tt)

@@ -5,10 +5,10 @@ use Rattle.expr_emit.proofs.calls.call_as.Goals as goal
 
 pub returns : goal.returns
 returns c =
-    λ l table.
+    λ l.
     λ p n b v.
     let named = c.add_name-name.ensures l in
     let few = subst (λ (m : ℕ). m < 256) (sym c.count.ensures) n in
     call-as-does _ _ _ _ _ p c.count.ensures c.position.ensures (λ a h. named.1 a (lit< tt) v h)
     (named.0 (lit< tt) v)
-    (c.emit.ensures l table _ (few, b))
+    (c.emit.ensures l _ (few, b))

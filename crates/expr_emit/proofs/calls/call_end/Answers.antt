@@ -5,11 +5,11 @@ use Rattle.expr_emit.proofs.calls.call_end.Goals as goal
 
 pub returns-then-stores_token : goal.returns-then-stores_token
 returns-then-stores_token c =
-    λ l table.
-    call-end-token _ (sym c.stores_token.ensures ∙ c.if-stores_token.true) (c.call_token.ensures l table)
+    λ l.
+    call-end-token _ (sym c.stores_token.ensures ∙ c.if-stores_token.true) (c.call_token.ensures l)
 
 pub returns-else-stores_token : goal.returns-else-stores_token
 returns-else-stores_token c =
-    λ l table.
+    λ l.
     call-end-plain _ _ (sym c.stores_token.ensures ∙ c.if-stores_token.false) c.field_b.ensures
-    (c.call_as.ensures l table)
+    (c.call_as.ensures l)

@@ -5,10 +5,10 @@ use Rattle.expr_emit.proofs.calls.call_ref.Goals as goal
 
 pub returns : goal.returns
 returns c =
-    λ l table.
+    λ l.
     λ p n v.
     let named = c.add_name-name.ensures l in
     let few = subst (λ (m : ℕ). m < 256) (sym c.count.ensures) n in
     call-ref-does _ _ _ _ p c.count.ensures c.position.ensures (λ a h. named.1 a (lit< tt) v h)
     (named.0 (lit< tt) v)
-    (c.emit.ensures l table _ few)
+    (c.emit.ensures l _ few)

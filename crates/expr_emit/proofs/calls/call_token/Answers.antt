@@ -5,7 +5,7 @@ use Rattle.expr_emit.proofs.calls.call_token.Goals as goal
 
 pub returns : goal.returns
 returns c =
-    λ l table.
+    λ l.
     λ p n v t. call-token-does _ _ c.one_more.ensures (c.add_token-at.ensures l).place
     ((c.add_token-at.ensures l).does t)
-    (c.call_as.ensures l table p n (omega arith) v)
+    (c.call_as.ensures l p n (omega arith) v)

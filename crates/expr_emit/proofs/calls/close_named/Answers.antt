@@ -6,9 +6,9 @@ use Rattle.expr_emit.proofs.calls.close_named.Goals as goal
 
 pub returns : goal.returns
 returns c =
-    λ l table.
+    λ l.
     let s = c.args.sheet.now in
     let others = c.one_less.ensures ∙ ap (λ (n : ℕ). n - 1) c.count.ensures in
     let at-pos = c.position.ensures ∙ ap (position s) c.child.ensures in
-    λ p n v. close-named-does _ _ _ _ others at-pos (c.emit.ensures l table _ tt) (c.rotate.ensures l table _)
-    (c.call_ref.ensures l table p n v)
+    λ p n v. close-named-does _ _ _ _ others at-pos (c.emit.ensures l _ tt) (c.rotate.ensures l _)
+    (c.call_ref.ensures l p n v)

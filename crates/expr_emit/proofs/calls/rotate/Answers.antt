@@ -4,10 +4,10 @@ use Rattle.expr_emit.proofs.CallDoes.{rotate-none, rotate-some}
 use Rattle.expr_emit.proofs.calls.rotate.Goals as goal
 
 pub returns-then-others-eq0 : goal.returns-then-others-eq0
-returns-then-others-eq0 c = λ l table.
+returns-then-others-eq0 c = λ l.
     λ s. rotate-none _ c.if-others-eq0.true
 
 pub returns : goal.returns
 returns c =
-    λ l table.
-    λ s. rotate-some _ (omega arith) (c.emit.ensures l table s tt)
+    λ l.
+    λ s. rotate-some _ (omega arith) (c.emit.ensures l s tt)

@@ -3,10 +3,10 @@ use Rattle.std.proofs.Common.{sym, ap}
 use Rattle.expr_emit.specs.Ways.{way_found}
 use Rattle.expr_emit.proofs.calls.way_variable.Goals as goal
 
-pub returns-in-At : goal.returns-in-At
+pub returns-in-Some : goal.returns-in-Some
 unfolding way_found
-returns-in-At c = sym (ap way_found c.in-At.is)
+returns-in-Some c = sym (ap way_found c.in-Some.is)
 
-pub returns-in-Nothing : goal.returns-in-Nothing
+pub returns-in-None : goal.returns-in-None
 unfolding way_found
-returns-in-Nothing c = sym (ap way_found c.in-Nothing.is)
+returns-in-None c = sym (ap way_found c.in-None.is)

@@ -3,4 +3,4 @@ use Rattle.expr_emit.proofs.EndLaws.{ends_at}
 use Rattle.expr_emit.proofs.ends.end_of.Goals as goal
 
 pub returns : goal.returns
-returns c = ends_at _ _ c.layout_of.ensures c.behind.ensures
+returns c = ends_at _ _ c.layout.ensures c.behind.ensures

@@ -4,6 +4,6 @@ use Rattle.expr_emit.proofs.leaves.constant.Goals as goal
 
 pub returns : goal.returns
 returns c =
-    λ l table.
+    λ l.
     λ v. constant-does _ (c.add_const-at.ensures l).place ((c.add_const-at.ensures l).does v)
-    (c.emit.ensures l table _ tt)
+    (c.emit.ensures l _ tt)

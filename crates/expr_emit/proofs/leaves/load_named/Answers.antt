@@ -5,7 +5,7 @@ use Rattle.expr_emit.proofs.leaves.load_named.Goals as goal
 
 pub returns : goal.returns
 returns c =
-    λ l table.
+    λ l.
     let named = c.add_name-at.ensures l in
     λ p v. load-named-does _ _ p c.position.ensures (λ a h. named.1 a (lit< tt) v h) (named.0 (lit< tt) v)
-    (c.emit.ensures l table _ tt)
+    (c.emit.ensures l _ tt)

@@ -3,20 +3,20 @@ use Rattle.scratch_store.proofs.DoesLaws.{held-slots, does-held}
 use Rattle.expr_emit.proofs.LeafDoes.{variable-local, variable-named}
 use Rattle.expr_emit.proofs.leaves.variable.Goals as goal
 
-pub returns-in-At : goal.returns-in-At
-returns-in-At c =
-    λ l table.
+pub returns-in-Some : goal.returns-in-Some
+returns-in-Some c =
+    λ l.
     λ p v.
     does-held (λ a h.
-    variable-local _ _ _ (c.local_of-found.ensures (held-slots c.layout_of.ensures h))
-    c.in-At.is
-    (c.emit.ensures l table _ tt))
+    variable-local _ _ _ (c.local_of-found.ensures (held-slots c.layout.ensures h))
+    c.in-Some.is
+    (c.emit.ensures l _ tt))
 
-pub returns-in-Nothing : goal.returns-in-Nothing
-returns-in-Nothing c =
-    λ l table.
+pub returns-in-None : goal.returns-in-None
+returns-in-None c =
+    λ l.
     λ p v.
     does-held (λ a h.
-    variable-named _ _ (c.local_of-found.ensures (held-slots c.layout_of.ensures h))
-    c.in-Nothing.is
-    (c.load_named.ensures l table p v))
+    variable-named _ _ (c.local_of-found.ensures (held-slots c.layout.ensures h))
+    c.in-None.is
+    (c.load_named.ensures l p v))

@@ -4,7 +4,7 @@ use Rattle.expr_emit.proofs.steps.close_chain.Goals as goal
 
 pub returns : goal.returns
 returns c =
-    λ l takes table.
+    λ l takes.
     λ v a p h room. close-does _ _ _ _ a c.position.ensures (c.popped.ensures takes)
     ((c.add_chain-at.ensures l).place a h p)
-    ((c.add_chain-at.ensures l).holds v a h p) (c.emit.ensures l table _ tt) room
+    ((c.add_chain-at.ensures l).holds v a h p) (c.emit.ensures l _ tt) room

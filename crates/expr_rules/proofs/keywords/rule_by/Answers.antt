@@ -4,50 +4,34 @@ use Rattle.expr_rules.proofs.KeywordLaws.{rule_told, fn-one, fn-other, call-some
 use Rattle.expr_rules.proofs.KeywordLaws.{eval-always, curry-never, other-few, other-many}
 use Rattle.expr_rules.proofs.keywords.rule_by.Goals as goal
 
-pub returns-then-n-eq1 : goal.returns-then-n-eq1
+pub returns-in-Fn : goal.returns-in-Fn
 unfolding call_rule_of
-returns-then-n-eq1 c =
-    let n = c.args.n in
-    rule_told n c.in-Fn.is (fn-one n c.if-n-eq1.true)
+returns-in-Fn c = rule_told c.args.n c.in-Fn.is (fn-one c.args.n c.if-n-eq1.true)
 
-pub returns-then-n : goal.returns-then-n
+pub returns-in-Call : goal.returns-in-Call
 unfolding call_rule_of
-returns-then-n c =
-    let n = c.args.n in
-    rule_told n c.in-Call.is (call-some n c.if-n.true)
-
-pub returns-then-n-le-MAX_ARGS : goal.returns-then-n-le-MAX_ARGS
-unfolding call_rule_of
-returns-then-n-le-MAX_ARGS c =
-    let n = c.args.n in
-    rule_told n c.in-Other.is (other-few n c.if-n-le-MAX_ARGS.true)
-
-pub returns-else-n-eq1 : goal.returns-else-n-eq1
-unfolding call_rule_of
-returns-else-n-eq1 c =
-    let n = c.args.n in
-    rule_told n c.in-Fn.is (fn-other n c.if-n-eq1.false)
-
-pub returns-else-n : goal.returns-else-n
-unfolding call_rule_of
-returns-else-n c =
-    let n = c.args.n in
-    rule_told n c.in-Call.is (call_none n c.if-n.false)
+returns-in-Call c = rule_told c.args.n c.in-Call.is (call-some c.args.n c.if-n.true)
 
 pub returns-in-Eval : goal.returns-in-Eval
 unfolding call_rule_of
-returns-in-Eval c =
-    let n = c.args.n in
-    rule_told n c.in-Eval.is (eval-always n)
+returns-in-Eval c = rule_told c.args.n c.in-Eval.is (eval-always c.args.n)
 
-pub returns-in-Curry : goal.returns-in-Curry
+pub returns-in-Other : goal.returns-in-Other
 unfolding call_rule_of
-returns-in-Curry c =
-    let n = c.args.n in
-    rule_told n c.in-Curry.is (curry-never n)
+returns-in-Other c = rule_told c.args.n c.in-Other.is (other-few c.args.n c.if-n-le-MAX_ARGS.true)
 
-pub returns-else-n-le-MAX_ARGS : goal.returns-else-n-le-MAX_ARGS
+pub returns-in_default : goal.returns-in_default
 unfolding call_rule_of
-returns-else-n-le-MAX_ARGS c =
-    let n = c.args.n in
-    rule_told n c.in-Other.is (other-many n c.if-n-le-MAX_ARGS.false)
+returns-in_default c = rule_told c.args.n c.in-Fn.is (fn-other c.args.n c.if-n-eq1.false)
+
+pub returns-in_default-2 : goal.returns-in_default-2
+unfolding call_rule_of
+returns-in_default-2 c = rule_told c.args.n c.in-Call.is (call_none c.args.n c.if-n.false)
+
+pub returns-in_default-3 : goal.returns-in_default-3
+unfolding call_rule_of
+returns-in_default-3 c = rule_told c.args.n c.in-Other.is (other-many c.args.n c.if-n-le-MAX_ARGS.false)
+
+pub returns-in_default-4 : goal.returns-in_default-4
+unfolding call_rule_of
+returns-in_default-4 c = rule_told c.args.n c.in_default.is (curry-never c.args.n)

@@ -1,25 +1,19 @@
--- `scratch_store::ops::after` meets its contract: the depth by the table of effects. Assumes nothing of the table but in the answer.
-use Rattle.std.proofs.Common.{arith, rules}
-use Rattle.scratch_store.proofs.TableLaws.{pops-fit, after-some, after_none}
+-- `scratch_store::ops::after` meets its contract: the depth by the effect of the kind.
+use Rattle.std.proofs.Common.{ℕ, get_or, rules, arith, ap, ◌∙◌}
+use Rattle.bytecode.specs.Coded.{count_of}
+use Rattle.bytecode.specs.Effect.{popped}
+use Rattle.scratch_store.proofs.TableLaws.{pops-fit, after-by}
 use Rattle.scratch_store.proofs.ops.after.Goals as goal
 
 pub overflow_add-pops : goal.overflow_add-pops
 overflow_add-pops c =
-    pops-fit _ _ _ c.args.n c.counted.ensures c.entry.type_inv (search rules) c.ranges.n
-
-pub returns-then-pops-d : goal.returns-then-pops-d
-returns-then-pops-d c = λ table.
-    after-some _ _ _ _ _ _ _
-    (c.entry.ensures table (omega arith))
-    (c.entry-2.ensures table (omega arith))
-    c.counted.ensures
-    (c.entry-pushes.ensures table (omega arith))
+    pops-fit (count_of c.effect-e.result.top) _ _ c.from-2.result c.popped.ensures (omega (arith, c.from.ensures, c.effect-e.type_inv))
+    (search rules) (search rules) (omega (arith, c.from-2.ensures, c.ranges.n.fits))
 
 pub returns : goal.returns
-returns c = λ table.
-    after_none _ _ _ _ _ _ _
-    (c.entry.ensures table (omega arith))
-    (c.entry-2.ensures table (omega arith))
-    c.counted.ensures
-    (c.entry-pushes.ensures table (omega arith))
-    c.if-pops-d.false
+returns c =
+    let w = c.args.w in
+    let count = count_of c.effect-e.result.top in
+    let on_top = c.popped.ensures ∙ ap (λ (n : ℕ). popped count (get_or w 1 0) (get_or w 2 0) n) c.from-2.ensures in
+    rw (c.saturating_sub.ensures, c.from-3.ensures, c.from.ensures, c.from-4.ensures)
+    (after-by w c.args.n c.args.d _ _ _ count c.effect-e.ensures.pops c.effect-e.ensures.pushes c.effect-e.ensures.top on_top)

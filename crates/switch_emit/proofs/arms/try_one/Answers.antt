@@ -4,5 +4,5 @@ use Rattle.switch_emit.proofs.arms.try_one.Goals as goal
 
 pub returns : goal.returns
 returns c =
-    λ l table C v. try-does _ _ _ _ c.position.ensures (c.expression.ensures l table C v)
-    (c.emit.ensures l table _ tt)
+    λ l C v. try-does _ _ _ _ c.position.ensures (c.expression.ensures l C v)
+    (c.emit.ensures l _ tt)

@@ -4,13 +4,13 @@ use Rattle.switch_emit.proofs.bodies.body.Goals as goal
 
 pub returns-then-get-eq1 : goal.returns-then-get-eq1
 returns-then-get-eq1 c =
-    λ l table C G h.
-    body-lowers c.args.flat.now _ _ c.args.counts.now _ _ _ _ c.get.ensures
+    λ l C G h.
+    body-lowers c.args.flat.now _ _ c.args.state.now _ _ _ _ c.get.ensures
     c.if-get-eq1.true c.get-then-get-eq1.ensures
     c.next.ensures c.get-then-get-eq1-2.ensures C G h c.at_depth.ensures
-    (c.expression.ensures l table)
-    (c.jump.ensures l table _)
+    (c.expression.ensures l)
+    (c.jump.ensures l _)
 
 pub returns-else-get-eq1 : goal.returns-else-get-eq1
 returns-else-get-eq1 c =
-    λ l table C G h. body-passes c.args.flat.now _ _ _ c.get.ensures c.if-get-eq1.false
+    λ l C G h. body-passes c.args.flat.now _ _ _ c.get.ensures c.if-get-eq1.false

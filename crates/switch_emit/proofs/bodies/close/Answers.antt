@@ -4,6 +4,6 @@ use Rattle.switch_emit.proofs.bodies.close.Goals as goal
 
 pub returns : goal.returns
 returns c =
-    λ l table.
-    λ s. close-does c.args.counts.now c.at_depth.ensures
-    (c.emit.ensures l table s tt) (c.emit-2.ensures l table s tt)
+    λ l.
+    λ s. close-does c.args.state.now c.at_depth.ensures
+    (c.emit.ensures l s tt) (c.emit-2.ensures l s tt)

@@ -4,9 +4,9 @@ use Rattle.switch_emit.proofs.jumps.end_arm.Goals as goal
 
 pub returns-then-any : goal.returns-then-any
 returns-then-any c =
-    λ l table.
-    λ s. end-jumps _ _ _ c.if-any.true (c.jump.ensures l table s)
+    λ l.
+    λ s. end-jumps _ _ _ c.if-any.true (c.jump.ensures l s)
 
 pub returns-else-any : goal.returns-else-any
-returns-else-any c = λ l table.
+returns-else-any c = λ l.
     λ s. end_none _ _ _ c.if-any.false

@@ -4,10 +4,10 @@ use Rattle.switch_emit.proofs.jumps.jump.Goals as goal
 
 pub returns-then-drop : goal.returns-then-drop
 returns-then-drop c =
-    λ l table.
-    λ s. dropped-does c.args.counts.now _ _ c.if-drop.true c.dropped.ensures
+    λ l.
+    λ s. dropped-does c.args.state.now _ _ c.if-drop.true c.dropped.ensures
 
 pub returns : goal.returns
 returns c =
-    λ l table.
-    λ s. jump-does _ _ c.if-drop.false (c.emit.ensures l table s tt)
+    λ l.
+    λ s. jump-does _ _ c.if-drop.false (c.emit.ensures l s tt)

@@ -1,5 +1,5 @@
 -- `switch_places::bodies::bodies` meets its contract. The invariant is `Placing`: the bodies of the blocks passed have their places.
-use Prim.Native.Nat.{◌-◌, zero-le}
+use Prim.Native.Nat.{zero-le}
 use mathlib.Core.Path.{refl, ◌∙◌}
 use native.Mathlib.Omega.{arith}
 use Rattle.switch_places.proofs.BodyLaws.{placing-start, placing-on, placing-end}
@@ -8,8 +8,8 @@ use Rattle.switch_places.proofs.bodies.bodies.Goals as goal
 pub loop-k-init : goal.loop-k-init
 loop-k-init c = (zero-le, refl, λ ls def z few l m g want. placing-start _ l m)
 
-pub body-t-requires : goal.body-t-requires
-body-t-requires c =
+pub body-sum-requires : goal.body-sum-requires
+body-sum-requires c =
     omega (arith, c.loop-k-test.true, c.requires)
 
 pub loop-k-preserved : goal.loop-k-preserved
@@ -17,8 +17,9 @@ loop-k-preserved c =
     let v = c.loop-k.invariant in
     let h = c.loop-k-test.true in (
       omega (arith, h),
-      c.body-t.auto.flat ∙ v.1,
-      λ ls def z few l m g want. placing-on (v.2 ls def z few l m g want) (v.1 ∙ z) h few g want (c.body-t.ensures.fact, c.body-t.ensures.fact_2),
+      c.body-sum.auto.flat ∙ v.1,
+      λ ls def z few l m g want.
+          placing-on (v.2 ls def z few l m g want) (v.1 ∙ z) h few g want (c.body-sum.ensures.fact, c.body-sum.ensures.fact_2),
     )
 
 pub shape_of-flat : goal.shape_of-flat

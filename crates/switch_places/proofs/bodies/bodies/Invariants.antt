@@ -1,5 +1,5 @@
 -- `switch_places::bodies::bodies` meets its contract. The invariant is `Placing`: the bodies of the blocks passed have their places.
-use Prim.Native.Nat.{ℕ, ◌-◌, ◌≤◌, ◌<◌}
+use Prim.Native.Nat.{ℕ, ◌≤◌, ◌<◌}
 use mathlib.Core.Path.{◌≡◌}
 use mathlib.Core.List.{List}
 use lib.ListN.{length}
@@ -19,6 +19,3 @@ invariant-loop-k l =
     → l.initial.sum.len ≤ cap → l.initial.sum.emitted ≤ cap → GuardsBy l.sheet (tally_by (answer l.told l.sheet) max_depth l.sheet) l.initial.flat l.n
     → ((i : ℕ) → i < l.n → want_in l.initial.flat i ≡ wanted_by l.sheet def ls i)
     → Placing l.sheet (tally_by (answer l.told l.sheet) max_depth l.sheet) ls def l.n l.initial.sum l.initial.flat l.flat l.sum l.k)
-
-abbrev pub decreases-loop-k : goal.decreases-loop-k
-decreases-loop-k l = l.n - l.k

@@ -1,5 +1,5 @@
 -- `switch_places::chained::case_chains` meets its contract. The invariant is `LaidTo`: the chains of the heads passed have their places.
-use Prim.Native.Nat.{◌-◌, ◌≤◌}
+use Prim.Native.Nat.{◌≤◌}
 use mathlib.Core.Path.{◌≡◌}
 use lib.ListN.{length}
 use Rattle.switch_count.specs.Total.{case_lists}
@@ -10,8 +10,5 @@ use Rattle.switch_places.proofs.chained.case_chains.Given as goal
 
 abbrev pub invariant-loop-q : goal.invariant-loop-q
 invariant-loop-q l =
-    (l.q ≤ l.n) × (length l.flat ≡ length l.initial.flat) × (l.n ≤ max_entries) × (length l.a ≡ max_entries)
+    (l.q ≤ l.n) × (length l.flat ≡ length l.initial.flat) × (l.n ≤ max_entries)
     × ((t : Rec) → LaidTo l.sheet t (case_lists l.sheet) case_area l.initial.sum l.initial.flat l.flat l.sum l.q)
-
-abbrev pub decreases-loop-q : goal.decreases-loop-q
-decreases-loop-q l = l.n - l.q

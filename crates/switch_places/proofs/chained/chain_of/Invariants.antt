@@ -1,5 +1,5 @@
 -- `switch_places::chained::chain_of` meets its contract. The invariant is `Chaining`: what is passed and what is left make the chain.
-use Prim.Native.Nat.{ℕ, ◌-◌, ◌≤◌}
+use Prim.Native.Nat.{ℕ, ◌≤◌}
 use mathlib.Core.Path.{◌≡◌}
 use mathlib.Core.List.{List}
 use lib.ListN.{length, drop}
@@ -8,9 +8,8 @@ use Rattle.expr_count.specs.Count.{Rec}
 use Rattle.switch_places.proofs.ChainLaws.{Chaining}
 use Rattle.switch_places.proofs.chained.chain_of.Given as goal
 
-abbrev pub invariant-loop-i : goal.invariant-loop-i
-invariant-loop-i v =
-    (v.i ≤ v.n) × (length v.flat ≡ length v.initial.flat) × ((s : List ℕ) (t : Rec) (l : List ℕ) → Reads s t v.initial.flat v.a v.n l → Chaining s t l v.initial.flat v.flat v.sum v.tried (drop v.i l))
-
-abbrev pub decreases-loop-i : goal.decreases-loop-i
-decreases-loop-i l = l.n - l.i
+abbrev pub invariant-loop-b : goal.invariant-loop-b
+invariant-loop-b v =
+    (v.b-index ≤ length v.list) × (length v.flat ≡ length v.initial.flat)
+    × ((s : List ℕ) (t : Rec) (l : List ℕ) → Reads s t v.initial.flat v.list l
+    → Chaining s t l v.initial.flat v.flat v.sum v.tried (drop v.b-index l))

@@ -1,5 +1,5 @@
 -- `switch_places::chained::want_default` meets its contract. The invariant is `Marked`: the blocks passed are marked.
-use Prim.Native.Nat.{◌-◌, zero-le}
+use Prim.Native.Nat.{zero-le}
 use mathlib.Core.Path.{refl, subst, ◌∙◌}
 use native.Mathlib.Omega.{arith}
 use Rattle.switch_tables.specs.Columns.{wanted_at, case_place_at}
@@ -9,14 +9,6 @@ use Rattle.switch_places.proofs.chained.want_default.Goals as goal
 
 pub loop-k-init : goal.loop-k-init
 loop-k-init c = (zero-le, refl, λ z. (λ i l. absurd (omega arith), within_none wanted_at case_place_at _))
-
-pub overflow_add-k : goal.overflow_add-k
-overflow_add-k c =
-    record { fits = omega (arith, c.loop-k-test.true, c.requires) }
-
-pub overflow_add-k-in-loop-k : goal.overflow_add-k-in-loop-k
-overflow_add-k-in-loop-k c =
-    record { fits = omega (arith, c.loop-k-test.true, c.requires) }
 
 pub loop-k-preserved : goal.loop-k-preserved
 loop-k-preserved c =

@@ -1,5 +1,5 @@
 -- `switch_places::chained::want_default` meets its contract. The invariant is `Marked`: the blocks passed are marked.
-use Prim.Native.Nat.{◌-◌, ◌≤◌}
+use Prim.Native.Nat.{◌≤◌}
 use mathlib.Core.Path.{◌≡◌}
 use lib.ListN.{length}
 use Rattle.switch_tables.specs.Columns.{size}
@@ -9,6 +9,3 @@ use Rattle.switch_places.proofs.chained.want_default.Given as goal
 abbrev pub invariant-loop-k : goal.invariant-loop-k
 invariant-loop-k l =
     (l.k ≤ l.n) × (length l.flat ≡ length l.initial.flat) × (length l.initial.flat ≡ size → Marked l.initial.flat l.flat l.d l.k)
-
-abbrev pub decreases-loop-k : goal.decreases-loop-k
-decreases-loop-k l = l.n - l.k

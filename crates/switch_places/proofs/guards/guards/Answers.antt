@@ -1,5 +1,5 @@
 -- `switch_places::guards::guards` meets its contract. The invariant is `Filled`: the guards of the blocks passed are there.
-use Prim.Native.Nat.{◌-◌, zero-le}
+use Prim.Native.Nat.{zero-le}
 use mathlib.Core.Path.{refl, subst, ◌∙◌}
 use native.Mathlib.Omega.{arith}
 use Rattle.switch_places.proofs.GuardLaws.{Filled, filled_none, filled_on, first-guard, next-guard, behind-guards}

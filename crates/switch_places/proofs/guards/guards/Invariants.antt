@@ -1,5 +1,5 @@
 -- `switch_places::guards::guards` meets its contract. The invariant is `Filled`: the guards of the blocks passed are there.
-use Prim.Native.Nat.{◌-◌, ◌≤◌}
+use Prim.Native.Nat.{◌≤◌}
 use mathlib.Core.Path.{◌≡◌}
 use lib.ListN.{length}
 use Rattle.lowering.specs.SwitchSheet.{guard_of}
@@ -13,6 +13,3 @@ use Rattle.switch_places.proofs.guards.guards.Given as goal
 abbrev pub invariant-loop-k : goal.invariant-loop-k
 invariant-loop-k l =
     (l.k ≤ l.n) × (l.j ≡ guard_of l.sheet l.k) × (length l.flat ≡ length l.initial.flat) × (length l.initial.flat ≡ size → Filled l.sheet (tally_by (answer l.told l.sheet) max_depth l.sheet) l.initial.flat l.flat l.k)
-
-abbrev pub decreases-loop-k : goal.decreases-loop-k
-decreases-loop-k l = l.n - l.k

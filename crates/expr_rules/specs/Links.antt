@@ -1,0 +1,13 @@
+-- What of a chain is left to an iterator of its links: what each of them says, in order.
+use Rattle.std.specs.Prelude.{ℕ, List, map}
+use Rattle.lowering.specs.Flatten as Flatten
+use Rattle.expr_rules.specs.declared.chains.Read.{Read}
+use Rattle.expr_rules.specs.declared.chains.Links.{Links}
+use Rattle.expr_rules.specs.Reads.{read_of}
+
+abbrev pub links_left : Links → List Read
+links_left it = map (read_of it.sheet.now) (Flatten.links it.left it.sheet.now it.node)
+
+-- their nodes
+abbrev pub nodes_left : Links → List ℕ
+nodes_left it = map (λ p. p.link) (links_left it)

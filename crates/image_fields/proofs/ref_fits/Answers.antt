@@ -1,9 +1,0 @@
--- `image_fields::ref_fits` meets its contract.
-use Rattle.image_fields.proofs.FitLaws.{ref-none, ref-some}
-use Rattle.image_fields.proofs.ref_fits.Goals as goal
-
-pub returns-then-receiver-gt2 : goal.returns-then-receiver-gt2
-returns-then-receiver-gt2 c = ref-none _ _ _ c.if-receiver-gt2.true
-
-pub returns : goal.returns
-returns c = ref-some _ _ _ c.if-receiver-gt2.false

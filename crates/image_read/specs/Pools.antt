@@ -1,0 +1,13 @@
+-- The two pools of rows: cases, and ranges.
+use Rattle.std.specs.Prelude.{ℕ, true, false, eqb}
+use Rattle.image_read.specs.declared.Rows.{Rows}
+use Rattle.image_read.specs.declared.Rows.TheVariants.{Cases, Ranges}
+
+-- the number of a pool, as tables name it
+unfoldable pub kind_of : Rows → ℕ
+kind_of Cases = 0
+kind_of Ranges = 1
+
+-- the pool that a number names
+unfoldable pub rows_of : ℕ → Rows
+rows_of kind = elim (eqb kind 0) [ true ↦ Cases | false ↦ Ranges ]

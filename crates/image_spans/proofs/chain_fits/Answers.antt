@@ -1,0 +1,8 @@
+-- `image_spans::chain_fits` meets its contract.
+use Rattle.image_spans.proofs.ChainLaws.{chain_fits}
+use Rattle.image_spans.proofs.chain_fits.Goals as goal
+
+pub returns : goal.returns
+returns c =
+    chain_fits _ c.args.i _ _ _ _ c.args.image.now.sized.steps c.chain_word-first.ensures c.chain_word-count.ensures
+    c.chain_word-operands.ensures c.run_fits.ensures

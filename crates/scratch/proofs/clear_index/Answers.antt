@@ -1,7 +1,0 @@
--- `scratch::clear_index` meets its contract.
-use Rattle.scratch.specs.Places.{cleared_index}
-use Rattle.scratch.proofs.clear_index.Goals as goal
-
-pub returns : goal.returns
-unfolding cleared_index
-returns c = cc

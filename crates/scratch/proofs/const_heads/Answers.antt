@@ -1,8 +1,0 @@
--- `scratch::const_heads` meets its contract.
-use native.Mathlib.Omega.{arith}
-use Rattle.scratch.specs.Places.{const_heads}
-use Rattle.scratch.proofs.const_heads.Goals as goal
-
-pub returns : goal.returns
-unfolding const_heads
-returns c = (omega arith, omega arith)

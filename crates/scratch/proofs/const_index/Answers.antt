@@ -1,7 +1,0 @@
--- `scratch::const_index` meets its contract.
-use Rattle.scratch.specs.Places.{index_at}
-use Rattle.scratch.proofs.const_index.Goals as goal
-
-pub returns : goal.returns
-unfolding index_at
-returns c = cc

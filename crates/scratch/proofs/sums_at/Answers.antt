@@ -1,8 +1,0 @@
--- `scratch::sums_at` meets its contract.
-use native.Mathlib.Omega.{arith}
-use Rattle.scratch.specs.Places.{sums_from}
-use Rattle.scratch.proofs.sums_at.Goals as goal
-
-pub returns : goal.returns
-unfolding sums_from
-returns c = omega arith

@@ -1,0 +1,17 @@
+-- `scratch_index::Names::place` meets its contract: by a memo that knows the text, else by a search.
+use Rattle.scratch_index.proofs.NameLaws.{with-plain}
+use Rattle.scratch_index.proofs.LookupLaws.{finds-at}
+use Rattle.scratch_index.proofs.HeldLaws.{name-told, name-searched, name-same}
+use Rattle.scratch_index.proofs.Names.place.Goals as goal
+
+pub returns-in-Some : goal.returns-in-Some
+returns-in-Some c =
+    let it = c.args.self.now in
+    name-told it.sheet.now it.layout it.count it.scratch.now c.args.t _ _ _ c.memos_at.ensures c.recalled.ensures c.in-Some.is
+
+pub returns : goal.returns
+returns c =
+    let it = c.args.self.now in
+    name-same it.sheet.now it.layout it.count it.scratch.now (with-plain it.sheet.now c.args.t)
+    (name-searched it.sheet.now it.layout it.count it.scratch.now _ _ _ c.name_hash-h.ensures
+    (finds-at c.name_index.ensures c.seek_name.ensures))
