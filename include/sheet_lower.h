@@ -10,7 +10,7 @@
  * There is no other duty: any bytes are taken as a sheet, and any words as an image to check. How long a hostile sheet may take, and how to bound it
  * by its size, is in docs/FORMAT.md, with what each refusal means and how to cure it. The functions use no heap and no global variable,
  * make no system call, keep nothing between calls and always return, so they may run in several threads at once, each with its own buffers, and
- * again from an interrupted call. Of the C library they need memmove and memset alone. The compiled code uses SSE registers to move data.
+ * again from an interrupted call. Of the C library they need memcpy and memset alone. The compiled code uses SSE registers to move data.
  */
 #ifndef SHEET_LOWER_H
 #define SHEET_LOWER_H

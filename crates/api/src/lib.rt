@@ -1,4 +1,5 @@
 // What programs in other languages link: numbers and slices only.
+// Kept: a refusal by its number, 0 where there is none, and words that are 0 under a refusal. The C interface has no Result.
 #![tactic(auto)]
 
 ghost use Rattle.std.specs.Prelude.{◌≡◌};

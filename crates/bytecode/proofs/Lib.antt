@@ -1,3 +1,2 @@
 -- Laws of the table of effects.
 pub mod TableLaws
-pub mod CodedLaws

@@ -1,6 +1,6 @@
--- The effects as a table of numbers, as the code reads it: five for each kind.
-use Rattle.std.specs.Prelude.{ℕ, ◌%◌, true, false, List, [], ◌∷◌, ◌++◌, eqb, get_or}
-use Rattle.bytecode.specs.Effect.{Effect, effects, effect, ref_argc}
+-- The effects as one table of numbers, five for each kind.
+use Rattle.std.specs.Prelude.{ℕ, List, [], ◌∷◌, ◌++◌, get_or}
+use Rattle.bytecode.specs.Effect.{Effect, effects, effect}
 use Rattle.bytecode.specs.Effect.{Count, fixed, argc, argc_ref, pops_a, needs_a, operands, Flow, on, jump, branch, table}
 
 unfoldable pub count_number : Count → ℕ
@@ -32,19 +32,3 @@ effect_table = numbers effects
 -- number f of a kind
 unfoldable pub entry : ℕ → ℕ → ℕ
 entry kind f = get_or (numbers_of (effect kind)) f 0
-
--- the count that is popped on top, by its number, where chain a takes n
-unfoldable pub counted : ℕ → ℕ → ℕ → ℕ → ℕ
-counted which a b n =
-    elim (eqb which 1) [
-      | true ↦ b % 256
-      | false ↦
-          elim (eqb which 2) [
-            | true ↦ ref_argc b
-            | false ↦ elim (eqb which 3) [ true ↦ a | false ↦ elim (eqb which 5) [ true ↦ n | false ↦ 0 ] ]
-          ]
-    ]
-
--- the count that is needed and kept on top, by its number
-unfoldable pub kept : ℕ → ℕ → ℕ
-kept which a = elim (eqb which 4) [ true ↦ a | false ↦ 0 ]

@@ -1,9 +1,11 @@
 // The records of an image: instructions, chains and their steps, switch tables. specs/ gives the words of each.
+// Kept: `Bool`, `capture`, `flags`, `ranged`, `inclusive` and `op` (a token's index plus 1, or 0) are words. They come and go as words, and
+// a bool or an Option would be made and unmade. `Switch`, `SwitchCase`, `SwitchRange` are named by definitions alone: no code makes one.
 #![tactic(auto)]
 
 mod table;
 
-pub use table::{Effect, Flow, Top, counted, effect_of, effects, entry, kept};
+pub use table::{Effect, Flow, Top, effect_of};
 
 // Where CallRef finds the variable that it calls through.
 #[derive(Clone, Copy)]

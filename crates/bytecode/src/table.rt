@@ -1,9 +1,8 @@
-// What each kind of instruction does to the depth and to the place: the constant table, and how it is read.
-ghost use Rattle.std.specs.Prelude.{◌≡◌, ◌<◌, ◌≤◌, get_or};
+// What each kind of instruction does to the depth and to the place.
+ghost use Rattle.std.specs.Prelude.{◌≡◌};
 ghost use Rattle.bytecode.specs.Coded.{count_of, flow_of};
 ghost use Rattle.bytecode.specs.Effect.{ref_argc};
 ghost use Rattle.bytecode.specs.Effect as effects;
-ghost use Rattle.bytecode.specs.Table as table;
 
 // Which count comes on top: none; argc of Call; argc of CallRef, less a Local receiver; the word a, popped; the word a, needed and kept;
 // what chain a takes.
@@ -20,6 +19,7 @@ pub enum Top {
 impl Top {
     #[tactic(auto, unfolding(crate::specs::Coded::count_of, crate::specs::Effect::popped))]
     // The count that is popped on top, of an instruction with words `a` and `b`; `n` is what a chain takes.
+    // Kept: a number for each variant, and no step that runs: closures or functions would still be chosen by this match.
     pub fn popped(self, a: u32, b: u32, n: u64) -> u64
         ensures { result ≡ effects.popped (count_of self) a b n }
     {
@@ -79,6 +79,58 @@ const NEED: Effect = Effect { keeps: 1, ..NONE };
 
 const CHANGE: Effect = Effect { pops: 1, ..PUSH };
 
+const JUMP: Effect = Effect {
+    flow: Flow::Jump,
+    ..NONE
+};
+
+const BRANCH: Effect = Effect {
+    flow: Flow::Branch,
+    ..POP
+};
+
+const SKIP: Effect = Effect {
+    flow: Flow::Branch,
+    ..NEED
+};
+
+const CALL: Effect = Effect {
+    top: Top::Argc,
+    ..PUSH
+};
+
+const CALL_REF: Effect = Effect {
+    top: Top::RefArgc,
+    ..PUSH
+};
+
+const ROTATE: Effect = Effect {
+    top: Top::NeedsA,
+    ..NEED
+};
+
+const SWITCH: Effect = Effect {
+    flow: Flow::Table,
+    ..NEED
+};
+
+const CALL_FN_PTR: Effect = Effect {
+    top: Top::PopsA,
+    ..CHANGE
+};
+
+const APPEND: Effect = Effect { pops: 2, ..PUSH };
+
+const MAKE_ARRAY: Effect = Effect {
+    top: Top::PopsA,
+    ..PUSH
+};
+
+const CHAIN: Effect = Effect {
+    top: Top::Operands,
+    ..PUSH
+};
+
 // The kinds 0 to 24; kind 0 is none.
 static BY_KIND: [Effect; 25] = [
     NONE,
@@ -88,67 +140,29 @@ static BY_KIND: [Effect; 25] = [
     PUSH, // LoadLocal
     PUSH, // LoadNamed
     PUSH, // LoadThis
-    POP,
-    Effect {
-        flow: Flow::Jump,
-        ..NONE
-    }, // Jump
-    Effect {
-        flow: Flow::Branch,
-        ..POP
-    }, // JumpIfTrue
-    Effect {
-        flow: Flow::Branch,
-        ..POP
-    }, // JumpIfFalse
-    Effect {
-        flow: Flow::Branch,
-        ..NEED
-    }, // SkipIfNotUnit
-    Effect {
-        top: Top::Argc,
-        ..PUSH
-    }, // Call
-    Effect {
-        top: Top::RefArgc,
-        ..PUSH
-    }, // CallRef
-    Effect {
-        top: Top::NeedsA,
-        ..NEED
-    }, // Rotate
-    Effect {
-        flow: Flow::Table,
-        ..NEED
-    }, // Switch
+    POP, // Pop
+    JUMP, // Jump
+    BRANCH, // JumpIfTrue
+    BRANCH, // JumpIfFalse
+    SKIP, // SkipIfNotUnit
+    CALL, // Call
+    CALL_REF, // CallRef
+    ROTATE, // Rotate
+    SWITCH, // Switch
     CHANGE, // MakeFnPtr
-    Effect {
-        top: Top::PopsA,
-        ..CHANGE
-    }, // CallFnPtr
+    CALL_FN_PTR, // CallFnPtr
     PUSH, // InterpolateStart
-    Effect { pops: 2, ..PUSH }, // InterpolateAppend
+    APPEND, // InterpolateAppend
     CHANGE, // InterpolateEnd
-    Effect {
-        top: Top::PopsA,
-        ..PUSH
-    }, // MakeArray
+    MAKE_ARRAY, // MakeArray
     NEED, // CheckSize
-    Effect {
-        top: Top::Operands,
-        ..PUSH
-    }, // Chain
+    CHAIN, // Chain
     PUSH, // EvalAst
 ];
 
-// The effect of a kind in a table, `none` where there is none.
-fn found(table: &[Effect], kind: u32, none: Effect) -> Effect
-    ensures { result ≡ get_or table.now kind none }
-{
-    table.get(kind as usize).copied().unwrap_or(none)
-}
-
-// What a kind does; past the table, what kind 0 does.
+#[tactic(auto, unfolding(crate::specs::Effect::effect, crate::specs::Coded::count_of, crate::specs::Coded::flow_of))]
+// What a kind does: 1 to 24 are the kinds, any other does nothing. The table is read at each kind by itself, so that its numbers are
+// constants where the kind is known.
 pub fn effect_of(kind: u32) -> Effect
     ensures pops { result.pops ≡ (effects.effect kind).pops }
     ensures pushes { result.pushes ≡ (effects.effect kind).pushes }
@@ -156,75 +170,44 @@ pub fn effect_of(kind: u32) -> Effect
     ensures top { count_of result.top ≡ (effects.effect kind).count }
     ensures flow { flow_of result.flow ≡ (effects.effect kind).flow }
 {
-    found(&BY_KIND, kind, NONE)
+    match kind {
+        1 => BY_KIND[1],
+        2 => BY_KIND[2],
+        3 => BY_KIND[3],
+        4 => BY_KIND[4],
+        5 => BY_KIND[5],
+        6 => BY_KIND[6],
+        7 => BY_KIND[7],
+        8 => BY_KIND[8],
+        9 => BY_KIND[9],
+        10 => BY_KIND[10],
+        11 => BY_KIND[11],
+        12 => BY_KIND[12],
+        13 => BY_KIND[13],
+        14 => BY_KIND[14],
+        15 => BY_KIND[15],
+        16 => BY_KIND[16],
+        17 => BY_KIND[17],
+        18 => BY_KIND[18],
+        19 => BY_KIND[19],
+        20 => BY_KIND[20],
+        21 => BY_KIND[21],
+        22 => BY_KIND[22],
+        23 => BY_KIND[23],
+        24 => BY_KIND[24],
+        _ => BY_KIND[0],
+    }
 }
 
-// For each kind from 0 on: pops, pushes, what is needed and kept, which count comes on top (0 none, 1 argc of Call, 2 argc of CallRef,
-// 3 the word a, 4 the word a, needed and not popped, 5 what a chain takes), and the flow (0 on, 1 jump, 2 branch, 3 table). Kind 0 is no
-// kind.
-const EFFECTS: [u8; 125] = [
-    0, 0, 0, 0, 0, 0, 1, 0, 0, 0, 0, 1, 0, 0, 0, 0, 1, 0, 0, 0, 0, 1, 0, 0, 0, 0, 1, 0, 0, 0, 0, 1,
-    0, 0, 0, 1, 0, 0, 0, 0, 0, 0, 0, 0, 1, 1, 0, 0, 0, 2, 1, 0, 0, 0, 2, 0, 0, 1, 0, 2, 0, 1, 0, 1,
-    0, 0, 1, 0, 2, 0, 0, 0, 1, 4, 0, 0, 0, 1, 0, 3, 1, 1, 0, 0, 0, 1, 1, 0, 3, 0, 0, 1, 0, 0, 0, 2,
-    1, 0, 0, 0, 1, 1, 0, 0, 0, 0, 1, 0, 3, 0, 0, 0, 1, 0, 0, 0, 1, 0, 5, 0, 0, 1, 0, 0, 0,
-];
-
-// The table, to be lent to those who read it.
-pub fn effects() -> [u8; 125]
-    ensures { result ≡ table.effect_table }
-{
-    EFFECTS
-}
-
-// A number of the table, to be counted with.
-fn wide(x: u8) -> u32
-    ensures { result ≡ x }
-{
-    x as u32
-}
-
-// Column `f` of a kind, 0 where there is none.
-pub fn entry(t: &[u8; 125], kind: u32, f: u32) -> u32
-    ensures { t.now ≡ table.effect_table → f < 5 → result ≡ table.entry kind f }
-{
-    let at = 5 * (kind as usize) + (f as usize);
-    if at < 125 { wide(t[at]) } else { 0 }
-}
-
+#[tactic(auto, unfolding(crate::specs::Effect::ref_argc))]
 // A Local receiver is not on the stack.
 fn ref_argc(b: u32) -> u32
     ensures { result ≡ ref_argc b }
 {
     let argc = b % 256;
     if b / 256 == 0 {
-        if argc == 0 { 0 } else { argc - 1 }
+        argc.saturating_sub(1)
     } else {
         argc
     }
-}
-
-// The count that is popped on top, by its number; `n` is what a chain takes.
-pub fn counted(which: u32, a: u32, b: u32, n: u64) -> u64
-    ensures { result ≡ table.counted which a b n }
-{
-    if which == 1 {
-        return (b % 256) as u64;
-    }
-    if which == 2 {
-        return ref_argc(b) as u64;
-    }
-    if which == 3 {
-        return a as u64;
-    }
-    if which == 5 {
-        return n;
-    }
-    0
-}
-
-// The count that is needed and kept on top, by its number.
-pub fn kept(which: u32, a: u32) -> u32
-    ensures { result ≡ table.kept which a }
-{
-    if which == 4 { a } else { 0 }
 }

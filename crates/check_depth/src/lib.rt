@@ -14,7 +14,11 @@ fn within(left: u32, sheet: &[u8], n: u32) -> bool
     if left == 0 {
         return false;
     }
-    for j in Siblings::new(sheet, count(sheet, n), child(n)) {
+    let m = count(sheet, n);
+    if m == 0 {
+        return true;
+    }
+    for j in Siblings::new(sheet, m, child(n)) {
         if !within(left - 1, sheet, j) {
             return false;
         }

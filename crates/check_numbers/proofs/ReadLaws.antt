@@ -1,15 +1,18 @@
 -- Laws of the numbers' checks on what the code has read, each in the form of one answer.
-use Prim.Native.Nat.{ℕ, ◌<◌, ◌≤◌}
+use Prim.Native.Nat.{ℕ, ◌+◌, ◌<◌, ◌≤◌}
 use mathlib.Core.Path.{◌≡◌, ap, sym, subst, ◌∙◌}
 use mathlib.Core.Bool.{Bool, true, false, ◌&&◌, ◌||◌, not}
 use mathlib.Core.List.{List}
 use native.Mathlib.Omega.{arith}
+use borrow.Author.Tests.{lt-ltb, le-ltb}
 use lib.Dec.{leb, ltb, eqb}
+use Rattle.words.specs.Word.{word}
 use Rattle.words.specs.Count.{all_below}
 use Rattle.words.proofs.CountLaws.{all-fails}
-use Rattle.sheet.specs.Node.{kind, field_a, field_b, field_c}
+use Rattle.sheet.specs.Sections.{text_count, locals_at}
+use Rattle.sheet.specs.Node.{kind, field_a, field_b, field_c, local_text_by}
 use Rattle.sheet.specs.Kinds.{property_kind, switch_kind, range_kind, ref_kind}
-use Rattle.check_numbers.specs.Numbers.{names_text, exist, number_by, number_among}
+use Rattle.check_numbers.specs.Numbers.{names_text, exist, number_by, number_among, local_by, local_ok}
 
 -- the tests of a node's numbers, where r says whether it names a text
 pub exist-read : (X K k a b c : ℕ) {r : Bool} → r ≡ names_text k
@@ -27,6 +30,15 @@ pub among-read : (s : List ℕ) (X K n : ℕ) {k a b c : ℕ} {r : Bool} → k �
     → r ≡ exist X K k a b c → r ≡ number_among s X K n
 unfolding number_by
 among-read s X K n hk ha hb hc h = cc
+
+-- the test of the name of local l, as it was read
+pub local_more : (s : List ℕ) (l : ℕ) {x at r : ℕ} → x ≡ text_count s → at ≡ locals_at s → r ≡ word s (at + l) → r < x → local_ok s l ≡ true
+unfolding local_by local_text_by
+local_more s l hx ha hr h = rw (← ha, ← hr, ← hx) (lt-ltb _ _ h)
+
+pub local-fails : (s : List ℕ) (l : ℕ) {x at r : ℕ} → x ≡ text_count s → at ≡ locals_at s → r ≡ word s (at + l) → x ≤ r → false ≡ local_ok s l
+unfolding local_by local_text_by
+local-fails s l hx ha hr h = sym (rw (← ha, ← hr, ← hx) (le-ltb _ _ h))
 
 -- A test of each number below m, which was read as the count k.
 module _ (f : ℕ → Bool) {m k : ℕ} (read : m ≡ k) where

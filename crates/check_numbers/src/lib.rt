@@ -5,7 +5,8 @@ ghost use Rattle.std.specs.Prelude.{◌≡◌};
 ghost use Rattle.check_numbers.specs.Numbers as numbers;
 
 use sheet::kinds::{FN_CALL, METHOD_CALL, PROPERTY, RANGE, REF, STRING, SWITCH, VARIABLE};
-use sheet::{Node, field_a, local_count, local_text, node_count, text_count};
+use sheet::{Node, field_a, local_count, locals_at, node_count, text_count};
+use words::word_at;
 
 // The kinds whose a is a text: String, Variable, Property, MethodCall, FnCall.
 fn names_text(k: u32) -> bool
@@ -34,13 +35,7 @@ fn number_ok(sheet: &[u8], x: u32, blocks: u32, n: u32) -> bool
     exist(x, blocks, Node::read(sheet, n))
 }
 
-// The name of local `l` exists.
-fn local_ok(sheet: &[u8], l: u32) -> bool
-    ensures { result ≡ numbers.local_ok sheet.now l }
-{
-    local_text(sheet, l) < text_count(sheet)
-}
-
+// The numbers in all nodes exist.
 fn node_numbers_ok(sheet: &[u8]) -> bool
     ensures { result ≡ numbers.node_numbers_ok sheet.now }
 {
@@ -50,11 +45,20 @@ fn node_numbers_ok(sheet: &[u8]) -> bool
     (0..m).all(|n| number_ok(sheet, x, blocks, n))
 }
 
+// The name of each local exists. Where the names stand and how many texts there are is read once, before the loop.
 pub fn locals_ok(sheet: &[u8]) -> bool
     ensures { result ≡ numbers.locals_ok sheet.now }
 {
+    let x = text_count(sheet);
+    let at = locals_at(sheet);
     let m = local_count(sheet);
-    (0..m).all(|l| local_ok(sheet, l))
+    for l in 0..m {
+        let name = word_at(sheet, at + (l as usize));
+        if x <= name {
+            return false;
+        }
+    }
+    true
 }
 
 // Nothing of refusal 4.

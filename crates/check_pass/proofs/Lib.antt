@@ -1,6 +1,6 @@
 -- Laws of the pass: what is left of the open nodes, the loop's state, the words of a node, the table of limits.
-mod Open
-mod OpenLaws
+mod Places
+mod PlacesLaws
 mod Passing
 mod PassingLaws
 mod FineLaws

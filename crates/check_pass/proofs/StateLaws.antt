@@ -1,12 +1,15 @@
 -- Laws of the pass's loop, each in the form of one need: what may be read, what fits a word, what falls, and the state after each
 -- way round.
-use Prim.Native.Nat.{ℕ, suc, ◌+◌, ◌-◌, ◌*◌, ◌/◌, ◌^◌, ◌<◌, ◌≤◌}
+use Prim.Native.Nat.{ℕ, suc, ◌+◌, ◌*◌, ◌/◌, ◌^◌, ◌<◌, ◌≤◌}
 use mathlib.Core.Path.{◌≡◌, refl, ap, sym, subst, ◌∙◌}
-use mathlib.Core.Bool.{Bool, true, ◌&&◌, and-eq-true_iff}
+use mathlib.Core.Bool.{Bool, true, not, true≢false, ◌&&◌, and-eq-true_iff}
+use Rattle.std.specs.Prelude.{Option, Some, None}
+use Rattle.std.specs.Option.{MatchOption, is_some}
 use mathlib.Core.List.{List}
+use native.Mathlib.Decide.{ℕ_discrete}
 use native.Mathlib.Omega.{arith}
 use lib.Dec.{leb, eqb}
-use lib.ListN.{length, get_or, set}
+use lib.ListN.{length, set}
 use borrow.Author.Tests.{leb-true, eqb-true}
 use mir.Syntax.{w32}
 use mir.Val.{Fits}
@@ -21,9 +24,12 @@ use Rattle.check_pass.specs.Limits.{limits, Row, Called, Own}
 use Rattle.check_pass.specs.Words.{NodeIs}
 use Rattle.check_pass.proofs.LimitLaws.{Right, row-right}
 use Rattle.check_pass.proofs.WordLaws.{words-fit, words-self, words-own, rule-child}
-use Rattle.check_pass.proofs.Passing.{Sizes, State}
-use Rattle.check_pass.proofs.PassingLaws.{kind-switch, passing-start, passing-leaf, passing-open}
-use Rattle.check_pass.proofs.PassingLaws.{passing-around, passing-close, passing-end}
+use Rattle.check_pass.specs.Sizes.{Sizes, Root}
+use Rattle.check_pass.specs.Levels.{done, AllDone, Closed}
+use Rattle.check_pass.specs.declared.Open.{Open}
+use Rattle.check_pass.proofs.Passing.{State}
+use Rattle.check_pass.proofs.PassingLaws.{kind-switch, done-is, more, passing-start, passing-leaf, passing-open}
+use Rattle.check_pass.proofs.PassingLaws.{passing-closed, passing-end, closed-to}
 
 -- what fits of a node that is within its row
 module _ {s : List ℕ} {total K B : ℕ} {t : List ℕ} (S : Sizes s total K B t) where
@@ -34,36 +40,33 @@ module _ {s : List ℕ} {total K B : ℕ} {t : List ℕ} (S : Sizes s total K B 
   sizes-row {k} {m} {a} {b} {c} r =
       row-right (text_count s) K S.texts-few S.blocks-few k m a b c (subst (λ x. Row x k m a b c) S.table_is r)
 
-  pub sizes-root : 1 ≤ total → 24 * 0 + 39 < length s
-  sizes-root h = omega (arith, S.room)
+  -- the sheet has each of its nodes
+  pub sizes-room : (n : ℕ) → n < total → 24 * n + 39 < length s
+  sizes-room n h = omega (arith, S.room)
 
-module _ {s : List ℕ} {total K B : ℕ} {t ns ps : List ℕ} {p k m i e n d : ℕ} (S : State s total K B t ns ps p k m i e n d) where
-  state-inside : e ≤ node_count s
-  state-inside = subst (λ x. x ≤ node_count s) (sym S.passing.frame.end_is) S.passing.frame.kept.inside
-
-  -- the sheet has the next node
-  pub state-room : n < e → 24 * n + 39 < length s
-  state-room h =
-      let r = S.sizes.room in
-      let f : e ≤ total = subst (λ x. e ≤ x) (sym S.sizes.total-is) state-inside in
-      omega arith
+module _ {s : List ℕ} {total K B : ℕ} {t : List ℕ} {fs : List Open} {f : Open} {n d : ℕ} (S : State s total K B t fs f n d) where
+  state-inside : f.end ≤ node_count s
+  state-inside = subst (λ x. x ≤ node_count s) (sym S.passing.frame.end_is) S.passing.frame.inside
 
   -- the next node is a child of the innermost one, and right by itself
-  module _ {k₁ w m₁ a b c : ℕ} (v : NodeIs s n k₁ w m₁ a b c) (fit : child_words k K B e i n k₁ w ≡ true) (o : Own t s k₁ m₁ a b c) where
-    fit-ends : (1 ≤ w) × (n + w ≤ e)
+  module _ {k₁ w m₁ a b c : ℕ} (v : NodeIs s n k₁ w m₁ a b c) (fit : child_words f.kind K B f.end f.passed n k₁ w ≡ true)
+      (o : Own t s k₁ m₁ a b c) where
+    fit-ends : (1 ≤ w) × (n + w ≤ f.end)
     unfolding child_words
     fit-ends =
-        let f = ((and-eq-true_iff (leb 1 w && leb (n + w) e) (child_kind k K B i k₁)).0 fit).0 in
-        let g = (and-eq-true_iff (leb 1 w) (leb (n + w) e)).0 f in
+        let h = ((and-eq-true_iff (leb 1 w && leb (n + w) f.end) (child_kind f.kind K B f.passed k₁)).0 fit).0 in
+        let g = (and-eq-true_iff (leb 1 w) (leb (n + w) f.end)).0 h in
         (leb-true _ _ g.0, leb-true _ _ g.1)
 
     no-switch : k₁ ≡ 19 → ⊥
     unfolding child_words
-    no-switch q = kind-switch k K B i k₁ ((and-eq-true_iff (leb 1 w && leb (n + w) e) (child_kind k K B i k₁)).0 fit).1 q
+    no-switch q =
+        kind-switch f.kind K B f.passed k₁
+        ((and-eq-true_iff (leb 1 w && leb (n + w) f.end) (child_kind f.kind K B f.passed k₁)).0 fit).1 q
 
     next-self : self_ok s n (node_count s) ≡ true
     next-self =
-        let f = state-inside in
+        let h = state-inside in
         let g = fit-ends in
         words-self s n v (node_count s) (sizes-row S.sizes o.row).bounds (rule-child k₁ m₁ a b no-switch o.char) g.0
         (omega (arith, g.1))
@@ -73,105 +76,97 @@ module _ {s : List ℕ} {total K B : ℕ} {t ns ps : List ℕ} {p k m i e n d : 
         let r = sizes-row S.sizes o.row in
         words-own s n v (text_count s) K refl S.sizes.blocks-are r.numbers r.taken o.called
 
-    next-below : n < total
-    next-below =
-        let h = S.sizes.total-is in
-        omega (arith, self-end s n (node_count s) next-self, self-some s n (node_count s) next-self)
-
-    pub next_fits : Fits w32 (n + 1)
-    next_fits = omega (arith, next-below, S.sizes.small)
-
     pub end_fits : Fits w32 (n + w)
     end_fits = let h = state-inside in omega (arith, fit-ends.1, sizes-small S.sizes)
 
-    pub less-leaf : 2 * (total - (n + 1)) + d < 2 * (total - n) + d
-    less-leaf = omega (arith, next-below)
-
-    pub less-open : 2 * (total - (n + 1)) + (d + 1) < 2 * (total - n) + d
-    less-open = omega (arith, next-below)
-
-    module _ (due : i < m) where
-      pub state-leaf : m₁ ≡ 0 → w ≡ 1 → State s total K B t ns ps p k m (i + 1) e (n + 1) d
+    module _ (due : f.passed < f.count) where
+      pub state-leaf : m₁ ≡ 0 → w ≡ 1 → State s total K B t fs (more f) (n + 1) d
       state-leaf z q = record {
         sizes = S.sizes;
         passing =
-            passing-leaf s (sizes-small S.sizes) (own s) ns ps p k m i e n d S.passing K B S.sizes.blocks-are
+            passing-leaf s (sizes-small S.sizes) (own s) fs f n d S.passing K B S.sizes.blocks-are
             S.sizes.cases-are due
-            (words-fit s k K B e i n v fit) next-self next-own (sym v.count_is ∙ z) (sym v.span_is ∙ q);
+            (words-fit s f.kind K B f.end f.passed n v fit) next-self next-own (sym v.count_is ∙ z) (sym v.span_is ∙ q);
       }
 
       pub state-open : d < 62
-          → State s total K B t (set ns d p) (set ps d (i + 1)) n k₁ m₁ 0 (n + w) (n + 1) (d + 1)
+          → State s total K B t (set fs d (more f)) (record { kind = k₁; count = m₁; passed = 0; end = n + w }) (n + 1) (d + 1)
       state-open lev = record {
         sizes = S.sizes;
         passing =
-            passing-open s (sizes-small S.sizes) (own s) ns ps p k m i e n d S.passing K B S.sizes.blocks-are
+            passing-open s (sizes-small S.sizes) (own s) fs f n d S.passing K B S.sizes.blocks-are
             S.sizes.cases-are due
-            (words-fit s k K B e i n v fit) next-self next-own lev k₁ m₁ (n + w) v.kind_is v.count_is v.few
+            (words-fit s f.kind K B f.end f.passed n v fit) next-self next-own lev k₁ m₁ (n + w) v.kind_is v.count_is v.few
             (ap (λ x. n + x) v.span_is);
       }
 
-  pub place-fits : i < m → Fits w32 (i + 1)
+  pub place-fits : f.passed < f.count → Fits w32 (f.passed + 1)
   place-fits h = omega (arith, S.passing.frame.few)
 
-  pub state-level : d - 1 < 64
-  state-level = omega (arith, S.passing.level)
+  pub state-level : d ≤ 62
+  state-level = S.passing.level
 
-  -- the sheet has the node around the innermost one
-  pub around-room : (d ≡ 0 → ⊥) → 24 * get_or ns (d - 1) 0 + 39 < length s
-  around-room z =
-      let f = passing-around s (sizes-small S.sizes) (own s) ns ps p k m i e n d S.passing (omega arith) in
-      let r = S.sizes.room in
-      let h = S.sizes.total-is in
-      omega (arith, f.0)
+  -- nodes that are done are closed
+  pub state-closed : {f' : Open} {d' : ℕ} → Closed fs n f d f' d' → State s total K B t fs f' n d'
+  state-closed c = record { sizes = S.sizes; passing = passing-closed s (sizes-small S.sizes) (own s) c S.passing }
 
-  module _ {k₁ w m₁ a b c : ℕ} (v : NodeIs s (get_or ns (d - 1) 0) k₁ w m₁ a b c) (z : d ≡ 0 → ⊥) where
-    pub around-fits : Fits w32 (get_or ns (d - 1) 0 + w)
-    around-fits =
-        let f = passing-around s (sizes-small S.sizes) (own s) ns ps p k m i e n d S.passing (omega arith) in
-        omega (arith, f.1, v.span_is, sizes-small S.sizes)
+-- nothing is open behind the last node
+pub state-end : {s : List ℕ} {total K B : ℕ} {t : List ℕ} {fs : List Open} {f : Open} {n d : ℕ} → State s total K B t fs f n d
+    → n ≡ total → d ≡ 0 → done f n ≡ true → Passed s
+state-end {s} {fs = fs} {f = f} {n = n} {d = d} S e z h =
+    let q = done-is f n h in
+    let r =
+    passing-end s (sizes-small S.sizes) (own s) fs f n d S.passing z q.0 q.1 (e ∙ S.sizes.total-is) in
+    record { nodes = r.0; deep = r.1; each = r.2 }
 
-    pub state-close : m ≤ i → n ≡ e
-        → State s total K B t ns ps (get_or ns (d - 1) 0) k₁ m₁ (get_or ps (d - 1) 0) (get_or ns (d - 1) 0 + w) n (d - 1)
-    state-close h q = record {
-      sizes = S.sizes;
-      passing =
-          passing-close s (sizes-small S.sizes) (own s) ns ps p k m i e n d S.passing (omega arith) h q k₁ m₁
-          (get_or ns (d - 1) 0 + w) v.kind_is v.count_is v.few (ap (λ x. get_or ns (d - 1) 0 + x) v.span_is);
-    }
+-- an answer that is none
+pub none-of : (A : Type 0) (B : ℕ → Type 0) (o : Option ℕ) {r : Bool} → is_some o ≡ not r → r ≡ true → MatchOption o A B → A
+none-of A B None e h m = m
+none-of A B (Some x) e h m = absurd (true≢false (e ∙ ap not h))
 
-  pub less-close : (d ≡ 0 → ⊥) → 2 * (total - n) + (d - 1) < 2 * (total - n) + d
-  less-close z = omega arith
-
-  pub state-end : d ≡ 0 → m ≤ i → n ≡ e → eqb n total ≡ true → Passed s
-  state-end z h q f =
-      let r =
-      passing-end s (sizes-small S.sizes) (own s) ns ps p k m i e n d S.passing z h q
-      (eqb-true n total f ∙ S.sizes.total-is) in
-      record { nodes = r.0; deep = r.1; each = r.2 }
+-- all open nodes are done behind the last node
+pub state-all : {s : List ℕ} {total K B : ℕ} {t : List ℕ} {fs : List Open} {f : Open} {n d : ℕ} → State s total K B t fs f n d
+    → n ≡ total → done f n ≡ true → AllDone fs n 0 d → Passed s
+state-all {s} {fs = fs} {f = f} {n = n} {d = d} S e h a = by (ℕ_discrete d 0)
+  where
+    by : Dec (d ≡ 0) → Passed s
+    by (yes z) = state-end S e z h
+    by (no z) =
+        let above : AllDone fs n 1 d = record { each = λ j l u. a.each j (omega arith) u } in
+        let c = closed-to fs n f d 0 h (omega arith) above in
+        state-end (state-closed S c) e refl (a.each 0 (omega arith) (omega arith))
 
 -- node 0 is open, and node 1 is next
-module _ {s : List ℕ} {total K B : ℕ} {t : List ℕ} (S : Sizes s total K B t) {k w m a b c : ℕ} (v : NodeIs s 0 k w m a b c) where
-  pub state-start : {r u f : Bool} → (ns ps : List ℕ) → length ns ≡ 64 → length ps ≡ 64 → (total ≡ 0 → ⊥)
-      → (r ≡ true → Row t k m a b c) → u ≡ own_rule k m a b → (f ≡ true → Called s k m a) → (eqb w total && r && u && f) ≡ true
-      → State s total K B t ns ps 0 k m 0 w 1 0
-  state-start {r} {u} {f} ns ps ln lp z row rule called h =
-      let three = (and-eq-true_iff (eqb w total && r && u) f).0 h in
-      let two = (and-eq-true_iff (eqb w total && r) u).0 three.0 in
-      let one = (and-eq-true_iff (eqb w total) r).0 two.0 in
-      let q = eqb-true w total one.0 in
-      let g = sizes-row S (row one.1) in
-      let t₁ = S.total-is in
-      let self : self_ok s 0 (node_count s) ≡ true =
-      words-self s 0 v (node_count s) g.bounds (sym rule ∙ two.1) (omega arith) (omega arith) in
-      let own₁ : own s 0 ≡ true =
-      words-own s 0 v (text_count s) K refl S.blocks-are g.numbers g.taken (called three.1) in
-      record {
-        sizes = S;
-        passing =
-            passing-start s (sizes-small S) (own s) ns ps k m w ln lp v.kind_is v.count_is v.few
-            v.span_is self own₁;
-      }
+pub state-start : {s : List ℕ} {total K B : ℕ} {t : List ℕ} → Sizes s total K B t → {k w m a b c : ℕ} → Root s k w m a b c
+    → (fs : List Open) → length fs ≡ 62 → State s total K B t fs (record { kind = k; count = m; passed = 0; end = w }) 1 0
+state-start {s} S {k} {w} {m} R fs lf = record {
+  sizes = S;
+  passing =
+      passing-start s (sizes-small S) (own s) fs k m w lf R.node.kind_is R.node.count_is R.node.few
+      R.node.span_is R.self R.owns;
+}
+
+-- there is a node
+pub root_some : {s : List ℕ} {total K B : ℕ} {t : List ℕ} → Sizes s total K B t → {k w m a b c : ℕ} → Root s k w m a b c → 1 ≤ total
+root_some {s} S R =
+    omega (arith, S.total-is, self-end s 0 (node_count s) R.self, self-some s 0 (node_count s) R.self)
+
+-- node 0 is right by itself, by the tests of its words
+pub root-right : {s : List ℕ} {total K B : ℕ} {t : List ℕ} → Sizes s total K B t → {k w m a b c : ℕ} → NodeIs s 0 k w m a b c
+    → {r u f : Bool} → (total ≡ 0 → ⊥) → (r ≡ true → Row t k m a b c) → u ≡ own_rule k m a b → (f ≡ true → Called s k m a)
+    → (eqb w total && r && u && f) ≡ true → Root s k w m a b c
+root-right {s} {total} {K} S {k} {w} {m} {a} {b} {c} v {r} {u} {f} z row rule called h =
+    let three = (and-eq-true_iff (eqb w total && r && u) f).0 h in
+    let two = (and-eq-true_iff (eqb w total && r) u).0 three.0 in
+    let one = (and-eq-true_iff (eqb w total) r).0 two.0 in
+    let q = eqb-true w total one.0 in
+    let g = sizes-row S (row one.1) in
+    let t₁ = S.total-is in
+    record {
+      node = v;
+      self = words-self s 0 v (node_count s) g.bounds (sym rule ∙ two.1) (omega arith) (omega arith);
+      owns = words-own s 0 v (text_count s) K refl S.blocks-are g.numbers g.taken (called three.1);
+    }
 
 pub sizes-of : {s : List ℕ} {total K B x : ℕ} {t : List ℕ} → total ≡ node_count s → suc total ≤ 2 ^ 32 → K ≡ field_a s 0
     → suc K ≤ 2 ^ 32 → B ≡ field_b s 0

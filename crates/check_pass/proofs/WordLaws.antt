@@ -1,6 +1,6 @@
 -- Laws of a node's words: where they stand, and what the tests on them say of the sheet.
 use Prim.Native.Nat.{ℕ, suc, ◌+◌, ◌*◌, ◌^◌, ◌<◌, ◌≤◌}
-use mathlib.Core.Path.{◌≡◌, refl, ap, sym, ◌∙◌}
+use mathlib.Core.Path.{◌≡◌, refl, ap, sym, subst, ◌∙◌}
 use mathlib.Core.Bool.{Bool, true, false, ◌&&◌, ◌||◌, not, true≢false, and-eq-true_iff, or-true}
 use mathlib.Core.List.{List}
 use native.Mathlib.Decide.{ℕ_discrete}
@@ -17,6 +17,9 @@ use Rattle.sheet.specs.Sections.{text_count}
 use Rattle.sheet.specs.Node.{field, kind, span, count, field_a, field_b, field_c}
 use Rattle.sheet.specs.Text.{text}
 use Rattle.check_shape.specs.Kinds.{scalar, expression, child_kind}
+use Rattle.check_shape.specs.Rows.{numbers, holds}
+use Rattle.check_shape.specs.declared.Bounds.{Bounds}
+use Rattle.check_shape.proofs.RowLaws.{leaf, row-at}
 use Rattle.check_shape.proofs.KindsLaws.{child-other}
 use Rattle.check_shape.specs.Shape.{own_rule, self_by, child_words, within_bounds, self_ok, child_fits}
 use Rattle.check_numbers.specs.Numbers.{exist, number_by, number_ok}
@@ -51,30 +54,23 @@ not-false {p} {q} e h = by q (sym e ∙ h)
     by false f = refl
 
 -- the tests of a row, as they stand in the code
-pub row-of : (t : List ℕ) (k m a b c : ℕ) → k ≤ 25
-    → (leb (get_or t (5 * k) 0) m
-    && leb m (get_or t (5 * k + 1) 0)
-    && leb a (get_or t (5 * k + 2) 0)
-    && leb b (get_or t (5 * k + 3) 0)
-    && leb c (get_or t (5 * k + 4) 0))
-    ≡ true
-    → Row t k m a b c
-row-of t k m a b c h e =
-    let l = leb (get_or t (5 * k) 0) m in
-    let u = leb m (get_or t (5 * k + 1) 0) in
-    let f = leb a (get_or t (5 * k + 2) 0) in
-    let g = leb b (get_or t (5 * k + 3) 0) in
-    let five = (and-eq-true_iff (l && u && f && g) (leb c (get_or t (5 * k + 4) 0))).0 e in
-    let four = (and-eq-true_iff (l && u && f) g).0 five.0 in
-    let three = (and-eq-true_iff (l && u) f).0 four.0 in
-    let two = (and-eq-true_iff l u).0 three.0 in
+pub row-of : (rs : List Bounds) (k m a b c : ℕ) → k ≤ 25
+    → holds (get_or rs k leaf) m a b c ≡ true → Row (numbers rs) k m a b c
+unfolding holds
+row-of rs k m a b c h e =
+    let r = get_or rs k leaf in
+    let five = (and-eq-true_iff (leb r.least m && leb m r.most && leb a r.a && leb b r.b) (leb c r.c)).0 e in
+    let four = (and-eq-true_iff (leb r.least m && leb m r.most && leb a r.a) (leb b r.b)).0 five.0 in
+    let three = (and-eq-true_iff (leb r.least m && leb m r.most) (leb a r.a)).0 four.0 in
+    let two = (and-eq-true_iff (leb r.least m) (leb m r.most)).0 three.0 in
+    let first = ap (λ i. get_or (numbers rs) i 0) (sym (add-zero (5 * k))) ∙ row-at rs k 0 (omega arith) in
     record {
       kind = h;
-      least = leb-true _ _ two.0;
-      most = leb-true _ _ two.1;
-      most-a = leb-true _ _ three.1;
-      most-b = leb-true _ _ four.1;
-      most-c = leb-true _ _ five.1;
+      least = subst (λ x. x ≤ m) (sym first) (leb-true _ _ two.0);
+      most = subst (λ x. m ≤ x) (sym (row-at rs k 1 (omega arith))) (leb-true _ _ two.1);
+      most-a = subst (λ x. a ≤ x) (sym (row-at rs k 2 (omega arith))) (leb-true _ _ three.1);
+      most-b = subst (λ x. b ≤ x) (sym (row-at rs k 3 (omega arith))) (leb-true _ _ four.1);
+      most-c = subst (λ x. c ≤ x) (sym (row-at rs k 4 (omega arith))) (leb-true _ _ five.1);
     }
 
 -- what a node's words show by themselves: of a Char, of an FnCall with over one argument, of any other
@@ -89,11 +85,8 @@ module _ (t s : List ℕ) (k m a b c : ℕ) (row : Row t k m a b c) where
       no_call : k ≡ 13 → ⊥
       no_call e = omega arith
 
-  pub own-call : {r : Bool} → (k ≡ 5 → ⊥) → r ≡ not (is_curry (text s a)) → r ≡ true → Own t s k m a b c
-  own-call ne e h = record { row = row; char = λ q. absurd (ne q); called = λ f. not-false e h }
-
-  pub own-other : (k ≡ 5 → ⊥) → (eqb k 13 && ltb 1 m) ≡ false → Own t s k m a b c
-  own-other ne e = record { row = row; char = λ q. absurd (ne q); called = λ f. absurd (true≢false (sym f ∙ e)) }
+  pub own-other : (k ≡ 5 → ⊥) → Called s k m a → Own t s k m a b c
+  own-other ne h = record { row = row; char = λ q. absurd (ne q); called = h }
 
 -- below a node of an expression's kind stand expressions
 pub child-plain : (p a b i k : ℕ) → p < 19 → (leb 1 k && ltb k 19) ≡ true → child_kind p a b i k ≡ true

@@ -1,3 +1,5 @@
 pub mod Fine
 pub mod Limits
 pub mod Words
+pub mod Sizes
+pub mod Levels

@@ -2,26 +2,41 @@
 // where it says false, nothing is known.
 #![tactic(auto)]
 
-ghost use Rattle.std.specs.Prelude.{◌≡◌, true, not, ◌+◌, ◌*◌, ◌<◌, length};
+ghost use Rattle.std.specs.Prelude.{◌≡◌, true, not, ◌+◌, ◌*◌, ◌<◌, ◌≤◌, length};
 ghost use Rattle.text.specs.Keyword.{is_curry};
 ghost use Rattle.sheet.specs.Text.{text};
 ghost use Rattle.check_shape.specs.Kinds as kinds;
 ghost use Rattle.check_shape.specs.Shape as shapes;
+ghost use Rattle.check_shape.specs.Rows.{numbers};
 ghost use Rattle.check_pass.specs.Fine as fine;
 ghost use Rattle.check_pass.specs.Limits as limit;
 ghost use Rattle.check_pass.specs.Words as words;
+ghost use Rattle.check_pass.specs.Sizes.{Sizes, Root};
+ghost use Rattle.check_pass.specs.Levels.{done, AllDone, Closed};
+ghost use Rattle.std.specs.Option.{MatchOption};
 
-use check_shape::{BOUNDS, child_kind, own_rule, root_ok, scalar};
-use sheet::kinds::{CHAR, FN_CALL, LAST_KIND, SWITCH};
+use check_shape::{ANY, BOUNDS, Bounds, child_kind, own_rule, root_ok, scalar};
+use sheet::kinds::{
+    BLOCK, CHAR, DYNAMIC_CONSTANT, FN_CALL, LAST_KIND, MAP, METHOD_CALL, PROPERTY, RANGE, REF,
+    STRING, SWITCH, VARIABLE,
+};
 use sheet::limits::{HEADER_WORDS, NODE_WORDS};
-use sheet::{Node, field_a, field_b, node_count, text_count};
+use sheet::{Node, node_count, text_count};
 use text::is_curry;
 use words::whole;
 
-// any 32-bit word
-const ANY: u32 = 0xffff_ffff;
+// The row of a kind that is refused.
+const EMPTY: Bounds = Bounds {
+    least: 1,
+    most: 0,
+    a: 0,
+    b: 0,
+    c: 0,
+};
 
 // Node `n`, which the string has.
+// Kept: no `Node::read`, which tests the bound at each of the six words. It was tried and proves, and the check of a sheet takes 1.2 to
+// 1.3 times as long; it may not get slower.
 fn node(sheet: &[u8], n: u32) -> Node
     requires { 24 * n + 39 < length sheet.now }
     ensures { words.NodeIs sheet.now n result.kind result.span result.count result.a result.b result.c }
@@ -51,7 +66,8 @@ fn last(x: u32) -> u32
     x.saturating_sub(1)
 }
 
-// Any word, 0 where there are none of `x`.
+// The most children that a call may have: any number, none where there are none of `x` texts.
+// Kept: 0 is a bound like others, and stands for no missing value.
 fn any_of(x: u32) -> u32
     ensures { result ≡ limit.any_of x }
 {
@@ -61,67 +77,76 @@ fn any_of(x: u32) -> u32
     ANY
 }
 
-// The bounds of each kind, in a sheet of `x` texts and `blocks` blocks: the least and the greatest count, and the greatest a, b and c. What
-// names a text or a block is below their number; a kind that is refused, or that names what there is none of, has an empty row.
-fn limits(x: u32, blocks: u32) -> [u32; 130]
-    ensures { result ≡ limit.limits x blocks }
+// The bounds of each kind, in a sheet of `x` texts and `blocks` blocks. What names a text or a block is below their number; a kind that is
+// refused, or that names what there is none of, has an empty row.
+fn limits(x: u32, blocks: u32) -> [Bounds; 26]
+    ensures { numbers result ≡ limit.limits x blocks }
 {
     let mut t = BOUNDS;
-    let least = none(x);
     let most = any_of(x);
     let text = last(x);
-    // String
-    t[30] = least;
-    t[32] = text;
-    // Variable
-    t[45] = least;
-    t[47] = text;
-    // Property
-    t[55] = least;
-    t[57] = text;
-    t[58] = text;
-    t[59] = text;
-    // MethodCall
-    t[60] = least;
-    t[61] = most;
-    t[62] = text;
-    // FnCall
-    t[65] = least;
-    t[66] = most;
-    t[67] = text;
+    let named = Bounds {
+        least: none(x),
+        most: 0,
+        a: text,
+        b: 0,
+        c: 0,
+    };
+    t[STRING as usize] = named;
+    t[VARIABLE as usize] = named;
+    t[PROPERTY as usize] = Bounds {
+        b: text,
+        c: text,
+        ..named
+    };
+    t[METHOD_CALL as usize] = Bounds { most, ..named };
+    t[FN_CALL as usize] = Bounds {
+        most,
+        b: 1,
+        c: 65535,
+        ..named
+    };
+    let none = none(blocks);
     let block = last(blocks);
-    // Switch
-    t[99] = blocks;
-    // Range
-    t[105] = 2 + none(blocks);
-    t[108] = block;
-    // Ref
-    t[110] = none(blocks);
-    t[112] = block;
-    // Map, block and DynamicConstant
-    t[115] = 1;
-    t[120] = 1;
-    t[125] = 1;
+    t[SWITCH as usize] = Bounds {
+        least: 1,
+        most: ANY,
+        a: ANY,
+        b: ANY,
+        c: blocks,
+    };
+    t[RANGE as usize] = Bounds {
+        least: 2 + none,
+        most: 2,
+        a: 1,
+        b: block,
+        c: 0,
+    };
+    t[REF as usize] = Bounds {
+        least: none,
+        most: 0,
+        a: block,
+        b: 0,
+        c: 0,
+    };
+    t[MAP as usize] = EMPTY;
+    t[BLOCK as usize] = EMPTY;
+    t[DYNAMIC_CONSTANT as usize] = EMPTY;
     t
 }
 
 // Count and fields of node `v` are within the row of its kind in the table `t`.
-fn row_ok(t: &[u32; 130], v: Node) -> bool
-    ensures { result ≡ true → limit.Row t.now v.kind v.count v.a v.b v.c }
+fn row_ok(t: &[Bounds; 26], v: Node) -> bool
+    ensures { result ≡ true → limit.Row (numbers t.now) v.kind v.count v.a v.b v.c }
 {
-    let k = v.kind;
-    if LAST_KIND < k {
+    if LAST_KIND < v.kind {
         return false;
     }
-    let at = 5 * (k as usize);
-    (t[at] <= v.count)
-        & (v.count <= t[at + 1])
-        & (v.a <= t[at + 2])
-        & (v.b <= t[at + 3])
-        & (v.c <= t[at + 4])
+    t[v.kind as usize].hold(v)
 }
 
-// Text `a` is not `curry`.
+// Text `a` is not `curry`. Few nodes ask, so it is not drawn into the loop over the nodes.
+#[inline(never)]
 fn named_ok(sheet: &[u8], a: u32) -> bool
     ensures { result ≡ not (is_curry (text sheet.now a)) }
 {
@@ -140,20 +165,15 @@ fn call_ok(sheet: &[u8], v: Node) -> bool
     true
 }
 
-// What the words of a node other than the root show by themselves. `named_ok` is called here and in `call_ok`, so that it is not drawn in.
-fn own_ok(t: &[u32; 130], sheet: &[u8], v: Node) -> bool
-    ensures { result ≡ true → limit.Own t.now sheet.now v.kind v.count v.a v.b v.c }
+// What the words of a node other than the root show by themselves.
+fn own_ok(t: &[Bounds; 26], sheet: &[u8], v: Node) -> bool
+    ensures { result ≡ true → limit.Own (numbers t.now) sheet.now v.kind v.count v.a v.b v.c }
 {
-    let k = v.kind;
-    let m = v.count;
     if row_ok(t, v) {
-        if k == CHAR {
+        if v.kind == CHAR {
             return scalar(v.a);
         }
-        if (k == FN_CALL) & (1 < m) {
-            return named_ok(sheet, v.a);
-        }
-        return true;
+        return call_ok(sheet, v);
     }
     false
 }
@@ -168,97 +188,153 @@ fn child_ok(p: u32, a: u32, b: u32, i: u32, k: u32) -> bool
     child_kind(p, a, b, i, k)
 }
 
-// Node `v` may stand at `j`, as child `i` of a node of kind `p` with fields `a` and `b` that ends at `e`.
-fn child_words(p: u32, a: u32, b: u32, e: u32, i: u32, j: u32, v: Node) -> bool
-    ensures { result ≡ true → shapes.child_words p a b e i j v.kind v.span ≡ true }
-{
-    let w = v.span;
-    let end = (j as u64) + (w as u64);
-    (1 <= w) & (end <= (e as u64)) & child_ok(p, a, b, i, v.kind)
+// An open node: its kind and its count of children, how many of them are passed, and the first node behind it.
+#[derive(Clone, Copy)]
+struct Open {
+    kind: u32,
+    count: u32,
+    passed: u32,
+    end: u32,
 }
 
-// The pass. The innermost open node is `p`; its kind, count, place and end are in `k`, `m`, `i` and `e`; node `n` is next; `d` nodes are
-// around it.
+impl Open {
+    // Its children are passed, and node `n` is the first behind it.
+    fn done(self, n: u32) -> bool
+        ensures { result ≡ done self n }
+    {
+        (self.count <= self.passed) & (self.end == n)
+    }
+}
+
+// Node `v` with its end, where none of its children are passed.
+fn opened(v: Node, end: u32) -> Open
+    ensures { result ≡ record { kind = v.kind; count = v.count; passed = 0; end = end } }
+{
+    Open {
+        kind: v.kind,
+        count: v.count,
+        passed: 0,
+        end,
+    }
+}
+
+// Node `v` may stand at `n`, as the next child of `p`, in a sheet whose Switch has fields `a` and `b`.
+fn child_words(p: Open, a: u32, b: u32, n: u32, v: Node) -> bool
+    ensures { result ≡ true → shapes.child_words p.kind a b p.end p.passed n v.kind v.span ≡ true }
+{
+    let w = v.span;
+    let end = (n as u64) + (w as u64);
+    (1 <= w) & (end <= (p.end as u64)) & child_ok(p.kind, a, b, p.passed, v.kind)
+}
+
+// No node.
+const NONE: Open = Open {
+    kind: 0,
+    count: 0,
+    passed: 0,
+    end: 0,
+};
+
+// The innermost open node, with `d` nodes around it.
+#[derive(Clone, Copy)]
+struct Level {
+    top: Open,
+    d: usize,
+}
+
+// The innermost of the open nodes `around` that is not done where node `n` is next, if there is one. It is not drawn into the loop over
+// the nodes, most of which have no children.
+#[inline(never)]
+fn innermost(around: &[Open], n: u32) -> Option<usize>
+    ensures { MatchOption result (AllDone around.now n 0 (length around.now))
+        (λ k. (k < length around.now) × AllDone around.now n (k + 1) (length around.now)) }
+{
+    for k in (0..around.len()).rev() {
+        if !around[k].done(n) {
+            return Some(k);
+        }
+    }
+    None
+}
+
+// Where node `n` is next: the nodes that are done are closed, but not all of them. Most often a child of the innermost node is next.
+fn settled(around: &[Open; 62], at: Level, n: u32) -> Level
+    requires { at.d ≤ 62 }
+    ensures { Closed around.now n at.top at.d result.top result.d }
+{
+    if at.top.passed < at.top.count {
+        return at;
+    }
+    if !at.top.done(n) {
+        return at;
+    }
+    match innermost(&around[..at.d], n) {
+        Some(d) => Level { top: around[d], d },
+        None => at,
+    }
+}
+
+// The pass over the nodes behind the root, of `total` nodes. `at` is the innermost open node, and those around it are in `around`.
+// Kept: the stack is an array with its height beside it: there is no heap, and std's Vec is of the heap.
+fn walk(sheet: &[u8], t: &[Bounds; 26], total: u32, root: Node) -> bool
+    requires sizes { Sizes sheet.now total root.a root.b (numbers t.now) }
+    requires root { Root sheet.now root.kind root.span root.count root.a root.b root.c }
+    ensures { result ≡ true → fine.Passed sheet.now }
+{
+    let top = opened(root, root.span);
+    let mut around = [NONE; 62];
+    let mut at = Level { top, d: 0 };
+    for n in 1..total {
+        at = settled(&around, at, n);
+        if at.top.count <= at.top.passed {
+            return false;
+        }
+        let v = node(sheet, n);
+        if !child_words(at.top, root.a, root.b, n, v) {
+            return false;
+        }
+        if !own_ok(t, sheet, v) {
+            return false;
+        }
+        at.top.passed += 1;
+        if v.count == 0 {
+            if v.span != 1 {
+                return false;
+            }
+        } else {
+            if 62 <= at.d {
+                return false;
+            }
+            around[at.d] = at.top;
+            at.top = opened(v, n + v.span);
+            at.d += 1;
+        }
+    }
+    at.top.done(total) & innermost(&around[..at.d], total).is_none()
+}
+
+// The pass over all nodes.
 fn pass(sheet: &[u8]) -> bool
     ensures { result ≡ true → fine.Passed sheet.now }
 {
     let total = node_count(sheet);
-    let blocks = field_a(sheet, 0);
-    let cases = field_b(sheet, 0);
-    let table = limits(text_count(sheet), blocks);
     if sheet.len() / 4 < HEADER_WORDS + NODE_WORDS * (total as usize) {
         return false;
     }
     if total == 0 {
         return false;
     }
-    let mut nodes = [0u32; 64];
-    let mut places = [0u32; 64];
     let r = node(sheet, 0);
-    let mut p: u32 = 0;
-    let mut k = r.kind;
-    let mut m = r.count;
-    let mut e = r.span;
-    let mut i: u32 = 0;
-    let mut n: u32 = 1;
-    let mut d: usize = 0;
+    let table = limits(text_count(sheet), r.a);
     let row = row_ok(&table, r);
-    if (e == total) & row & own_rule(r.kind, r.count, r.a, r.b) & call_ok(sheet, r) {
-        loop {
-            if i < m {
-                if e <= n {
-                    return false;
-                }
-                let v = node(sheet, n);
-                if child_words(k, blocks, cases, e, i, n, v) {
-                    if own_ok(&table, sheet, v) {
-                        if v.count == 0 {
-                            if v.span != 1 {
-                                return false;
-                            }
-                            i += 1;
-                            n += 1;
-                        } else {
-                            if 62 <= d {
-                                return false;
-                            }
-                            nodes[d] = p;
-                            places[d] = i + 1;
-                            d += 1;
-                            p = n;
-                            k = v.kind;
-                            m = v.count;
-                            i = 0;
-                            e = n + v.span;
-                            n += 1;
-                        }
-                    } else {
-                        return false;
-                    }
-                } else {
-                    return false;
-                }
-            } else {
-                if n != e {
-                    return false;
-                }
-                if d == 0 {
-                    return n == total;
-                }
-                d -= 1;
-                p = nodes[d];
-                i = places[d];
-                let v = node(sheet, p);
-                k = v.kind;
-                m = v.count;
-                e = p + v.span;
-            }
-        }
+    if (r.span == total) & row & own_rule(r.kind, r.count, r.a, r.b) & call_ok(sheet, r) {
+        return walk(sheet, &table, total, r);
     }
     false
 }
 
 // Nothing of refusals 2, 4 (of nodes), 5 and 8, if it says so.
+// Kept: shaped as `shape_ok`, since both ask the root first. One function over what is asked then would be called with one test each.
 pub fn passes(sheet: &[u8]) -> bool
     ensures { result ≡ true → fine.Fine sheet.now }
 {

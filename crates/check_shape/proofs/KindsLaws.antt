@@ -3,14 +3,9 @@ use Prim.Native.Nat.{ℕ, ◌+◌, ◌*◌, ◌<◌, ◌≤◌}
 use mathlib.Core.Path.{◌≡◌}
 use native.Mathlib.Omega.{arith}
 use lib.Dec.{eqb}
-use lib.ListN.{get_or-eq_default}
 use borrow.Author.Tests.{le-leb, lt-leb, eq-eqb, ne_eqb}
 use Rattle.sheet.specs.Kinds.{int_kind, switch_kind, case_kind, range_kind, ref_kind}
-use Rattle.check_shape.specs.Kinds.{bound_words, bounds, bound, expression, case_value, switch_child, case_child, child_kind}
-
-pub bound-past : (k f : ℕ) → 130 ≤ bound_words * k + f → bound k f ≡ 0
-unfolding bound
-bound-past k f h = get_or-eq_default bounds 0 h
+use Rattle.check_shape.specs.Kinds.{expression, case_value, switch_child, case_child, child_kind}
 
 module _ (K b i k : ℕ) where
   pub switch-pairs : i ≤ 2 * K → switch_child K b i k ≡ expression k

@@ -1,3 +1,4 @@
 pub mod KindsLaws
 mod ReadLaws
 pub mod ShapeLaws
+pub mod RowLaws

@@ -1,6 +1,6 @@
 -- Laws of the shape on what the code has read, each in the form of one answer.
 use Prim.Native.Nat.{ℕ, ◌+◌, ◌-◌, ◌<◌, ◌≤◌}
-use mathlib.Core.Path.{◌≡◌, ap, ap₂, sym, ◌∙◌}
+use mathlib.Core.Path.{◌≡◌, refl, ap, ap₂, sym, ◌∙◌}
 use mathlib.Core.Bool.{Bool, true, false, ◌&&◌, ◌||◌}
 use mathlib.Core.List.{List}
 use native.Mathlib.Nat.{sub-zero}
@@ -12,6 +12,8 @@ use Rattle.sheet.specs.Sections.{node_count}
 use Rattle.sheet.specs.Node.{kind, span, count, field_a, field_b, field_c}
 use Rattle.sheet.specs.Kinds.{switch_kind, last_kind}
 use Rattle.check_shape.specs.Kinds.{least_count, most_count, most_a, most_b, most_c, bound, expression, child_kind}
+use Rattle.check_shape.specs.declared.Bounds.{Bounds}
+use Rattle.check_shape.specs.Rows.{holds}
 use Rattle.check_shape.specs.Shape.{within_bounds_by, self_by, child_words, root_by}
 use Rattle.check_shape.specs.Shape.{within_bounds, own_rule, child_fits, tiles, self_fits, self_ok, node_ok, root_ok}
 use Rattle.check_shape.proofs.ShapeLaws.{fits-end, self-end, self-some, node-self, node-fails, tiles_more, tiles-fails, tiles-done}
@@ -21,11 +23,18 @@ pub fits_below : {x y : ℕ} → Fits w32 y → x ≤ y → Fits w32 x
 fits_below f h = omega arith
 
 -- the tests of a node's bounds, as they were read from the table
-pub bounds-read : (k m a b c : ℕ) {l u x y z : ℕ}
-    → l ≡ bound k least_count → u ≡ bound k most_count → x ≡ bound k most_a → y ≡ bound k most_b → z ≡ bound k most_c
-    → (leb 1 k && leb k last_kind && leb l m && leb m u && leb a x && leb b y && leb c z) ≡ within_bounds k m a b c
-unfolding within_bounds_by
-bounds-read k m a b c hl hu hx hy hz = cc
+joined : (p l u x y z : Bool) → (p && (l && u && x && y && z)) ≡ (p && l && u && x && y && z)
+joined true l u x y z = refl
+joined false l u x y z = refl
+
+pub bounds-read : (k m a b c : ℕ) {t : Bounds} {r : Bool}
+    → t.least ≡ bound k least_count → t.most ≡ bound k most_count → t.a ≡ bound k most_a → t.b ≡ bound k most_b → t.c ≡ bound k most_c
+    → r ≡ holds t m a b c → (leb 1 k && leb k last_kind && r) ≡ within_bounds k m a b c
+unfolding within_bounds_by holds
+bounds-read k m a b c {t} hl hu hx hy hz h =
+    ap (λ r. leb 1 k && leb k last_kind && r) h
+    ∙ (joined (leb 1 k && leb k last_kind) (leb t.least m) (leb m t.most) (leb a t.a) (leb b t.b) (leb c t.c)
+    ∙ cc)
 
 -- the tests of a node's kind, span and fields
 pub own_read : (n k w m a b c total : ℕ) {x y : Bool} → x ≡ within_bounds k m a b c → y ≡ own_rule k m a b

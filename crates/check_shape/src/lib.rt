@@ -6,41 +6,119 @@ ghost use Rattle.sheet.specs.Sections.{node_count};
 ghost use Rattle.sheet.specs.Node as nodes;
 ghost use Rattle.check_shape.specs.Kinds as kinds;
 ghost use Rattle.check_shape.specs.Shape as shape;
+ghost use Rattle.check_shape.specs.Rows as rows;
 
 use sheet::kinds::{BOOL, CASE, CHAR, COALESCE, INT, LAST_KIND, MAP, RANGE, REF, STRING, SWITCH};
 use sheet::{Node, kind, node_count, span};
 
 // any 32-bit word
-const ANY: u32 = 0xffff_ffff;
+pub const ANY: u32 = 0xffff_ffff;
 
-// For each kind from 0 on: the least and the greatest count of children, and the greatest a, b and c. Kind 0 is no kind.
-pub static BOUNDS: [u32; 130] = [
-    1, 0, 0, 0, 0, 0, 0, 1, 0, 0, 0, 0, 0, 0, 0, 0, 0, ANY, ANY, 0, 0, 0, ANY, ANY, 0, 0, 0, ANY,
-    0, 0, 0, 0, ANY, 0, 0, 0, ANY, 0, 0, 0, 0, ANY, 0, 0, 0, 0, 0, ANY, 0, 0, 0, 0, 0, 0, 0, 0, 0,
-    ANY, ANY, ANY, 0, ANY, ANY, 0, 0, 0, ANY, ANY, 1, 65535, 2, 2, 3, 0, 0, 2, 2, 3, 0, 0, 1, ANY,
-    0, 0, 0, 1, ANY, 0, 0, 0, 1, ANY, 0, 0, 0, 1, ANY, ANY, ANY, ANY, 1, ANY, 0, 0, 0, 2, 2, 1,
-    ANY, 0, 0, 0, ANY, 0, 0, 0, 0, 0, 0, 0, 0, 0, 0, 0, 0, 0, 0, 0, 0, 0,
+// What a kind may hold: the least and the greatest count of children, and the greatest a, b and c.
+#[derive(Clone, Copy)]
+pub struct Bounds {
+    pub least: u32,
+    pub most: u32,
+    pub a: u32,
+    pub b: u32,
+    pub c: u32,
+}
+
+impl Bounds {
+    // The count and the fields of node `v` are within the bounds.
+    pub fn hold(self, v: Node) -> bool
+        ensures { result ≡ rows.holds self v.count v.a v.b v.c }
+    {
+        (self.least <= v.count)
+            & (v.count <= self.most)
+            & (v.a <= self.a)
+            & (v.b <= self.b)
+            & (v.c <= self.c)
+    }
+}
+
+// No children and no fields.
+const LEAF: Bounds = Bounds {
+    least: 0,
+    most: 0,
+    a: 0,
+    b: 0,
+    c: 0,
+};
+
+// One field, any word.
+const FIELD: Bounds = Bounds { a: ANY, ..LEAF };
+
+// Two fields, any words.
+const FIELDS: Bounds = Bounds { b: ANY, ..FIELD };
+
+// Any number of children.
+const LIST: Bounds = Bounds { most: ANY, ..LEAF };
+
+// One child or more.
+const SOME: Bounds = Bounds { least: 1, ..LIST };
+
+// A chain's step: two children, and two marks in a.
+const STEP: Bounds = Bounds {
+    least: 2,
+    most: 2,
+    a: 3,
+    ..LEAF
+};
+
+// The bounds of each kind from 0 on. Kind 0 is no kind.
+pub static BOUNDS: [Bounds; 26] = [
+    Bounds { least: 1, ..LEAF },
+    Bounds { a: 1, ..LEAF }, // Bool
+    LEAF, // Unit
+    FIELDS, // Int
+    FIELDS, // Float
+    FIELD, // Char
+    FIELD, // String
+    LIST, // Interpolated
+    LIST, // Array
+    FIELD, // Variable
+    LEAF, // This
+    Bounds { c: ANY, ..FIELDS }, // Property
+    Bounds { most: ANY, ..FIELD }, // MethodCall
+    Bounds {
+        most: ANY,
+        b: 1,
+        c: 65535,
+        ..FIELD
+    }, // FnCall
+    STEP, // Dot
+    STEP, // Index
+    SOME, // And
+    SOME, // Or
+    SOME, // Coalesce
+    Bounds {
+        a: ANY,
+        b: ANY,
+        c: ANY,
+        ..SOME
+    }, // Switch
+    SOME, // Case
+    Bounds {
+        a: 1,
+        b: ANY,
+        ..STEP
+    }, // Range
+    FIELD, // Ref
+    LEAF, // Map
+    LEAF, // block
+    LEAF, // DynamicConstant
 ];
 
-// The bounds of a kind, and which is which.
-const BOUND_WORDS: usize = 5;
-
-const LEAST_COUNT: u32 = 0;
-
-const MOST_COUNT: u32 = 1;
-
-const MOST_A: u32 = 2;
-
-const MOST_B: u32 = 3;
-
-const MOST_C: u32 = 4;
-
-// Bound `f` of kind `k`.
-fn bound(k: u32, f: u32) -> u32
-    ensures { result ≡ kinds.bound k f }
+// The bounds of kind `k`.
+fn bounds_of(k: u32) -> Bounds
+    ensures least { result.least ≡ kinds.bound k kinds.least_count }
+    ensures most { result.most ≡ kinds.bound k kinds.most_count }
+    ensures a { result.a ≡ kinds.bound k kinds.most_a }
+    ensures b { result.b ≡ kinds.bound k kinds.most_b }
+    ensures c { result.c ≡ kinds.bound k kinds.most_c }
 {
-    let at = BOUND_WORDS * (k as usize) + (f as usize);
-    BOUNDS.get(at).copied().unwrap_or(0)
+    BOUNDS.get(k as usize).copied().unwrap_or(LEAF)
 }
 
 // A Unicode scalar value.
@@ -110,18 +188,7 @@ fn within_bounds(v: Node) -> bool
     ensures { result ≡ shape.within_bounds v.kind v.count v.a v.b v.c }
 {
     let k = v.kind;
-    let least = bound(k, LEAST_COUNT);
-    let most = bound(k, MOST_COUNT);
-    let most_a = bound(k, MOST_A);
-    let most_b = bound(k, MOST_B);
-    let most_c = bound(k, MOST_C);
-    (1 <= k)
-        & (k <= LAST_KIND)
-        & (least <= v.count)
-        & (v.count <= most)
-        & (v.a <= most_a)
-        & (v.b <= most_b)
-        & (v.c <= most_c)
+    (1 <= k) & (k <= LAST_KIND) & bounds_of(k).hold(v)
 }
 
 // A Char is a scalar value, and a Switch has a subject, its blocks and its cases.
@@ -150,6 +217,7 @@ fn child_ok(sheet: &[u8], p: Node, e: u32, i: u32, j: u32) -> bool
 }
 
 // The children of node `n`, which was read as `v`, tile the nodes from behind it up to `e`.
+// Kept: not `Siblings`, which does not say where the last child ends, and that is asked at the end.
 fn tiles(sheet: &[u8], n: u32, v: Node, e: u32) -> bool
     requires p_value { (v.kind ≡ nodes.kind sheet.now n) × (v.count ≡ nodes.count sheet.now n) }
     requires a_value { (v.a ≡ nodes.field_a sheet.now n) × (v.b ≡ nodes.field_b sheet.now n) }

@@ -29,13 +29,13 @@ fn length_ok(sheet: &[u8]) -> bool
 }
 
 // The `k`-th byte after the text bytes is 0, unless their last word has ended.
-fn pad_ok(sheet: &[u8], k: usize) -> bool
-    requires { k < 4 }
+fn pad_ok(sheet: &[u8], k: u8) -> bool
     ensures { result ≡ sizes.pad_ok sheet.now k }
 {
     let b = byte_count(sheet) as usize;
-    let ended = 4 * ((b + 3) / 4) <= b + k;
-    let zero = byte(sheet, 4 * bytes_at(sheet) + b + k) == 0;
+    let past = usize::from(k);
+    let ended = 4 * ((b + 3) / 4) <= b + past;
+    let zero = byte(sheet, 4 * bytes_at(sheet) + b + past) == 0;
     ended | zero
 }
 

@@ -1,15 +1,14 @@
 -- Laws of the numbers of cases: cases whose numbers differ differ, each from each.
 use Prim.Native.Nat.{ℕ, zero, suc, ◌+◌, ◌-◌, ◌*◌, ◌<◌, ◌≤◌}
 use mathlib.Core.Path.{◌≡◌, refl, ap, ap₂, sym, ◌∙◌}
-use mathlib.Core.Bool.{Bool, true, false, ◌&&◌, not, true≢false}
+use mathlib.Core.Bool.{Bool, true, false, ◌&&◌, not}
 use mathlib.Core.List.{List}
 use native.Mathlib.Omega.{arith}
 use native.Mathlib.Decide.{ℕ_discrete, dec_lt}
 use lib.Dec.{eqb}
 use lib.ListN.{length, take, drop, get_or, set, length-take}
 use lib.Seq.{get_or-take, get_or-set_same, get_or-set_other}
-use Rattle.std.specs.List.{IsAnyAnswer}
-use borrow.Author.Tests.{eqb-false, le-leb, lt-leb, eq-eqb, ne_eqb}
+use borrow.Author.Tests.{le-leb, lt-leb, eq-eqb, ne_eqb}
 use Rattle.text.proofs.SameLaws.{same_false}
 use Rattle.words.specs.Word.{byte_of, word}
 use Rattle.sheet.specs.Kinds.{string_kind}
@@ -93,12 +92,6 @@ pub record Keys (s : List ℕ) (at i j : ℕ) (k : List ℕ) : Type 0 where
   pub here : j ≡ skip s i at
   pub kept : (a : ℕ) → a < i → get_or k a 0 ≡ value_key s (child (skip s a at))
   pub differ : (a b : ℕ) → a < b → b < i → value_key s (child (skip s a at)) ≡ value_key s (child (skip s b at)) → ⊥
-
--- what std's `contains` tells where it answers false
-pub not-among : (xs : List ℕ) (key : ℕ) (r : Bool) → IsAnyAnswer (λ y b. eqb y key ≡ b) xs r → r ≡ false
-    → (a : ℕ) → a < length xs → get_or xs a 0 ≡ key → ⊥
-not-among xs key true h e a l q = absurd (true≢false e)
-not-among xs key false h e a l q = eqb-false (get_or xs a 0) key (h a 0 (omega arith) l) q
 
 module _ (s : List ℕ) (at : ℕ) where
   pub keys-start : (k : List ℕ) → Keys s at 0 at k

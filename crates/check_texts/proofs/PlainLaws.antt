@@ -1,14 +1,14 @@
 -- Where all text bytes are ASCII, every text that lies within them is well-formed UTF-8.
 use Prim.Native.Nat.{ℕ, suc, ◌+◌, ◌*◌, ◌<◌, ◌≤◌}
 use mathlib.Core.Path.{◌≡◌, refl, ap, sym, subst, ◌∙◌}
-use mathlib.Core.Bool.{Bool, true, ◌&&◌, and-eq-true_iff}
+use mathlib.Core.Bool.{true}
 use mathlib.Core.List.{List, [], ◌∷◌}
 use native.Mathlib.Decide.{dec_lt}
 use native.Mathlib.Omega.{arith}
-use lib.Dec.{leb, ltb}
+use lib.Dec.{leb}
 use lib.ListN.{length, get_or, take, drop, length-take, get_or-eq_default}
 use lib.Seq.{get_or-take, get_or-drop}
-use borrow.Author.Tests.{ltb-true, le-leb, lt-leb}
+use borrow.Author.Tests.{le-leb, lt-leb}
 use Rattle.words.specs.Count.{all_below}
 use Rattle.words.proofs.CountLaws.{all_same}
 use Rattle.text.specs.Utf8.{utf8_rest, utf8}
@@ -18,7 +18,7 @@ use Rattle.sheet.specs.Text.{text_start, text_length, text}
 use Rattle.check_texts.specs.Texts.{texts_by, text_ok, texts_ok}
 use Rattle.check_texts.proofs.TextsLaws.{text-within, text-outside}
 use Rattle.check_texts.specs.Marks.{text_bytes}
-use Rattle.check_texts.specs.Plain.{PlainTo, four, sixteen, inside}
+use Rattle.check_texts.specs.Plain.{PlainTo, inside}
 
 -- bytes that are all ASCII are well-formed
 plain-utf8 : (l : List ℕ) → ((k : ℕ) → get_or l k 0 < 128) → utf8 l ≡ true
@@ -79,59 +79,7 @@ module _ (s q : List ℕ) (here : q ≡ text_bytes s) (p : PlainTo q (length q))
   unfolding texts_by
   plain-texts h = all_same (text_ok s) (inside s) (text_count s) (λ t l. plain-text t) ∙ h
 
--- a byte more, four and 16
-pub plain-one : (s : List ℕ) (i : ℕ) → PlainTo s i → get_or s i 0 < 128 → PlainTo s (i + 1)
-plain-one s i p h = record { below = λ k l. by k l (dec_lt k i) }
-  where
-    by : (k : ℕ) → k < i + 1 → Dec (k < i) → get_or s k 0 < 128
-    by k l (yes y) = p.below k y
-    by k l (no y) = let e : i ≡ k = omega arith in subst (λ j. get_or s j 0 < 128) e h
-
-plain-four : (s : List ℕ) (i : ℕ) → PlainTo s i → four s i ≡ true → PlainTo s (i + 4)
-unfolding four
-plain-four s i p h =
-    let x = ltb (get_or s i 0) 128 in
-    let y = ltb (get_or s (i + 1) 0) 128 in
-    let z = ltb (get_or s (i + 2) 0) 128 in
-    let w = ltb (get_or s (i + 3) 0) 128 in
-    let h₃ = (and-eq-true_iff (x && y && z) w).0 h in
-    let h₂ = (and-eq-true_iff (x && y) z).0 h₃.0 in
-    let h₁ = (and-eq-true_iff x y).0 h₂.0 in
-    let p₁ = plain-one s i p (ltb-true _ _ h₁.0) in
-    let p₂ = plain-one s (i + 1) p₁ (ltb-true _ _ h₁.1) in
-    let p₃ = plain-one s (i + 2) (record { below = λ k l. p₂.below k (omega arith) }) (ltb-true _ _ h₂.1) in
-    let p₄ = plain-one s (i + 3) (record { below = λ k l. p₃.below k (omega arith) }) (ltb-true _ _ h₃.1) in
-    record { below = λ k l. p₄.below k (omega arith) }
-
-pub plain-sixteen : (s : List ℕ) (i : ℕ) → PlainTo s i → sixteen s i ≡ true → PlainTo s (i + 16)
-unfolding sixteen
-plain-sixteen s i p h =
-    let h₃ = (and-eq-true_iff (four s i && four s (i + 4) && four s (i + 8)) (four s (i + 12))).0 h in
-    let h₂ = (and-eq-true_iff (four s i && four s (i + 4)) (four s (i + 8))).0 h₃.0 in
-    let h₁ = (and-eq-true_iff (four s i) (four s (i + 4))).0 h₂.0 in
-    let p₁ = plain-four s i p h₁.0 in
-    let p₂ = plain-four s (i + 4) p₁ h₁.1 in
-    let p₃ = plain-four s (i + 8) (record { below = λ k l. p₂.below k (omega arith) }) h₂.1 in
-    let p₄ = plain-four s (i + 12) (record { below = λ k l. p₃.below k (omega arith) }) h₃.1 in
-    record { below = λ k l. p₄.below k (omega arith) }
-
-pub plain-none : (s : List ℕ) → PlainTo s 0
-plain-none s = record { below = λ k l. absurd (omega arith) }
-
-pub plain-all : (s : List ℕ) (i : ℕ) → length s ≤ i → PlainTo s i → PlainTo s (length s)
-plain-all s i h p = record { below = λ k l. p.below k (omega arith) }
-
--- as the code reads them
-pub four-read : (s : List ℕ) (i : ℕ)
-    → (ltb (get_or s i 0) 128 && ltb (get_or s (i + 1) 0) 128 && ltb (get_or s (i + 2) 0) 128 && ltb (get_or s (i + 3) 0) 128) ≡ four s i
-unfolding four
-four-read s i = refl
-
-pub sixteen-read : (s : List ℕ) (i : ℕ) {x y z w : Bool} → x ≡ four s i → y ≡ four s (i + 4) → z ≡ four s (i + 8) → w ≡ four s (i + 12)
-    → (x && y && z && w) ≡ sixteen s i
-unfolding sixteen
-sixteen-read s i hx hy hz hw = cc
-
+-- as the code reads it
 pub inside-read : (s : List ℕ) (t : ℕ) {a l b : ℕ} → a ≡ text_start s t → l ≡ text_length s t → b ≡ byte_count s → leb (a + l) b ≡ inside s t
 unfolding inside
 inside-read s t ha hl hb = cc

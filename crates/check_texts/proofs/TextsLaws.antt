@@ -103,6 +103,9 @@ done-start s n e h = record {
   each = λ t l f. absurd (omega (arith, leb-true (text_start s t + text_length s t) (byte_count s) (all-at (inside s) (text_count s) t h l)));
 }
 
+pub done-late : {s : List ℕ} {limit late : ℕ} → Done s limit → limit ≤ late → Done s late
+done-late d h = record { each = λ t l f. d.each t l (omega arith) }
+
 pub done_more : {s : List ℕ} {base limit : ℕ} → Right s base limit (text_count s) → Done s limit → Done s base
 done_more {s} {base} {limit} p q = record { each = λ t l f. by t l f (dec_lt (text_start s t) limit) }
   where

@@ -24,12 +24,15 @@ pub record Reading (s : List ℕ) (i stop r : ℕ) : Type 0 where
   pub passed : Characters s i r
   pub stuck : r < stop → char_length (drop r s) ≡ 0
 
--- bytes of a block, and the number of blocks of a stretch
+-- bytes of a block, and the number of blocks and of bytes of a stretch
 abbrev pub block : ℕ
 block = 64
 
 abbrev pub blocks : ℕ
 blocks = 256
+
+abbrev pub stretch : ℕ
+stretch = 16384
 
 -- the two places that mark v of a block with end e stands for
 abbrev pub mark_from : ℕ → ℕ → ℕ

@@ -9,78 +9,24 @@ ghost use Rattle.std.specs.Prelude.{◌≡◌, true, ◌+◌, ◌*◌, ◌^◌, 
 ghost use Rattle.words.specs.Count.{all_below};
 ghost use Rattle.text.specs.Utf8.{utf8};
 ghost use Rattle.sheet.specs.Sections.{text_count};
+ghost use Rattle.sheet.specs.Text.{text_start, text_length};
 ghost use Rattle.check_texts.specs.Texts.{text_ok, texts_ok};
 ghost use Rattle.check_texts.specs.Plain as ascii;
-ghost use Rattle.check_texts.specs.Marks.{text_bytes, Characters, Reading, blocks, Mark, Holds, Marks, Due, AllDue};
+ghost use Rattle.check_texts.specs.Marks.{Characters, Reading, blocks, stretch, Mark, Holds, Marks, Due, AllDue};
+ghost use Rattle.check_texts.specs.Read.{Read};
 
-use sheet::{byte_count, bytes_at, text, text_count, text_length, text_start};
+use sheet::{byte_count, bytes_at, lengths_at, text, text_count};
 use text::char_len;
-use words::part;
-
-// Four bytes are ASCII.
-fn four(b: &[u8], i: usize) -> bool
-    requires { i + 4 ≤ length b.now }
-    ensures { result ≡ ascii.four b.now i }
-{
-    (b[i] < 0x80) & (b[i + 1] < 0x80) & (b[i + 2] < 0x80) & (b[i + 3] < 0x80)
-}
-
-// 16 bytes are ASCII.
-fn sixteen(b: &[u8], i: usize) -> bool
-    requires { i + 16 ≤ length b.now }
-    ensures { result ≡ ascii.sixteen b.now i }
-{
-    four(b, i) & four(b, i + 4) & four(b, i + 8) & four(b, i + 12)
-}
-
-// A number of bytes at the start that are ASCII, 16 at a time.
-// Kept: the loop counts its place, since what is behind the last 16 begins there; chunks of the slice would have it counted again.
-fn plain_start(b: &[u8]) -> usize
-    ensures { (result ≤ length b.now) × ascii.PlainTo b.now result }
-{
-    let n = b.len();
-    let mut i = 0;
-    while 16 <= n - i {
-        if sixteen(b, i) {
-            i += 16;
-        } else {
-            return i;
-        }
-    }
-    i
-}
+use words::{part, word_at};
 
 // All bytes are ASCII, if it says so.
 fn plain(b: &[u8]) -> bool
     ensures { result ≡ true → ascii.PlainTo b.now (length b.now) }
 {
-    for i in plain_start(b)..b.len() {
-        if 0x7F < b[i] {
-            return false;
-        }
-    }
-    true
+    b.is_ascii()
 }
 
-// Text `t` lies within the text bytes.
-fn inside(sheet: &[u8], t: u32) -> bool
-    ensures { result ≡ ascii.inside sheet.now t }
-{
-    let start = text_start(sheet, t) as usize;
-    let len = text_length(sheet, t) as usize;
-    let bytes = byte_count(sheet) as usize;
-    start + len <= bytes
-}
-
-// Every text lies within the text bytes.
-fn all_inside(sheet: &[u8]) -> bool
-    ensures { result ≡ all_below (text_count sheet.now) (ascii.inside sheet.now) }
-{
-    let count = text_count(sheet);
-    (0..count).all(|t| inside(sheet, t))
-}
-
-// bytes of a block, and the number of blocks of a stretch
+// bytes of a block, and the number of blocks and of bytes of a stretch
 const BLOCK: usize = 64;
 
 const BLOCKS: usize = 256;
@@ -89,6 +35,7 @@ const STRETCH: usize = 16384;
 
 // Reads characters from `i` on until `stop` is reached or passed, and answers where that is; before `stop` only where no character
 // starts.
+// Kept: `while`, since a step is as long as the character that is read; that an iterator would give the places takes a type of its own.
 fn run(sheet: &[u8], i: usize, stop: usize) -> usize
     requires { (i ≤ length sheet.now) × (stop ≤ length sheet.now) }
     ensures { Reading sheet.now i stop result }
@@ -157,6 +104,8 @@ fn far_from(b: &[u8], e: usize, f: Far) -> Far
 
 // The mark of a run from `p` to `far`, for the block with end `e`. Only a start at `e` or at one of the next three bytes is kept:
 // other runs have the mark 0.
+// Kept: one word for both places, and 0 for none. The marks of a stretch lie on the stack, where there is no heap: 1 KiB as words, and
+// 6 KiB as `Option<Far>`.
 fn mark(e: usize, p: usize, far: usize) -> u32
     ensures { Mark e p far result }
 {
@@ -227,40 +176,9 @@ fn wide(v: u32) -> usize
     v as usize
 }
 
-// There are whole characters from `start` to `end`, if it says so. The text is read up to the end of its first block, and goes on by the
-// block's mark.
-fn whole(b: &[u8], start: usize, end: usize, first: usize, marks: &[u32; BLOCKS]) -> bool
-    requires start_le_end { (start ≤ end) × (end ≤ length b.now) × (first < 2 ^ 33) }
-    requires marks { Marks b.now first 0 marks.now }
-    ensures { result ≡ true → Characters b.now start end }
-{
-    if start < first {
-        return false;
-    }
-    let k = (start - first) / BLOCK;
-    if BLOCKS <= k {
-        return false;
-    }
-    let e = first + (k + 1) * BLOCK;
-    let i = run(b, start, e.min(end));
-    leaps(b, e, wide(marks[k]), i, end)
-}
-
-// Text `t` is right, if it says so.
-fn known_ok(sheet: &[u8], b: &[u8], t: u32, base: usize, marks: &[u32; BLOCKS]) -> bool
-    requires b_value { (b.now ≡ text_bytes sheet.now) × (base < 2 ^ 33) }
-    requires marks { Marks b.now base 0 marks.now }
-    ensures { result ≡ true → text_ok sheet.now t ≡ true }
-{
-    let start = text_start(sheet, t) as usize;
-    let end = start + (text_length(sheet, t) as usize);
-    if b.len() < end {
-        return false;
-    }
-    whole(b, start, end, base, marks)
-}
-
 // Whether `q` is well-formed.
+// Kept: not std's `str::from_utf8`, which answers for a whole string. What is between two marks is read by the same `run`, which stops at
+// the place where no character starts.
 fn read_whole(q: &[u8]) -> bool
     ensures { result ≡ utf8 q.now }
 {
@@ -268,127 +186,210 @@ fn read_whole(q: &[u8]) -> bool
     run(q, 0, n) == n
 }
 
-// Text `t` is in its place and well-formed: all of it is read.
-fn read_ok(sheet: &[u8], t: u32) -> bool
-    ensures { result ≡ text_ok sheet.now t }
-{
-    if inside(sheet, t) {
-        return read_whole(text(sheet, t));
-    }
-    false
+// The texts of a sheet: how many there are, where their starts and their lengths stand, in words, and their bytes. All this is read once,
+// before the loops over the texts.
+#[derive(Clone, Copy)]
+struct Texts<'a> {
+    sheet: &'a [u8],
+    count: u32,
+    starts: usize,
+    lengths: usize,
+    size: usize,
+    bytes: &'a [u8],
+    ghost read: { Read sheet.now count starts lengths size bytes.now },
 }
 
-// Text `t` is right, if it starts from `base` on and before `limit`.
-fn due_ok(sheet: &[u8], b: &[u8], t: u32, base: usize, limit: usize, marks: &[u32; BLOCKS]) -> bool
-    requires b_value { (b.now ≡ text_bytes sheet.now) × (base < 2 ^ 33) }
-    requires marks { Marks b.now base 0 marks.now }
-    ensures { Due sheet.now t base limit result }
-{
-    let start = text_start(sheet, t) as usize;
-    if start < base {
-        return true;
-    }
-    if limit <= start {
-        return true;
-    }
-    if known_ok(sheet, b, t, base, marks) {
-        return true;
-    }
-    read_ok(sheet, t)
-}
-
-// Every text that starts from `base` on and before `limit` is right.
-fn stretch_ok(sheet: &[u8], b: &[u8], base: usize, limit: usize, marks: &[u32; BLOCKS]) -> bool
-    requires b_value { (b.now ≡ text_bytes sheet.now) × (base < 2 ^ 33) }
-    requires marks { Marks b.now base 0 marks.now }
-    ensures { AllDue sheet.now base limit result }
-{
-    for t in 0..text_count(sheet) {
-        if !due_ok(sheet, b, t, base, limit, marks) {
-            return false;
+impl<'a> Texts<'a> {
+    fn of(sheet: &'a [u8]) -> Texts<'a>
+        ensures { result.sheet.now ≡ sheet.now }
+    {
+        let count = text_count(sheet);
+        let lengths = lengths_at(sheet);
+        let size = byte_count(sheet) as usize;
+        Texts {
+            sheet,
+            count,
+            starts: lengths - (count as usize),
+            lengths,
+            size,
+            bytes: part(sheet, 4 * bytes_at(sheet), size),
         }
     }
-    true
+
+    // Where text `t` starts among the text bytes, and its length.
+    // Kept: a function for each. It is one read under the name that its definition has.
+    fn start(&self, t: u32) -> u32
+        ensures { result ≡ text_start self.now.sheet.now t }
+    {
+        word_at(self.sheet, self.starts + (t as usize))
+    }
+
+    fn length(&self, t: u32) -> u32
+        ensures { result ≡ text_length self.now.sheet.now t }
+    {
+        word_at(self.sheet, self.lengths + (t as usize))
+    }
+
+    // Text `t` lies within the text bytes.
+    fn inside(&self, t: u32) -> bool
+        ensures { result ≡ ascii.inside self.now.sheet.now t }
+    {
+        let start = self.start(t) as usize;
+        let len = self.length(t) as usize;
+        start + len <= self.size
+    }
+
+    // Every text lies within the text bytes.
+    // Kept: `all_inside` and `each_ok` are one call of `all` each; a function over the test would be that call under another name.
+    fn all_inside(&self) -> bool
+        ensures { result ≡ all_below (text_count self.now.sheet.now) (ascii.inside self.now.sheet.now) }
+    {
+        (0..self.count).all(|t| self.inside(t))
+    }
+
+    // Text `t` is in its place and well-formed: all of it is read.
+    fn read_ok(&self, t: u32) -> bool
+        ensures { result ≡ text_ok self.now.sheet.now t }
+    {
+        if self.inside(t) {
+            return read_whole(text(self.sheet, t));
+        }
+        false
+    }
+
+    // Nothing of refusal 3, by marks: stretch by stretch, from the last to the first.
+    fn marked_ok(&self) -> bool
+        requires { all_below (text_count self.now.sheet.now) (ascii.inside self.now.sheet.now) ≡ true }
+        ensures { result ≡ texts_ok self.now.sheet.now }
+    {
+        let mut marks: [u32; BLOCKS] = [0; BLOCKS];
+        let b = self.bytes;
+        let mut f = far_end(b);
+        for k in (0..self.size / STRETCH + 1).rev() {
+            let base = k * STRETCH;
+            f = keep(b, base, f, &mut marks);
+            let stretch = Stretch {
+                texts: *self,
+                base,
+                marks: &marks,
+            };
+            if !stretch.all_ok() {
+                return false;
+            }
+        }
+        true
+    }
+
+    // Nothing of refusal 3, text by text.
+    fn each_ok(&self) -> bool
+        ensures { result ≡ texts_ok self.now.sheet.now }
+    {
+        (0..self.count).all(|t| self.read_ok(t))
+    }
+
+    // The lengths of all texts together.
+    fn total(&self) -> u64 {
+        let mut sum: u64 = 0;
+        for t in 0..self.count {
+            sum += u64::from(self.length(t));
+        }
+        sum
+    }
+
+    // Nothing of refusal 3, where each text lies within the text bytes.
+    fn inside_ok(&self) -> bool
+        requires { all_below (text_count self.now.sheet.now) (ascii.inside self.now.sheet.now) ≡ true }
+        ensures { result ≡ texts_ok self.now.sheet.now }
+    {
+        if plain(self.bytes) {
+            return true;
+        }
+        if self.total() <= 8 * (self.size as u64) {
+            return self.each_ok();
+        }
+        self.marked_ok()
+    }
 }
 
-// Where the stretch starts that ends at `limit`, of `n` bytes.
-fn below(limit: usize, n: usize) -> usize
-    requires { 0 < limit }
-    ensures { result < limit }
-{
-    if n < limit {
-        return n / STRETCH * STRETCH;
-    }
-    if limit < STRETCH {
-        return 0;
-    }
-    limit - STRETCH
+// The stretch of the text bytes that starts at `base`, with the marks of its blocks.
+#[derive(Clone, Copy)]
+struct Stretch<'a> {
+    texts: Texts<'a>,
+    base: usize,
+    marks: &'a [u32; BLOCKS],
+    ghost near: { base < 2 ^ 33 },
+    ghost marked: { Marks texts.bytes.now base 0 marks.now },
 }
 
-// Nothing of refusal 3, by marks: stretch by stretch, from the last to the first.
-// Kept: the loop goes by ends of stretches. The last stretch is cut short by the bytes' number, which no iterator over them is plainer at.
-fn marked_ok(sheet: &[u8], b: &[u8]) -> bool
-    requires b_value { b.now ≡ text_bytes sheet.now }
-    requires sheet_value { all_below (text_count sheet.now) (ascii.inside sheet.now) ≡ true }
-    ensures { result ≡ texts_ok sheet.now }
-{
-    let mut marks: [u32; BLOCKS] = [0; BLOCKS];
-    let n = byte_count(sheet) as usize;
-    let mut f = far_end(b);
-    let mut limit = n + 1;
-    while 0 < limit {
-        let base = below(limit, n);
-        f = keep(b, base, f, &mut marks);
-        if stretch_ok(sheet, b, base, limit, &marks) {
-            limit = base;
-        } else {
+impl<'a> Stretch<'a> {
+    // There are whole characters from `start` to `end`, if it says so. The text is read up to the end of its first block, and goes on by
+    // the block's mark.
+    fn whole(&self, start: usize, end: usize) -> bool
+        requires { (start ≤ end) × (end ≤ length self.now.texts.bytes.now) }
+        ensures { result ≡ true → Characters self.now.texts.bytes.now start end }
+    {
+        let b = self.texts.bytes;
+        if start < self.base {
             return false;
         }
+        let k = (start - self.base) / BLOCK;
+        if BLOCKS <= k {
+            return false;
+        }
+        let e = self.base + (k + 1) * BLOCK;
+        let i = run(b, start, e.min(end));
+        leaps(b, e, wide(self.marks[k]), i, end)
     }
-    true
-}
 
-// Nothing of refusal 3, text by text.
-fn each_ok(sheet: &[u8]) -> bool
-    ensures { result ≡ texts_ok sheet.now }
-{
-    let n = text_count(sheet);
-    (0..n).all(|t| read_ok(sheet, t))
-}
+    // Text `t` is right, if it says so.
+    fn known_ok(&self, t: u32) -> bool
+        ensures { result ≡ true → text_ok self.now.texts.sheet.now t ≡ true }
+    {
+        let start = self.texts.start(t) as usize;
+        let end = start + (self.texts.length(t) as usize);
+        if self.texts.bytes.len() < end {
+            return false;
+        }
+        self.whole(start, end)
+    }
 
-// The lengths of all texts together.
-fn total(sheet: &[u8]) -> u64 {
-    let mut sum: u64 = 0;
-    for t in 0..text_count(sheet) {
-        sum += u64::from(text_length(sheet, t));
+    // Text `t` is right, if it starts in the stretch.
+    fn due_ok(&self, t: u32) -> bool
+        ensures { Due self.now.texts.sheet.now t self.now.base (self.now.base + stretch) result }
+    {
+        let start = self.texts.start(t) as usize;
+        if start < self.base {
+            return true;
+        }
+        if self.base + STRETCH <= start {
+            return true;
+        }
+        if self.known_ok(t) {
+            return true;
+        }
+        self.texts.read_ok(t)
     }
-    sum
-}
 
-// Nothing of refusal 3, where each text lies within the text bytes `b`.
-fn inside_ok(sheet: &[u8], b: &[u8]) -> bool
-    requires b_value { b.now ≡ text_bytes sheet.now }
-    requires sheet_value { all_below (text_count sheet.now) (ascii.inside sheet.now) ≡ true }
-    ensures { result ≡ texts_ok sheet.now }
-{
-    if plain(b) {
-        return true;
+    // Every text that starts in the stretch is right.
+    fn all_ok(&self) -> bool
+        ensures { AllDue self.now.texts.sheet.now self.now.base (self.now.base + stretch) result }
+    {
+        for t in 0..self.texts.count {
+            if !self.due_ok(t) {
+                return false;
+            }
+        }
+        true
     }
-    if total(sheet) <= 8 * (byte_count(sheet) as u64) {
-        return each_ok(sheet);
-    }
-    marked_ok(sheet, b)
 }
 
 // Nothing of refusal 3.
 pub fn texts_ok(sheet: &[u8]) -> bool
     ensures { result ≡ texts_ok sheet.now }
 {
-    if all_inside(sheet) {
-        return inside_ok(
-            sheet,
-            part(sheet, 4 * bytes_at(sheet), byte_count(sheet) as usize),
-        );
+    let texts = Texts::of(sheet);
+    if texts.all_inside() {
+        return texts.inside_ok();
     }
     false
 }

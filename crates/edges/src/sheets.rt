@@ -1,5 +1,4 @@
-// The sheets of the edges. Node n has position n + 1. Each function writes a whole sheet to the front of what is lent, and answers its
-// node count.
+// The sheets of the edges. Node n has position n + 1.
 ghost use Rattle.std.specs.Prelude.{◌+◌, ◌*◌, ◌<◌, ◌≤◌, ◌≡◌};
 ghost use Rattle.edges.specs.Sums as sums;
 
@@ -7,9 +6,16 @@ use sheet::kinds::{
     ARRAY, COALESCE, DOT, FN_CALL, INT, INTERPOLATED, METHOD_CALL, RANGE, SWITCH, THIS, UNIT,
 };
 use sheet::limits::{HEADER_WORDS, NODE_WORDS};
+use words::word_at;
 
 // words of a node and of its position
 const PLACED: usize = NODE_WORDS + 1;
+
+// No sheet of the edges has more of anything, nor more ranges.
+// Kept: the bound is asked of the private functions below, and `Made::put` cuts to it. A type for it would be taken apart in each.
+const MOST: u32 = 100000;
+
+const MOST_RANGES: u32 = 100;
 
 // Word `i` of the sheet; nothing past its end.
 fn put(sheet: &mut [u8], i: usize, w: u32) {
@@ -60,17 +66,18 @@ fn put_frame(sheet: &mut [u8], nodes: u32, texts: u32, bytes: u32) {
     put_positions(sheet, nodes);
 }
 
-// A sheet with one text of `bytes` bytes, 1 to 4, which are the word `text`.
-fn put_text(sheet: &mut [u8], nodes: u32, bytes: u32, text: u32) {
+// A sheet with one text, of 1 to 4 bytes.
+fn put_text(sheet: &mut [u8], nodes: u32, text: &str) {
+    let bytes = text.len().min(4) as u32;
     put_frame(sheet, nodes, 1, bytes);
     let at = HEADER_WORDS + PLACED * nodes as usize;
     put(sheet, at, 0);
     put(sheet, at + 1, bytes);
-    put(sheet, at + 2, text);
+    put(sheet, at + 2, word_at(text.as_bytes(), 0));
 }
 
 // The bytes of a sheet of so many nodes and texts of up to four bytes.
-pub fn size(nodes: u32, texts: u32) -> usize
+fn size(nodes: u32, texts: u32) -> usize
     ensures { result ≡ sums.sheet_bytes nodes texts }
 {
     4 * (HEADER_WORDS + PLACED * nodes as usize + 3 * texts as usize)
@@ -86,7 +93,7 @@ fn put_nested(sheet: &mut [u8], last: u32)
 }
 
 // Arrays of one element within one another, and a Unit: a tree of depth `last` + 1.
-pub fn deep(sheet: &mut [u8], last: u32) -> u32
+fn deep(sheet: &mut [u8], last: u32) -> u32
     requires { last ≤ 100000 }
     ensures { result ≡ last + 1 }
 {
@@ -97,7 +104,7 @@ pub fn deep(sheet: &mut [u8], last: u32) -> u32
 }
 
 // An array of `n` Units.
-pub fn array(sheet: &mut [u8], n: u32) -> u32
+fn array(sheet: &mut [u8], n: u32) -> u32
     requires { n ≤ 100000 }
     ensures { result ≡ n + 1 }
 {
@@ -108,7 +115,7 @@ pub fn array(sheet: &mut [u8], n: u32) -> u32
 }
 
 // A Coalesce of `units` Units and then `empty` empty interpolations. Each emits 1 or 2, and all but the last 2 more.
-pub fn coalesce(sheet: &mut [u8], units: u32, empty: u32) -> u32
+fn coalesce(sheet: &mut [u8], units: u32, empty: u32) -> u32
     requires units_bound { units ≤ 100000 }
     requires empty_bound { empty ≤ 100000 }
     ensures { result ≡ units + empty + 1 }
@@ -121,23 +128,23 @@ pub fn coalesce(sheet: &mut [u8], units: u32, empty: u32) -> u32
     nodes
 }
 
-// A call of a function with `n` Units. The name's bytes are the word `name`.
-pub fn call(sheet: &mut [u8], bytes: u32, name: u32, n: u32) -> u32
+// A call of a function with `n` Units.
+fn call(sheet: &mut [u8], name: &str, n: u32) -> u32
     requires { n ≤ 100000 }
     ensures { result ≡ n + 1 }
 {
-    put_text(sheet, n + 1, bytes, name);
+    put_text(sheet, n + 1, name);
     put_node(sheet, 0, FN_CALL, n + 1, n, 0, 0);
     put_leaves(sheet, 1, n + 1, UNIT);
     n + 1
 }
 
 // A call of a method of `this` with `n` Units.
-pub fn method(sheet: &mut [u8], bytes: u32, name: u32, n: u32) -> u32
+fn method(sheet: &mut [u8], name: &str, n: u32) -> u32
     requires { n ≤ 100000 }
     ensures { result ≡ n + 3 }
 {
-    put_text(sheet, n + 3, bytes, name);
+    put_text(sheet, n + 3, name);
     put_node(sheet, 0, DOT, n + 3, 2, 0, 0);
     put_node(sheet, 1, THIS, 1, 0, 0, 0);
     put_node(sheet, 2, METHOD_CALL, n + 1, n, 0, 0);
@@ -165,7 +172,7 @@ fn put_ranges(sheet: &mut [u8], n: u32)
 }
 
 // A switch on Unit with one block, whose guard is `this`, and `n` ranges of it within one another.
-pub fn ranges(sheet: &mut [u8], n: u32) -> u32
+fn ranges(sheet: &mut [u8], n: u32) -> u32
     requires { n ≤ 100 }
     ensures { result ≡ 3 * n + 4 }
 {
@@ -177,4 +184,32 @@ pub fn ranges(sheet: &mut [u8], n: u32) -> u32
     put_node(sheet, 3, UNIT, 1, 0, 0, 0);
     put_ranges(sheet, n);
     nodes
+}
+
+// What a sheet of the edges holds.
+#[derive(Clone, Copy)]
+pub(crate) enum Made {
+    Deep(u32),
+    Array(u32),
+    Coalesce { units: u32, empty: u32 },
+    Call { name: &'static str, n: u32 },
+    Method { name: &'static str, n: u32 },
+    Ranges(u32),
+}
+
+impl Made {
+    // Writes the sheet to the front of `sheet`, and answers how many bytes it has.
+    // Kept: sheets are data in a table of edges; a closure for each would be a type of its own for each row.
+    pub(crate) fn put(self, sheet: &mut [u8]) -> usize {
+        match self {
+            Made::Deep(last) => size(deep(sheet, last.min(MOST)), 0),
+            Made::Array(n) => size(array(sheet, n.min(MOST)), 0),
+            Made::Coalesce { units, empty } => {
+                size(coalesce(sheet, units.min(MOST), empty.min(MOST)), 0)
+            }
+            Made::Call { name, n } => size(call(sheet, name, n.min(MOST)), 1),
+            Made::Method { name, n } => size(method(sheet, name, n.min(MOST)), 1),
+            Made::Ranges(n) => size(ranges(sheet, n.min(MOST_RANGES)), 0),
+        }
+    }
 }

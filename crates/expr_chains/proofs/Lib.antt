@@ -17,5 +17,4 @@ mod SteadyLaws
 mod TestLaws
 mod VariableLaws
 pub mod WalkLaws
-mod WayLaws
 pub mod WordsLaws

@@ -43,16 +43,15 @@ pub struct Far {
     pub operands: u32,
 }
 
-// Texts `a` and `b` have the same bytes.
-fn same_text(sheet: &[u8], a: u32, b: u32) -> bool
+// Texts `a` and `b` have the same bytes. One text is not read twice.
+// Kept: the bytes stand in the sheet, so no derive on a type around the two numbers compares them.
+pub fn same_text(sheet: &[u8], a: u32, b: u32) -> bool
     ensures { result ≡ sames.same_text sheet.now a b }
 {
-    if a == b {
-        return true;
-    }
-    same_bytes(sheet::text(sheet, a), sheet::text(sheet, b))
+    a == b || same_bytes(sheet::text(sheet, a), sheet::text(sheet, b))
 }
 
+#[tactic(auto, unfolding(crate::specs::Same::same_index))]
 // The steps of the links that say `p` and `q`, both indexes, are the same.
 fn same_index(sheet: &[u8], p: Read, q: Read) -> bool
     ensures { let sheet = sheet.now in (Reads sheet p.link p → Reads sheet q.link q → result ≡ sames.same_index sheet p.link q.link) }
@@ -63,6 +62,7 @@ fn same_index(sheet: &[u8], p: Read, q: Read) -> bool
     false
 }
 
+#[tactic(auto, unfolding(crate::specs::Same::same_property))]
 // The properties `x` and `y` are the same.
 fn same_property(sheet: &[u8], x: u32, y: u32) -> bool
     ensures { result ≡ sames.same_property sheet.now x y }
@@ -76,6 +76,7 @@ fn same_property(sheet: &[u8], x: u32, y: u32) -> bool
     false
 }
 
+#[tactic(auto, unfolding(crate::specs::Same::same_method))]
 // The methods `x` and `y` are the same.
 fn same_method(sheet: &[u8], x: u32, y: u32) -> bool
     ensures { result ≡ sames.same_method sheet.now x y }
@@ -86,9 +87,12 @@ fn same_method(sheet: &[u8], x: u32, y: u32) -> bool
     false
 }
 
+#[tactic(auto, unfolding(crate::specs::Same::same_as, expr_rules::specs::Inverse::step_rule_from))]
 // The steps of the links that say `p` and `q`, both by one rule, are the same.
+// Kept: what is compared differs from rule to rule; a closure for each would be chosen by this same match.
 fn same_as(sheet: &[u8], p: Read, q: Read) -> bool
-    ensures { let sheet = sheet.now in (Reads sheet p.link p → Reads sheet q.link q → result ≡ sames.same_as (answers.step_rule_from p.rule) sheet p.link q.link) }
+    ensures { let sheet = sheet.now in
+        (Reads sheet p.link p → Reads sheet q.link q → result ≡ sames.same_as (answers.step_rule_from p.rule) sheet p.link q.link) }
 {
     match p.rule {
         StepRule::Index => same_index(sheet, p, q),
@@ -126,6 +130,7 @@ fn same_steps(sheet: &[u8], i: u32, j: u32) -> bool
     others.next().is_none()
 }
 
+#[tactic(auto, unfolding(crate::specs::Same::same_variable))]
 // The variables `v` and `w` are the same root, where `local` tells whether `v` is a local.
 fn same_variable(sheet: &[u8], v: u32, w: u32, local: bool) -> bool
     ensures { local ≡ sames.is_local sheet.now v → result ≡ sames.same_variable sheet.now v w }
@@ -139,34 +144,20 @@ fn same_variable(sheet: &[u8], v: u32, w: u32, local: bool) -> bool
     false
 }
 
-// The kind of a root: Variable, This, or 0 for any other.
-// Kept: two roots are compared by it as numbers. An Option would have to be taken apart again at each test.
-fn root_kind(k: u32) -> u32
-    ensures { result ≡ sames.root_kind k }
-{
-    if (k == VARIABLE) | (k == THIS) {
-        return k;
-    }
-    0
-}
-
+#[tactic(auto, unfolding(crate::specs::Same::same_root, crate::specs::Same::same_root_as, crate::specs::Same::root_kind))]
 // The nodes `v` and `w` are the same root, where `local` tells whether `v` is a local.
 fn same_root(sheet: &[u8], v: u32, w: u32, local: bool) -> bool
     ensures { RootLocal sheet.now v local → result ≡ sames.same_root sheet.now v w }
 {
-    let k = root_kind(kind(sheet, v));
-    if k != root_kind(kind(sheet, w)) {
-        return false;
+    let k = kind(sheet, w);
+    match kind(sheet, v) {
+        VARIABLE => k == VARIABLE && same_variable(sheet, v, w, local),
+        THIS => (k == THIS) & (position(sheet, v) == position(sheet, w)),
+        _ => (k != VARIABLE) & (k != THIS),
     }
-    if k == VARIABLE {
-        return same_variable(sheet, v, w, local);
-    }
-    if k == THIS {
-        return position(sheet, v) == position(sheet, w);
-    }
-    true
 }
 
+#[tactic(auto, unfolding(crate::specs::Same::same_nodes))]
 // The chains of nodes `i` and `j` are the same, where `local` tells whether the root of `i` is a local.
 pub fn same_chain(sheet: &[u8], i: u32, j: u32, local: bool) -> bool
     ensures { RootLocal sheet.now (nodes.child i) local → result ≡ sames.same_nodes sheet.now i j }
@@ -177,6 +168,7 @@ pub fn same_chain(sheet: &[u8], i: u32, j: u32, local: bool) -> bool
     false
 }
 
+#[tactic(auto, unfolding(crate::specs::Variable::variable_by))]
 // A variable's root, by the local that was found.
 fn variable_root(found: Option<u32>, name: u32, pos: u32) -> Root
     ensures { result ≡ roots.variable_by found name pos }
@@ -189,7 +181,8 @@ fn variable_root(found: Option<u32>, name: u32, pos: u32) -> Root
 
 // Node `v` as a root, with its name at place `name`, where `found` is the local that a variable is.
 pub fn root_of(sheet: &[u8], v: u32, name: u32, found: Option<u32>) -> Root
-    ensures { let sheet = sheet.now in ((nodes.kind sheet v ≡ variable_kind → found ≡ founds.found (locals.resolve sheet (texts.text sheet (nodes.field_a sheet v))))
+    ensures { let sheet = sheet.now in
+        ((nodes.kind sheet v ≡ variable_kind → found ≡ founds.found (locals.resolve sheet (texts.text sheet (nodes.field_a sheet v))))
         → result ≡ chains.root_with sheet v name) }
 {
     let k = kind(sheet, v);
@@ -217,6 +210,7 @@ pub fn width(sheet: &[u8], p: Read) -> u32
 }
 
 // How many links the chain of node `j` has, and how many operands their steps take.
+// Kept: no part of `far_of`, which would ask of each method whether it lowers where a chain is only written.
 fn count_links(sheet: &[u8], j: u32) -> Counts
     ensures { Counted sheet.now j result }
 {
@@ -236,14 +230,8 @@ pub fn link_count(sheet: &[u8], j: u32) -> u32
     links_of(sheet, j).count() as u32
 }
 
-// A link has a step by rule `r`.
-fn has_step(r: StepRule) -> bool
-    ensures { result ≡ flatten.has_step (answers.step_rule_from r) }
-{
-    !matches!(r, StepRule::Nothing)
-}
-
 // The step of a link lowers, which says `p`.
+// Kept: only a method is asked anything; closures would be chosen by this same match.
 fn step_lowers(sheet: &[u8], p: Read) -> bool
     ensures { let sheet = sheet.now in ((c : ℕ) → Reads sheet c p → result ≡ lowering.step_lowers sheet c) }
 {
@@ -263,7 +251,7 @@ pub fn far_of(sheet: &[u8], j: u32) -> Far
     let mut lowers = true;
     let mut operands: u32 = 0;
     for p in links_of(sheet, j) {
-        flattens &= has_step(p.rule);
+        flattens &= p.rule != StepRule::Nothing;
         lowers &= step_lowers(sheet, p);
         operands += width(sheet, p);
     }
@@ -287,19 +275,19 @@ pub fn chain_of(sheet: &[u8], j: u32, root: Root, first: u32) -> Chain
     }
 }
 
-// The step of link `c`, which says `p`, with `n` operands before it and its names at these places.
-pub fn step_of(sheet: &[u8], c: u32, p: Read, n: u32, name: u32, getter: u32, setter: u32) -> Step
-    ensures { let sheet = sheet.now in (Reads sheet c p → result ≡ chains.step_with (flatten.step_rule sheet c) sheet c n name getter setter) }
+// The step of the link that says `p`, with `n` operands before it and its names at these places.
+pub fn step_of(sheet: &[u8], p: Read, n: u32, name: u32, getter: u32, setter: u32) -> Step
+    ensures { let sheet = sheet.now in
+        (Reads sheet p.link p → result ≡ chains.step_with (flatten.step_rule sheet p.link) sheet p.link n name getter setter) }
 {
-    let r = p.rule;
     let x = p.with;
     let flags = p.flag;
-    match r {
+    match p.rule {
         StepRule::Index => Step::Index {
             operand: n,
             flags,
             pos: start_of(sheet, x),
-            bracket: position(sheet, c),
+            bracket: position(sheet, p.link),
         },
         StepRule::Property => Step::Property {
             name,
@@ -324,7 +312,9 @@ pub fn step_of(sheet: &[u8], c: u32, p: Read, n: u32, name: u32, getter: u32, se
     }
 }
 
+#[tactic(auto, unfolding(bytecode::specs::Chain::step_words))]
 // The words of a step.
+// Kept: no `From`. It would have to stand beside the type in crate bytecode, below `lowering`, whose STEP_WIDTH it would write as a number.
 pub fn step_words(x: Step) -> [u32; STEP_WIDTH]
     ensures { result ≡ step_words x }
 {
@@ -352,12 +342,13 @@ pub fn step_words(x: Step) -> [u32; STEP_WIDTH]
     }
 }
 
+#[tactic(auto, unfolding(bytecode::specs::Chain::chain_words, bytecode::specs::Chain::root_words))]
 // The words of a chain.
+// Kept: no `From`, as `step_words`.
 pub fn chain_words(c: Chain) -> [u32; CHAIN_WIDTH]
     ensures { result ≡ chain_words c }
 {
-    let root = c.root;
-    match root {
+    match c.root {
         Root::Local { slot, name } => [0, slot, name, c.first, c.steps, c.operands],
         Root::Named { name, pos } => [1, name, pos, c.first, c.steps, c.operands],
         Root::This { pos } => [2, 0, pos, c.first, c.steps, c.operands],

@@ -20,7 +20,7 @@ use Rattle.expr_count.specs.declared.links.Link.{Link}
 use Rattle.expr_count.specs.declared.links.Link.TheVariants.{Lowers, Fails, Nowhere}
 use Rattle.expr_count.specs.Tally.{instructions, nothing, plus, taken_back, capped}
 use Rattle.expr_count.proofs.TallyLaws.{nothing-plus, capped-capped}
-use Rattle.expr_count.specs.Plan.{array, plan}
+use Rattle.expr_count.specs.Plan.{operands, array, plan}
 use Rattle.expr_count.proofs.PlanLaws.{array-few, array-many}
 use Rattle.std.specs.Ordering.{ord_min}
 use Rattle.expr_count.specs.contracts.links.DistanceOrd.TheImpl as Order
@@ -49,14 +49,8 @@ use Rattle.expr_count.proofs.CodeLaws.{
 
 -- ---- plans
 
--- plans are equal by their parts
-pub parts-path : {gap n m from at : ℕ} {a b : Tally} → n ≡ m → from ≡ at → a ≡ b → Parts gap n from a ≡ Parts gap m at b
-parts-path {gap = gap} p q r = λ i. Parts gap (p i) (q i) (r i)
-
-pub array_parts :
-    (s : List ℕ) (j : ℕ) {n from : ℕ} {rest : Tally} → n ≡ count s j → n ≤ max_elements → from ≡ child j → rest ≡ instructions 1
-    → Parts 1 n from rest ≡ array s j
-array_parts s j e h f g = parts-path e f g ∙ array-few s j (omega arith)
+pub array-lowers : (s : List ℕ) (j : ℕ) {n : ℕ} → n ≡ count s j → n ≤ max_elements → operands s j 1 1 ≡ array s j
+array-lowers s j e h = array-few s j (omega arith)
 
 pub array-stays : (s : List ℕ) (j : ℕ) {n : ℕ} → n ≡ count s j → max_elements < n → Parts 0 0 0 (instructions 1) ≡ array s j
 array-stays s j e h = array-many s j (omega arith)

@@ -1,11 +1,11 @@
 -- Laws of receivers as a count has them: one for each way through the code, and by the definition's locals a call has its own plan.
-use Prim.Native.Nat.{ℕ, zero, suc, ◌*◌, ◌<◌, ◌≤◌}
-use mathlib.Core.Path.{◌≡◌, refl, sym, ap, ◌∙◌}
+use Prim.Native.Nat.{ℕ, ◌*◌, ◌<◌, ◌≤◌}
+use mathlib.Core.Path.{◌≡◌, refl, ap, ◌∙◌}
 use mathlib.Core.Bool.{Bool, true, false, ◌&&◌, not}
 use mathlib.Core.Option.{Option, none, some}
-use mathlib.Core.List.{List, [], ◌∷◌}
+use mathlib.Core.List.{List}
 use lib.Dec.{eqb, leb}
-use lib.ListN.{length, get_or}
+use lib.ListN.{get_or}
 use borrow.Author.Tests.{eq-eqb, ne_eqb, lt-ltb, le-ltb}
 use native.Mathlib.Omega.{arith}
 use Rattle.sheet.specs.Sections.{node_count}
@@ -20,6 +20,7 @@ use Rattle.std.specs.Bool.{then_some}
 use Rattle.expr_slots.specs.Found.{found}
 use Rattle.expr_rules.specs.declared.calls.First as Firsts
 use Rattle.expr_rules.specs.Answers.{first_of, receiver_node}
+use Rattle.expr_count.specs.declared.locals.Locals.TheVariants.{Sought, All, Nobody}
 use Rattle.expr_count.specs.Locals.{is_local, told_by, answer, variable_by, first_by, receiver_by}
 use Rattle.expr_count.specs.Plan.{call_by}
 
@@ -64,35 +65,16 @@ local_is s v = by (resolve s (text s (field_a s v))) refl
     by none e = rw (e, is_local)
     by (some n) e = rw (e, is_local)
 
--- by what is told
+-- by the words that are told
 module _ (x s : List ℕ) (v : ℕ) where
-  pub told_none : length x ≡ 0 → is_local s v ≡ answer x s v
+  pub told-each : {m : ℕ} → m ≡ node_count s → v < m → not (eqb (get_or x (2 * v) 0) 0) ≡ told_by x s v
   unfolding told_by
-  told_none h = sym (ap (λ n. told_by n x s v) h)
-
-  pub told-all : length x ≡ 1 → not (eqb (get_or x 0 0) 0) ≡ answer x s v
-  unfolding told_by
-  told-all h = sym (ap (λ n. told_by n x s v) h)
-
-  each : (n : ℕ) → (n ≡ 0 → ⊥) → (n ≡ 1 → ⊥) → v < node_count s → not (eqb (get_or x (2 * v) 0) 0) ≡ told_by n x s v
-  unfolding told_by
-  each zero g h i = absurd (g refl)
-  each (suc zero) g h i = absurd (h refl)
-  each (suc (suc n)) g h i = rw (lt-ltb v (node_count s) i, told_by)
-
-  pub told-each : {m : ℕ} → (length x ≡ 0 → ⊥) → (length x ≡ 1 → ⊥) → m ≡ node_count s → v < m
-      → not (eqb (get_or x (2 * v) 0) 0) ≡ answer x s v
-  told-each g h m-is i = each (length x) g h (omega arith)
-
-  outside : (n : ℕ) → (n ≡ 0 → ⊥) → (n ≡ 1 → ⊥) → node_count s ≤ v → is_local s v ≡ told_by n x s v
-  unfolding told_by
-  outside zero g h i = absurd (g refl)
-  outside (suc zero) g h i = absurd (h refl)
-  outside (suc (suc n)) g h i = rw (le-ltb v (node_count s) i, told_by)
+  told-each m-is i = rw (lt-ltb v (node_count s) (omega arith), told_by)
 
   -- what is no node is looked up
-  pub told-outside : {m : ℕ} → (length x ≡ 0 → ⊥) → (length x ≡ 1 → ⊥) → m ≡ node_count s → m ≤ v → is_local s v ≡ answer x s v
-  told-outside g h m-is i = outside (length x) g h (omega arith)
+  pub told-outside : {m : ℕ} → m ≡ node_count s → m ≤ v → is_local s v ≡ told_by x s v
+  unfolding told_by
+  told-outside m-is i = rw (le-ltb v (node_count s) (omega arith), told_by)
 
 module _ (here : ℕ → Bool) (s : List ℕ) (j : ℕ) where
   pub variable-local : here j ≡ true → Firsts.TheVariants.Local 0 ≡ first_of (variable_by here j)
@@ -107,9 +89,9 @@ module _ (here : ℕ → Bool) (s : List ℕ) (j : ℕ) where
   unfolding first_by first_of
   first-this h = rw (eq-eqb (kind s j) 10 h, first_by)
 
-  pub first-variable : (kind s j ≡ 10 → ⊥) → kind s j ≡ 9 → first_by here s j ≡ variable_by here j
+  pub first-variable : kind s j ≡ 9 → first_by here s j ≡ variable_by here j
   unfolding first_by
-  first-variable h i = rw (ne_eqb (kind s j) 10 h, eq-eqb (kind s j) 9 i, first_by)
+  first-variable h = rw (ne_eqb (kind s j) 10 (λ e. omega (arith, e, h)), eq-eqb (kind s j) 9 h, first_by)
 
   pub first-value : (kind s j ≡ 10 → ⊥) → (kind s j ≡ 9 → ⊥) → Firsts.TheVariants.Value ≡ first_of (first_by here s j)
   unfolding first_by first_of
@@ -143,18 +125,16 @@ module _ (here : ℕ → Bool) (s : List ℕ) (j : ℕ) where
       by true h = rw h (λ e. cc)
       by false h = rw h (λ e. receiver-none h)
 
--- ---- where nothing is told
+-- ---- what is told without words
 
-pub asked-answer : (x s : List ℕ) → length x ≡ 0 → answer x s ≡ is_local s
-asked-answer x s h = λ i v. sym (told_none x s v h) i
+pub sought-answer : (s : List ℕ) → answer Sought s ≡ is_local s
+unfolding answer
+sought-answer s = refl
 
--- ---- where one word is told
+pub all-locals : (s : List ℕ) → answer All s ≡ (λ v. true)
+unfolding answer
+all-locals s = refl
 
-all-answer : (x s : List ℕ) (b : Bool) → length x ≡ 1 → not (eqb (get_or x 0 0) 0) ≡ b → answer x s ≡ (λ v. b)
-all-answer x s b h e = λ i v. (sym (told-all x s v h) ∙ e) i
-
-pub all-locals : (s : List ℕ) → answer (1 ∷ []) s ≡ (λ v. true)
-all-locals s = all-answer (1 ∷ []) s true refl refl
-
-pub no-locals : (s : List ℕ) → answer (0 ∷ []) s ≡ (λ v. false)
-no-locals s = all-answer (0 ∷ []) s false refl refl
+pub no-locals : (s : List ℕ) → answer Nobody s ≡ (λ v. false)
+unfolding answer
+no-locals s = refl

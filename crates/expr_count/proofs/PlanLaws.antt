@@ -1,12 +1,13 @@
 -- Laws of plans and links, in the shapes of the code: what is counted, by the code's name of the rule.
 use Prim.Native.Nat.{ℕ, zero, suc, ◌≤◌, ◌<◌}
 use mathlib.Core.Path.{◌≡◌, refl, sym, ap, ◌∙◌}
-use mathlib.Core.Bool.{Bool, true, false, ◌||◌, false≢true}
+use mathlib.Core.Bool.{Bool, true, false, ◌&&◌, not, false≢true}
+use mir.Val.{bool_byte}
 use mathlib.Core.List.{List}
 use native.Mathlib.Omega.{arith}
 use lib.Dec.{eqb}
 use lib.ListN.{get_or}
-use borrow.Author.Tests.{eq-eqb, ne_eqb, le-leb, lt-leb}
+use borrow.Author.Tests.{ne_eqb, le-leb, lt-leb}
 use Rattle.sheet.specs.Node.{kind, count, child}
 use Rattle.lowering.specs.Limits.{max_elements}
 use Rattle.lowering.specs.Call.{call_rule}
@@ -88,31 +89,24 @@ module _ (s : List ℕ) (j : ℕ) where
   unfolding link_by
   method-fails h = rw (h, link_by)
 
-  pub root-named : (eqb (kind s j) 9 || eqb (kind s j) 10) ≡ true → 0 ≡ temporary s j
+  -- a root that is no variable and not `this`, as the code has it
+  pub root-lowered : bool_byte (not (eqb (kind s j) 9) && not (eqb (kind s j) 10)) ≡ temporary s j
   unfolding temporary
-  root-named h = by (eqb (kind s j) 9) (eqb (kind s j) 10) refl refl h
+  root-lowered = by (eqb (kind s j) 9) (eqb (kind s j) 10) refl refl
     where
-      by : (a b : Bool) → eqb (kind s j) 9 ≡ a → eqb (kind s j) 10 ≡ b → (eqb (kind s j) 9 || eqb (kind s j) 10) ≡ true → 0 ≡ temporary s j
-      by true b e f h = rw (e, temporary)
-      by false true e f h = rw (e, f, temporary)
-      by false false e f h = cc
+      by : (a b : Bool) → eqb (kind s j) 9 ≡ a → eqb (kind s j) 10 ≡ b → bool_byte (not (eqb (kind s j) 9) && not (eqb (kind s j) 10)) ≡ temporary s j
+      by true b e f = rw (e, temporary)
+      by false true e f = rw (e, f, temporary)
+      by false false e f = rw (e, f, temporary)
 
-  pub root-other : (eqb (kind s j) 9 || eqb (kind s j) 10) ≡ false → 1 ≡ temporary s j
-  unfolding temporary
-  root-other h = by (eqb (kind s j) 9) (eqb (kind s j) 10) refl refl h
-    where
-      by : (a b : Bool) → eqb (kind s j) 9 ≡ a → eqb (kind s j) 10 ≡ b → (eqb (kind s j) 9 || eqb (kind s j) 10) ≡ false → 1 ≡ temporary s j
-      by true b e f h = cc
-      by false true e f h = cc
-      by false false e f h = rw (e, f, temporary)
-
-pub rotates-none : (others : ℕ) → others ≡ 0 → 0 ≡ rotates others
+-- as the code has it
+pub rotates-by : (others : ℕ) → bool_byte (not (eqb others 0)) ≡ rotates others
 unfolding rotates
-rotates-none others h = rw (eq-eqb others 0 h, rotates)
-
-pub rotates-some : (others : ℕ) → (others ≡ 0 → ⊥) → 1 ≡ rotates others
-unfolding rotates
-rotates-some others h = rw (ne_eqb others 0 h, rotates)
+rotates-by others = by (eqb others 0) refl
+  where
+    by : (t : Bool) → eqb others 0 ≡ t → bool_byte (not (eqb others 0)) ≡ rotates others
+    by true e = rw (e, rotates)
+    by false e = rw (e, rotates)
 
 -- at most one
 pub rotates-least : (others : ℕ) → rotates others ≤ 1

@@ -1,26 +1,30 @@
 -- Which Variables are locals, as a count is told, and what the receiver of a call is then. A count asks of a Variable only whether it is a
 -- local, and not in which slot.
-use Rattle.std.specs.Prelude.{ℕ, zero, suc, ◌*◌, Bool, true, false, ◌&&◌, not, List, leb, ltb, eqb, length, get_or}
+use Rattle.std.specs.Prelude.{ℕ, ◌*◌, Bool, true, false, ◌&&◌, not, List, leb, ltb, eqb, get_or}
 use Rattle.std.proofs.Math.Option.{none, some}
 use Rattle.sheet.specs.Sections.{node_count}
 use Rattle.sheet.specs.Node.{kind, field_a, field_b, field_c, count, child}
 use Rattle.sheet.specs.Text.{text}
 use Rattle.lowering.specs.Kinds.{variable_kind, this_kind}
 use Rattle.lowering.specs.Slots.{resolve}
+use Rattle.expr_count.specs.declared.locals.Locals.{Locals}
+use Rattle.expr_count.specs.declared.locals.Locals.TheVariants.{Sought, All, Nobody, Told}
 use Rattle.lowering.specs.Call.{First, local, named, this, value}
 
 -- Variable v is a local, by the definition
 unfoldable pub is_local : List ℕ → ℕ → Bool
 is_local s v = elim (resolve s (text s (field_a s v))) [ some slot ↦ true | none ↦ false ]
 
--- as n words x tell: none, and the definition says it; one for all Variables; or word 2 v for Variable v, where it is a node
-unfoldable pub told_by : ℕ → List ℕ → List ℕ → ℕ → Bool
-told_by zero x s v = is_local s v
-told_by (suc zero) x s v = not (eqb (get_or x 0 0) 0)
-told_by (suc (suc n)) x s v = elim (ltb v (node_count s)) [ true ↦ not (eqb (get_or x (2 * v) 0) 0) | false ↦ is_local s v ]
+-- as the words x tell: word 2 v for Variable v, where it is a node; else the definition says it
+unfoldable pub told_by : List ℕ → List ℕ → ℕ → Bool
+told_by x s v = elim (ltb v (node_count s)) [ true ↦ not (eqb (get_or x (2 * v) 0) 0) | false ↦ is_local s v ]
 
-abbrev pub answer : List ℕ → List ℕ → ℕ → Bool
-answer x s v = told_by (length x) x s v
+-- as it is told: the definition says it; all are; none is; or by words
+unfoldable pub answer : Locals → List ℕ → ℕ → Bool
+answer Sought s v = is_local s v
+answer All s v = true
+answer Nobody s v = false
+answer (Told x) s v = told_by x.now s v
 
 -- what node v is as a first argument, where `here` says of a Variable whether it is a local; its slot is not told
 unfoldable pub variable_by : (ℕ → Bool) → ℕ → First

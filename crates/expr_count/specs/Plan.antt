@@ -21,6 +21,14 @@ alone t = Parts 0 0 0 t
 abbrev pub one : Plan
 one = alone (instructions 1)
 
+-- n siblings from node j on, each with `gap` instructions behind it, and `more` instructions
+abbrev pub parts : ℕ → ℕ → ℕ → ℕ → Plan
+parts gap n j more = Parts gap n j (instructions more)
+
+-- all operands of node j, each with `gap` instructions behind it, and `more` instructions
+abbrev pub operands : List ℕ → ℕ → ℕ → ℕ → Plan
+operands s j gap more = parts gap (count s j) (child j) more
+
 -- a kind whose nodes are one instruction without operands: Bool, Unit, the constants, Variable, This
 unfoldable pub is_leaf : ℕ → Bool
 is_leaf k = (leb 1 k && leb k 6) || eqb k 9 || eqb k 10
@@ -28,27 +36,27 @@ is_leaf k = (leb 1 k && leb k 6) || eqb k 9 || eqb k 10
 -- CheckSize behind each element; MakeArray
 unfoldable pub array : List ℕ → ℕ → Plan
 array s j =
-    elim (leb (count s j) max_elements) [ true ↦ Parts 1 (count s j) (child j) (instructions 1) | false ↦ one ]
+    elim (leb (count s j) max_elements) [ true ↦ operands s j 1 1 | false ↦ one ]
 
 -- InterpolateAppend behind each segment; InterpolateStart and InterpolateEnd
 unfoldable pub interpolated : List ℕ → ℕ → Plan
-interpolated s j = Parts 1 (count s j) (child j) (instructions 2)
+interpolated s j = operands s j 1 2
 
 -- a jump behind each operand; the decision's three
 unfoldable pub short_circuit : List ℕ → ℕ → Plan
-short_circuit s j = Parts 1 (count s j) (child j) (instructions 3)
+short_circuit s j = operands s j 1 3
 
 -- the argument; MakeFnPtr
 unfoldable pub make_fn_ptr : ℕ → Plan
-make_fn_ptr j = Parts 0 1 (child j) (instructions 1)
+make_fn_ptr j = parts 0 1 (child j) 1
 
 -- all arguments; CallFnPtr or Call
 unfoldable pub all_args : List ℕ → ℕ → Plan
-all_args s j = Parts 0 (count s j) (child j) (instructions 1)
+all_args s j = operands s j 0 1
 
 -- the arguments after the first, and n instructions
 unfoldable pub other_args : List ℕ → ℕ → ℕ → Plan
-other_args s j n = Parts 0 (count s j - 1) (next s (child j)) (instructions n)
+other_args s j n = parts 0 (count s j - 1) (next s (child j)) n
 
 -- 1 where the receiver's value is moved under others
 unfoldable pub rotates : ℕ → ℕ

@@ -10,6 +10,8 @@ use sheet::kinds::{DOT, PROPERTY, THIS, VARIABLE};
 use sheet::{child, count, kind};
 
 // The `n` operands from node `from` on of a link's step; a method that does not lower; no step at all.
+// Kept: not a Result of operands. A chain goes by the least of all its links (`grade`), whichever came first, so neither of the two others
+// ends a walk as an error by `?` would; each use is one match on the three.
 #[derive(Clone, Copy)]
 pub enum Link {
     Lowers { n: u32, from: u32 },
@@ -75,11 +77,12 @@ pub(crate) fn reach(sheet: &[u8], j: u32) -> Distance
 }
 
 // 1 for a root that is lowered.
+// Kept: a number. It is how many siblings `siblings` goes through, and is added to what a chain takes.
 pub fn temporary(sheet: &[u8], v: u32) -> u32
     ensures { result ≡ linked.temporary sheet.now v }
 {
     let k = kind(sheet, v);
-    if (k == VARIABLE) | (k == THIS) { 0 } else { 1 }
+    u32::from((k != VARIABLE) & (k != THIS))
 }
 
 // Chain `j` is one Property of a variable or of `this`: one instruction, and nothing to be counted.

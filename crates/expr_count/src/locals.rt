@@ -9,61 +9,88 @@ use scratch::get;
 use sheet::kinds::{THIS, VARIABLE};
 use sheet::{field_a, kind, node_count};
 
+// Which Variables are locals: each name is looked up; all are; none is; or word 2 `v` tells it of Variable `v`, where `v` is a node, and 0
+// is no local.
+// Kept: an enum. Tried, a type parameter with its own answer, which proves; but `told` of expr_emit chooses by how many locals a sheet has,
+// so the same match would stand there, before a copy of the whole count for each.
+#[derive(Clone, Copy)]
+pub enum Locals<'a> {
+    Sought,
+    All,
+    Nobody,
+    Told(&'a [u32]),
+}
+
+// A count of a sheet's nodes, by what is known of the locals.
+#[derive(Clone, Copy)]
+pub struct Count<'a> {
+    pub sheet: &'a [u8],
+    pub told: Locals<'a>,
+}
+
 // Variable `v` is a local: its name is looked up.
-fn asked(sheet: &[u8], v: u32) -> bool
+fn sought(sheet: &[u8], v: u32) -> bool
     ensures { result ≡ locals.is_local sheet.now v }
 {
     expr_slots::resolve(sheet, field_a(sheet, v)).is_some()
 }
 
-// Variable `v` is a local, as it is told: by no word, and its name is looked up; by one word for all; by word 2 `v`, where `v` is a node. 0
-// is no local.
-fn is_local(sheet: &[u8], told: &[u32], v: u32) -> bool
-    ensures { result ≡ locals.answer told.now sheet.now v }
+// Variable `v` is a local, as the words tell. What is no node is looked up.
+fn told_by(sheet: &[u8], words: &[u32], v: u32) -> bool
+    ensures { result ≡ locals.told_by words.now sheet.now v }
 {
-    let n = told.len();
-    if n == 0 {
-        return asked(sheet, v);
-    }
-    if n == 1 {
-        return !(get(told, 0) == 0);
-    }
     if v < node_count(sheet) {
-        return !(get(told, 2 * (v as usize)) == 0);
+        return get(words, 2 * (v as usize)) != 0;
     }
-    asked(sheet, v)
+    sought(sheet, v)
 }
 
-// Variable `v` as a first argument.
-fn variable_by(sheet: &[u8], told: &[u32], v: u32) -> First
-    ensures { let sheet = sheet.now in result ≡ first_of (locals.variable_by (locals.answer told.now sheet) v) }
-{
-    if is_local(sheet, told, v) {
-        return First::Local(0);
+impl<'a> Count<'a> {
+    // Variable `v` is a local.
+    fn is_local(&self, v: u32) -> bool
+        ensures { let it = self.now in result ≡ locals.answer it.told it.sheet.now v }
+    {
+        match self.told {
+            Locals::Sought => sought(self.sheet, v),
+            Locals::All => true,
+            Locals::Nobody => false,
+            Locals::Told(words) => told_by(self.sheet, words, v),
+        }
     }
-    First::Named
-}
 
-// Node `v` as a first argument.
-fn first_by(sheet: &[u8], told: &[u32], v: u32) -> First
-    ensures { let sheet = sheet.now in result ≡ first_of (locals.first_by (locals.answer told.now sheet) sheet v) }
-{
-    let k = kind(sheet, v);
-    if k == THIS {
-        return First::This;
+    // Variable `v` as a first argument.
+    // Kept: 0 for the slot, which no count reads. A type without it would be a second `First`, for which the same is said again.
+    fn variable(&self, v: u32) -> First
+        ensures { let it = self.now in result ≡ first_of (locals.variable_by (locals.answer it.told it.sheet.now) v) }
+    {
+        if self.is_local(v) {
+            return First::Local(0);
+        }
+        First::Named
     }
-    if k == VARIABLE {
-        return variable_by(sheet, told, v);
-    }
-    First::Value
-}
 
-// The receiver of call `j`. A call with an operator, with capture or with no argument has none.
-pub fn receiver_by(sheet: &[u8], told: &[u32], j: u32) -> First
-    ensures { let sheet = sheet.now in result ≡ first_of (locals.receiver_by (locals.answer told.now sheet) sheet j) }
-{
-    match receiver_node(sheet, j) {
-        Some(v) => first_by(sheet, told, v),
-        None => First::Value,
+    // Node `v` as a first argument.
+    fn first(&self, v: u32) -> First
+        ensures { let it = self.now in
+            let sheet = it.sheet.now in
+            result ≡ first_of (locals.first_by (locals.answer it.told sheet) sheet v) }
+    {
+        match kind(self.sheet, v) {
+            THIS => First::This,
+            VARIABLE => self.variable(v),
+            _ => First::Value,
+        }
+    }
+
+    // The receiver of call `j`. A call with an operator, with capture or with no argument has none.
+    pub fn receiver(&self, j: u32) -> First
+        ensures { let it = self.now in
+            let sheet = it.sheet.now in
+            result ≡ first_of (locals.receiver_by (locals.answer it.told sheet) sheet j) }
+    {
+        match receiver_node(self.sheet, j) {
+            Some(v) => self.first(v),
+            None => First::Value,
+        }
     }
 }

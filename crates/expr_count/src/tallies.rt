@@ -7,6 +7,7 @@ ghost use Rattle.expr_count.specs.Tally as tallies;
 const CAP: u64 = 16777216;
 
 // How many instructions a lowering gives, how many it emits (those that are taken back included), and whether it reaches an `eval`.
+// Kept: no ghost fact that a sum is at most `cap`. `instructions` gives any word.
 #[derive(Clone, Copy)]
 pub struct Tally {
     pub len: u64,

@@ -1,8 +1,9 @@
 -- What stands behind a sibling, case by case.
-use Rattle.std.proofs.Common.{◌≡◌, ℕ, zero, suc, ◌<◌, List, sym, refl, subst, arith}
+use Rattle.std.proofs.Common.{◌≡◌, ℕ, zero, suc, Bool, List, sym, subst}
+use Rattle.std.specs.Int.{from_bool}
 use Rattle.scratch_store.proofs.GrowingLaws.{growing-emit}
 use Rattle.bytecode.specs.declared.Op.{Op}
-use Rattle.bytecode.specs.declared.Op.TheVariants.{CheckSize, InterpolateAppend, SkipIfNotUnit, Pop, JumpIfFalse, JumpIfTrue}
+use Rattle.bytecode.specs.declared.Op.TheVariants.{CheckSize, InterpolateAppend, SkipIfNotUnit, Pop}
 use Rattle.lowering.specs.ShortCircuit.{jump_on}
 use Rattle.expr_model.specs.Made.{emit}
 use Rattle.scratch.specs.declared.Layout.{Layout}
@@ -14,16 +15,6 @@ use Rattle.expr_emit.specs.declared.after.After.{After}
 use Rattle.expr_emit.specs.declared.after.After.TheVariants.{Nothing, CheckPlace, Append, Decide, Unless}
 use Rattle.expr_emit.proofs.Doing.{does_at}
 use Rattle.expr_emit.specs.Siblings.{after_one}
-
-pub jump-on-false : (stop to : ℕ) → stop ≡ 0 → JumpIfFalse to ≡ jump_on stop to
-unfolding jump_on
-jump-on-false zero to h = refl
-jump-on-false (suc n) to h = absurd (omega arith)
-
-pub jump-on-true : (stop to : ℕ) → 0 < stop → JumpIfTrue to ≡ jump_on stop to
-unfolding jump_on
-jump-on-true zero to h = absurd (omega arith)
-jump-on-true (suc n) to h = refl
 
 jump-narrow : (stop to : ℕ) → Narrow (jump_on stop to)
 unfolding jump_on
@@ -39,12 +30,12 @@ module _ {s : List ℕ} {l : Layout} {xs ys : List ℕ} {st r : State} (by : Aft
   unfolding after_one
   after-append e d = does_at (λ (b : After). after_one b i pos) (sym e) d
 
-  pub after-decide : (stop to : ℕ) (op : Op) → by ≡ Decide stop to → op ≡ jump_on stop to → (Narrow op → Does s l xs st ys r (emit op pos 0))
+  pub after-decide : (stop : Bool) (to : ℕ) (op : Op) → by ≡ Decide stop to → op ≡ jump_on (from_bool stop) to → (Narrow op → Does s l xs st ys r (emit op pos 0))
       → Does s l xs st ys r (after_one by i pos)
   unfolding after_one
   after-decide stop to op e o d =
       let jump = subst (λ (k : Op). Narrow k → Does s l xs st ys r (emit k pos 0)) o d in
-      does_at (λ (b : After). after_one b i pos) (sym e) (jump (jump-narrow stop to))
+      does_at (λ (b : After). after_one b i pos) (sym e) (jump (jump-narrow (from_bool stop) to))
 
   pub after-unless : (to : ℕ) → by ≡ Unless to → Does s l xs st ys r (after_one (Unless to) i pos) → Does s l xs st ys r (after_one by i pos)
   after-unless to e d = does_at (λ (b : After). after_one b i pos) (sym e) d

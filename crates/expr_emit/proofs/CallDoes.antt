@@ -1,5 +1,5 @@
 -- Calls, step by step: what comes before the arguments and behind them.
-use Rattle.std.proofs.Common.{◌≡◌, ℕ, suc, ◌+◌, ◌-◌, ◌<◌, true, false, eqb, List, sym, refl, ap, ◌∙◌, subst, arith, eq-eqb, ne_eqb}
+use Rattle.std.proofs.Common.{◌≡◌, ℕ, suc, ◌+◌, ◌-◌, ◌<◌, true, false, eqb, List, sym, refl, ap, ◌∙◌, subst, arith, eq-eqb, ne_eqb, ◌⊎◌, inl, inr}
 use Rattle.lowering.proofs.FirstLaws.{first-within}
 use Rattle.scratch_store.proofs.GrowingLaws.{growing-emit}
 use Rattle.sheet.specs.Node.{count, field_a, field_b, field_c, position, child}
@@ -158,13 +158,10 @@ module _ {s : List ℕ} {l : Layout} {xs ys : List ℕ} {st r : State} (w : Way)
   unfolding closed
   close-value e d = close_at Value e d
 
-  pub close-eval : w ≡ Eval → Does s l xs st ys r (residual j) → Facts w s j → Does s l xs st ys r (closed w s j at)
+  pub close-kept : (w ≡ Eval) ⊎ (w ≡ Kept) → Does s l xs st ys r (residual j) → Facts w s j → Does s l xs st ys r (closed w s j at)
   unfolding closed
-  close-eval e d = close_at Eval e (λ f. record { holds = λ a h room. d.holds (defeated a) (defeated-holds h) room })
-
-  pub close-kept : w ≡ Kept → Does s l xs st ys r (residual j) → Facts w s j → Does s l xs st ys r (closed w s j at)
-  unfolding closed
-  close-kept e d = close_at Kept e (λ f. d)
+  close-kept (inl e) d = close_at Eval e (λ f. record { holds = λ a h room. d.holds (defeated a) (defeated-holds h) room })
+  close-kept (inr e) d = close_at Kept e (λ f. d)
 
 -- ---- what comes before them
 
@@ -177,29 +174,17 @@ module _ {s : List ℕ} {l : Layout} {xs : List ℕ} {st : State} (w : Way) (j :
   open_at : (v : Way) → w ≡ v → Opens s l xs st xs st 0 j v → Opens s l xs st xs st 0 j w
   open_at v e d = subst (Opens s l xs st xs st 0 j) (sym e) d
 
-  pub open-make : w ≡ FnPtr → Opens s l xs st xs st 0 j w
+  -- nothing comes before the arguments
+  pub open-none :
+      (w ≡ FnPtr) ⊎ ((w ≡ FnPtrCall) ⊎ (((slot : ℕ) × (w ≡ Local slot)) ⊎ ((w ≡ Value) ⊎ ((w ≡ Eval) ⊎ (w ≡ Kept)))))
+      → Opens s l xs st xs st 0 j w
   unfolding opened opened_at
-  open-make e = open_at FnPtr e ((λ f. does-none xs st), (λ f a h. refl))
-
-  pub open-pointer : w ≡ FnPtrCall → Opens s l xs st xs st 0 j w
-  unfolding opened opened_at
-  open-pointer e = open_at FnPtrCall e ((λ f. does-none xs st), (λ f a h. refl))
-
-  pub open-local : (slot : ℕ) → w ≡ Local slot → Opens s l xs st xs st 0 j w
-  unfolding opened opened_at
-  open-local slot e = open_at (Local slot) e ((λ f. does-none xs st), (λ f a h. refl))
-
-  pub open-value : w ≡ Value → Opens s l xs st xs st 0 j w
-  unfolding opened opened_at
-  open-value e = open_at Value e ((λ f. does-none xs st), (λ f a h. refl))
-
-  pub open-eval : w ≡ Eval → Opens s l xs st xs st 0 j w
-  unfolding opened opened_at
-  open-eval e = open_at Eval e ((λ f. does-none xs st), (λ f a h. refl))
-
-  pub open_kept : w ≡ Kept → Opens s l xs st xs st 0 j w
-  unfolding opened opened_at
-  open_kept e = open_at Kept e ((λ f. does-none xs st), (λ f a h. refl))
+  open-none (inl e) = open_at FnPtr e ((λ f. does-none xs st), (λ f a h. refl))
+  open-none (inr (inl e)) = open_at FnPtrCall e ((λ f. does-none xs st), (λ f a h. refl))
+  open-none (inr (inr (inl e))) = open_at (Local e.0) e.1 ((λ f. does-none xs st), (λ f a h. refl))
+  open-none (inr (inr (inr (inl e)))) = open_at Value e ((λ f. does-none xs st), (λ f a h. refl))
+  open-none (inr (inr (inr (inr (inl e))))) = open_at Eval e ((λ f. does-none xs st), (λ f a h. refl))
+  open-none (inr (inr (inr (inr (inr e))))) = open_at Kept e ((λ f. does-none xs st), (λ f a h. refl))
 
 module _ {s : List ℕ} {l : Layout} {xs ys : List ℕ} {st r : State} (w : Way) (j : ℕ) where
   pub open-this : (pos : ℕ) → w ≡ This → pos ≡ position s (child j) → Does s l xs st ys r (emit LoadThis pos 0) → Opens s l xs st ys r 0 j w

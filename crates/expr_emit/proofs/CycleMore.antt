@@ -1,6 +1,7 @@
 -- The members of the cycle whose targets, entries or code depend on what stood before: And, Or, Coalesce, FnCall,
 -- chains; and a node by its rule.
-use Rattle.std.proofs.Common.{◌≡◌, ℕ, ◌-◌, ◌<◌, ◌≤◌, true, false, List, sym, ap, ◌∙◌, subst, arith}
+use Rattle.std.proofs.Common.{◌≡◌, ℕ, ◌-◌, ◌<◌, ◌≤◌, Bool, true, false, List, sym, ap, ◌∙◌, subst, arith}
+use Rattle.std.specs.Int.{from_bool}
 use Rattle.sheet.proofs.WalkLaws.{skip-none}
 use Rattle.sheet.specs.Limits.{max_depth}
 use Rattle.sheet.specs.Node.{kind, count, child}
@@ -49,17 +50,17 @@ does-as {s} {l} {xs} {ys} {st} {r} G e d = record {
 
 -- ---- And, Or
 
-short-is : (s : List ℕ) (low : Low) (stop end j : ℕ) (a : Made)
-    → decision stop end a.depth (rows s low (Decide stop (end - 1)) (count s j) (child j) a) ≡ short_circuit stop s low end j a
+short-is : (s : List ℕ) (low : Low) (stop : Bool) (end j : ℕ) (a : Made)
+    → decision (from_bool stop) end a.depth (rows s low (Decide stop (end - 1)) (count s j) (child j) a) ≡ short_circuit (from_bool stop) s low end j a
 unfolding short_circuit decision
-short-is s low stop end j a = ap (decision stop end a.depth) (rows-decided s low stop (end - 1) (count s j) (child j) a)
+short-is s low stop end j a = ap (decision (from_bool stop) end a.depth) (rows-decided s low stop (end - 1) (count s j) (child j) a)
 
-pub short-does : {s : List ℕ} {l : Layout} {xs ys zs : List ℕ} {st q r : State} (levels stop end to j n from : ℕ) → Right s → Valid s j
+pub short-does : {s : List ℕ} {l : Layout} {xs ys zs : List ℕ} {st q r : State} (levels : ℕ) (stop : Bool) (end to j n from : ℕ) → Right s → Valid s j
     → to ≡ end - 1 → n ≡ count s j → from ≡ child j
     → (Right s → Row s n from → Does s l xs st ys q (rows s (lowered levels s) (Decide stop to) n from))
-    → ((a : Made) → st.depth ≤ a.pools.emitted → Holds s l ys q a → Fits l (decision stop end st.depth a)
-    → Holds s l zs r (decision stop end st.depth a))
-    → Does s l xs st zs r (short_circuit stop s (lowered levels s) end j)
+    → ((a : Made) → st.depth ≤ a.pools.emitted → Holds s l ys q a → Fits l (decision (from_bool stop) end st.depth a)
+    → Holds s l zs r (decision (from_bool stop) end st.depth a))
+    → Does s l xs st zs r (short_circuit (from_bool stop) s (lowered levels s) end j)
 short-does {s} {l} {xs} {ys} {zs} {st} {q} {r} levels stop end to j n from C v to_is n-is from_is d e =
     let low = lowered levels s in
     let row : Row s n from = subst (λ m. Row s m from) (sym n-is) (subst (Row s (count s j)) (sym from_is) (children s C j v)) in
@@ -69,10 +70,10 @@ short-does {s} {l} {xs} {ys} {zs} {st} {q} {r} levels stop end to j n from C v t
     record {
       holds = λ a h f.
           let x = rows s low (Decide stop (end - 1)) (count s j) (child j) a in
-          let is : decision stop end st.depth x ≡ short_circuit stop s low end j a =
-          ap (λ t. decision stop end t x) (depth_is h) ∙ short-is s low stop end j a in
-          let room : Fits l (decision stop end st.depth x) = subst (Fits l) (sym is) f in
-          let more = (decision-grows stop end st.depth).each x in
+          let is : decision (from_bool stop) end st.depth x ≡ short_circuit (from_bool stop) s low end j a =
+          ap (λ t. decision (from_bool stop) end t x) (depth_is h) ∙ short-is s low stop end j a in
+          let room : Fits l (decision (from_bool stop) end st.depth x) = subst (Fits l) (sym is) f in
+          let more = (decision-grows (from_bool stop) end st.depth).each x in
           let grown = (rows_grow levels s (Decide stop (end - 1)) (count s j) (child j)).each a in
           let low-depth : st.depth ≤ x.pools.emitted = omega (arith, depth_is h, depth_low h, grown) in
           subst (Holds s l zs r) is (e x low-depth (body.holds a h (omega arith)) room);

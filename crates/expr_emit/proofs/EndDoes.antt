@@ -1,7 +1,9 @@
 -- Where the code of a node ends, the end of And and Or, and the constructs of siblings as rows.
-use Rattle.std.proofs.Common.{◌≡◌, ℕ, ◌+◌, ◌-◌, ◌%◌, ◌^◌, ◌≤◌, min, List, sym, ap, ◌∙◌, subst, mod-eq_of_lt, arith}
+use Rattle.std.specs.Int.{from_bool}
+use Rattle.std.proofs.Common.{◌≡◌, ℕ, ◌+◌, ◌-◌, ◌%◌, ◌^◌, ◌≤◌, min, Bool, true, false, not, List, sym, refl, ap, ◌∙◌, subst, mod-eq_of_lt, arith}
 use Rattle.scratch_store.proofs.GrowingLaws.{growing-emit, growing-depth}
-use Rattle.bytecode.specs.declared.Op.TheVariants.{Bool, Jump}
+use Rattle.bytecode.specs.declared.Op.TheVariants as ops
+use Rattle.bytecode.specs.declared.Op.TheVariants.{Jump}
 use Rattle.lowering.specs.Code.{no_pos}
 use Rattle.expr_count.specs.declared.tallies.Tally.{Tally}
 use Rattle.expr_count.specs.Limits.{cap}
@@ -26,10 +28,15 @@ use Rattle.expr_emit.specs.Decision.{decision}
 pub decision-grows : (stop end d : ℕ) → Growing (decision stop end d)
 unfolding decision
 decision-grows stop end d =
-    growing-seq (growing-seq (growing-seq (growing-emit (Bool (1 - stop)) no_pos 0) (growing-emit (Jump end) no_pos 0)) (growing-depth d))
-    (growing-emit (Bool stop) no_pos 0)
+    growing-seq (growing-seq (growing-seq (growing-emit (ops.Bool (1 - stop)) no_pos 0) (growing-emit (Jump end) no_pos 0)) (growing-depth d))
+    (growing-emit (ops.Bool stop) no_pos 0)
 
 -- ---- the end of And and Or
+
+-- the other word of a bool
+pub other-word : (b : Bool) → from_bool (not b) ≡ 1 - from_bool b
+other-word true = refl
+other-word false = refl
 
 -- the depth, as the code sets it
 pub held-at-depth :
@@ -41,19 +48,19 @@ held-at-depth {s} {l} {xs} {d = d} {a} c e few h =
 pub decision-holds : {s : List ℕ} {l : Layout} {xs ys zs ws : List ℕ} {st p q t r : State} (stop end d : ℕ) (a : Made)
     → d ≤ a.pools.emitted
     → Holds s l xs st a → Fits l (decision stop end d a)
-    → Does s l xs st ys p (emit (Bool (1 - stop)) 0 0) → Does s l ys p zs q (emit (Jump end) 0 0)
+    → Does s l xs st ys p (emit (ops.Bool (1 - stop)) 0 0) → Does s l ys p zs q (emit (Jump end) 0 0)
     → ((b : Made) → d ≤ b.pools.emitted → Holds s l zs q b → Holds s l zs t (at_depth d b))
-    → Does s l zs t ws r (emit (Bool stop) 0 0) → Holds s l ws r (decision stop end d a)
+    → Does s l zs t ws r (emit (ops.Bool stop) 0 0) → Holds s l ws r (decision stop end d a)
 unfolding decision
 decision-holds {l = l} stop end d a few h room first jump deep last =
-    let x = emit (Bool (1 - stop)) no_pos 0 a in
+    let x = emit (ops.Bool (1 - stop)) no_pos 0 a in
     let y = emit (Jump end) no_pos 0 x in
     let z = at_depth d y in
-    let gx = (growing-emit (Bool (1 - stop)) no_pos 0).each a in
+    let gx = (growing-emit (ops.Bool (1 - stop)) no_pos 0).each a in
     let gy = (growing-emit (Jump end) no_pos 0).each x in
     let gz = depth-grows d y in
-    let gl = (growing-emit (Bool stop) no_pos 0).each z in
-    let most : (emit (Bool stop) no_pos 0 z).pools.emitted ≤ l.most = room in
+    let gl = (growing-emit (ops.Bool stop) no_pos 0).each z in
+    let most : (emit (ops.Bool stop) no_pos 0 z).pools.emitted ≤ l.most = room in
     last.holds z (deep y (omega arith) (jump.holds x (first.holds a h (omega arith)) (omega arith))) room
 
 -- ---- where the code of a node ends

@@ -1,7 +1,7 @@
 -- Where a node's code ends, by the locals of the Variables in the scratch.
-use Rattle.std.proofs.Common.{◌≡◌, ℕ, ◌+◌, ◌-◌, ◌*◌, ◌<◌, ◌≤◌, min, Bool, true, false, not, eqb, ltb, List, length, get_or, take, drop, sym, refl, ap, ◌∙◌, subst, arith, length-drop, get_or-drop, take_all, ltb-false, ltb-true, ne_eqb}
+use Rattle.std.proofs.Common.{◌≡◌, ℕ, ◌+◌, ◌-◌, ◌*◌, ◌≤◌, min, Bool, true, false, not, eqb, ltb, List, length, get_or, take, drop, sym, refl, ap, ◌∙◌, subst, arith, length-drop, get_or-drop, take_all, ltb-false, ltb-true, ne_eqb}
 use mathlib.Core.Option.{Option, none, some}
-use Rattle.sheet.specs.Sections.{node_count, local_count}
+use Rattle.sheet.specs.Sections.{node_count}
 use Rattle.sheet.specs.Node.{kind, field_a}
 use Rattle.sheet.specs.Text.{text}
 use Rattle.lowering.specs.Kinds.{variable_kind}
@@ -9,14 +9,15 @@ use Rattle.lowering.specs.Slots.{resolve}
 use Rattle.expr_count.specs.declared.tallies.Tally.{Tally}
 use Rattle.expr_count.specs.Limits.{cap}
 use Rattle.expr_count.specs.Tally.{capped}
-use Rattle.expr_count.specs.Locals.{is_local, answer}
+use Rattle.expr_count.specs.declared.locals.Locals.{Locals}
+use Rattle.expr_count.specs.Locals.{is_local, told_by, answer}
 use Rattle.expr_count.proofs.LocalLaws.{told-each, told-outside}
 use Rattle.expr_count.specs.Count.{tally_by, tally}
 use Rattle.expr_count.proofs.BoundLaws.{tally-same}
 use Rattle.expr_model.specs.Made.{Made, place, lowered}
 use Rattle.scratch.specs.declared.Layout.{Layout}
 use Rattle.scratch.specs.Places.{links_at}
-use Rattle.scratch_index.specs.Locals.{few_locals, slot_word, local_word, Slotted, Slots}
+use Rattle.scratch_index.specs.Locals.{slot_word, local_word, Slotted, Slots}
 use Rattle.scratch_store.specs.declared.State.{State}
 use Rattle.scratch_store.specs.Holds.{Holds}
 use Rattle.scratch_store.specs.States.{layout_of}
@@ -35,37 +36,26 @@ slot-local s v = by (resolve s (text s (field_a s v))) refl
     by (some k) e = rw (e, is_local, ne_eqb (k + 1) 0 (omega arith))
 
 -- the words behind the lists say of each Variable what the definition says
-module _ {s : List ℕ} {l : Layout} {xs : List ℕ} (S : Slotted s l xs) (nodes : l.nodes ≡ node_count s) where
-  slot-told : (at v : ℕ) → at ≡ links_at l → at + 2 ≤ length xs → kind s v ≡ variable_kind → answer (drop at xs) s v ≡ is_local s v
-  slot-told at v at-is room is = by (ltb v (node_count s)) refl
-    where
-      long : 2 ≤ length (drop at xs)
-      long = rw length-drop (omega arith)
+pub slot-told :
+    {s : List ℕ} {l : Layout} {xs : List ℕ} (at v : ℕ) → Slotted s l xs → l.nodes ≡ node_count s → at ≡ links_at l
+    → kind s v ≡ variable_kind → told_by (drop at xs) s v ≡ is_local s v
+slot-told {s} {l} {xs} at v S nodes at-is is = by (ltb v (node_count s)) refl
+  where
+    by : (b : Bool) → ltb v (node_count s) ≡ b → told_by (drop at xs) s v ≡ is_local s v
+    by true e =
+        let low = ltb-true v (node_count s) e in
+        let part : get_or (drop at xs) (2 * v) 0 ≡ get_or xs (at + 2 * v) 0 = simp (get_or-drop) in
+        let word = part ∙ ap (λ n. get_or xs (n + 2 * v) 0) at-is ∙ S.slot v (omega arith) is in
+        let told = told-each (drop at xs) s v refl low in
+        sym told ∙ ap (λ n. not (eqb n 0)) word ∙ slot-local s v
+    by false e = sym (told-outside (drop at xs) s v refl (omega (arith, ltb-false v (node_count s) e)))
 
-      by : (b : Bool) → ltb v (node_count s) ≡ b → answer (drop at xs) s v ≡ is_local s v
-      by true e =
-          let low = ltb-true v (node_count s) e in
-          let part : get_or (drop at xs) (2 * v) 0 ≡ get_or xs (at + 2 * v) 0 = simp (get_or-drop) in
-          let word = part ∙ ap (λ n. get_or xs (n + 2 * v) 0) at-is ∙ S.slot v (omega arith) is in
-          let told = told-each (drop at xs) s v (λ z. omega (arith, long)) (λ z. omega (arith, long)) refl low in
-          sym told ∙ ap (λ n. not (eqb n 0)) word ∙ slot-local s v
-      by false e =
-          sym (told-outside (drop at xs) s v (λ z. omega (arith, long)) (λ z. omega (arith, long)) refl
-          (omega (arith, ltb-false v (node_count s) e)))
-
--- the length of node j, with each name looked up
-pub asked-length : (s : List ℕ) {t : Tally} (levels j : ℕ) → t ≡ capped (tally levels s j) → t.len ≡ min (tally levels s j).len cap
-asked-length s {t} levels j e = capped-len t (tally levels s j) e
-
--- and as the scratch tells the locals: ys is what stands from place at on
+-- the length of node j, by what is told of the locals
 pub told-length :
-    {s : List ℕ} {l : Layout} (xs ys : List ℕ) (levels j at : ℕ) {m : ℕ} (t : Tally) → m ≡ local_count s → few_locals < m → at ≡ links_at l
-    → at + 2 ≤ length xs → ys ≡ drop at xs → t ≡ capped (tally_by (answer ys s) levels s j) → l.nodes ≡ node_count s → Slots s l xs
-    → t.len ≡ min (tally levels s j).len cap
-told-length {s} {l} xs ys levels j at t m-is many at-is room ys-is t-is nodes S =
-    let told = slot-told (S.many (omega arith)) nodes at in
-    let same = tally-same (answer (drop at xs) s) (is_local s) s (λ v is. told v at-is room is) levels j in
-    asked-length s levels j (t-is ∙ ap (λ (zs : List ℕ). capped (tally_by (answer zs s) levels s j)) ys-is ∙ ap capped same)
+    (s : List ℕ) (told : Locals) {t : Tally} (levels j : ℕ) → t ≡ capped (tally_by (answer told s) levels s j)
+    → ((v : ℕ) → kind s v ≡ variable_kind → answer told s v ≡ is_local s v) → t.len ≡ min (tally levels s j).len cap
+told-length s told {t} levels j t-is same =
+    capped-len t (tally levels s j) (t-is ∙ ap capped (tally-same (answer told s) (is_local s) s same levels j))
 
 -- all from a place on
 pub rest_is : (at : ℕ) (xs : List ℕ) → take (length xs - at) (drop at xs) ≡ drop at xs

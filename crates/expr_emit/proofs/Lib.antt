@@ -7,7 +7,6 @@ pub mod CycleDoes
 mod CycleMore
 pub mod Doing
 pub mod EndDoes
-mod Falls
 mod KeyFacts
 mod LeafDoes
 mod NameDoes

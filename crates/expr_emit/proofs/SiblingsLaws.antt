@@ -1,5 +1,6 @@
 -- Laws of siblings that are lowered one after another: one more of them, and all of them.
-use Rattle.std.proofs.Common.{◌≡◌, ℕ, zero, suc, List, refl, ap}
+use Rattle.std.proofs.Common.{◌≡◌, ℕ, zero, suc, Bool, List, refl, ap}
+use Rattle.std.specs.Int.{from_bool}
 use Rattle.sheet.specs.Node.{position}
 use Rattle.sheet.specs.Walk.{skip}
 use Rattle.bytecode.specs.declared.Op.TheVariants.{CheckSize, InterpolateAppend, SkipIfNotUnit, Pop}
@@ -26,11 +27,11 @@ module _ (s : List ℕ) (low : Low) where
   rows-segments (suc n) j a =
       ap (λ (b : Made). emit InterpolateAppend (position s (skip s n j)) 0 (low (skip s n j) b)) (rows-segments n j a)
 
-  pub rows-decided : (stop to n j : ℕ) (a : Made) → rows s low (Decide stop to) n j a ≡ decided s low (jump_on stop to) n j a
+  pub rows-decided : (stop : Bool) (to n j : ℕ) (a : Made) → rows s low (Decide stop to) n j a ≡ decided s low (jump_on (from_bool stop) to) n j a
   unfolding rows after_one decided
   rows-decided stop to zero j a = refl
   rows-decided stop to (suc n) j a =
-      ap (λ (b : Made). emit (jump_on stop to) (position s (skip s n j)) 0 (low (skip s n j) b)) (rows-decided stop to n j a)
+      ap (λ (b : Made). emit (jump_on (from_bool stop) to) (position s (skip s n j)) 0 (low (skip s n j) b)) (rows-decided stop to n j a)
 
   pub rows-skipped : (to n j : ℕ) (a : Made) → rows s low (Unless to) n j a ≡ skipped s low to n j a
   unfolding rows after_one skipped

@@ -1,5 +1,5 @@
 -- Dot and Index: the names that a chain pools, its entry, and the step of a link as its operands with names behind them.
-use Rattle.std.proofs.Common.{◌≡◌, ℕ, zero, suc, ◌+◌, ◌-◌, ◌*◌, ◌%◌, ◌<◌, ◌≤◌, Bool, true, false, eqb, List, sym, refl, ap, ◌∙◌, subst, arith, eqb-true}
+use Rattle.std.proofs.Common.{◌≡◌, ℕ, zero, suc, ◌+◌, ◌-◌, ◌*◌, ◌%◌, ◌<◌, ◌≤◌, Bool, true, false, eqb, List, sym, refl, ap, ◌∙◌, subst, arith, eqb-true, ◌⊎◌, inl, inr}
 use borrow.Author.Tests.{eqb-false}
 use Rattle.scratch_store.proofs.GrowingLaws.{growing-name}
 use Rattle.sheet.specs.Limits.{max_depth}
@@ -322,13 +322,18 @@ module _ (s : List ℕ) (c : ℕ) where
   unfolding link step_lowers grade
   link-lowers n from h = by-grade (step_rule s c) (ap grade h)
 
-  pub link-fails : link s c ≡ Fails → step_lowers s c ≡ false
+  link-fails : link s c ≡ Fails → step_lowers s c ≡ false
   unfolding link step_lowers grade
   link-fails h = by_less (step_rule s c) (let z = ap grade h in omega arith)
 
-  pub link-nowhere : link s c ≡ Nowhere → step_lowers s c ≡ false
+  link-nowhere : link s c ≡ Nowhere → step_lowers s c ≡ false
   unfolding link step_lowers grade
   link-nowhere h = by_less (step_rule s c) (let z = ap grade h in omega arith)
+
+  -- one that does not lower, as the code's match tells it
+  pub link-ends : {k : Link} → k ≡ link s c → (k ≡ Fails) ⊎ (k ≡ Nowhere) → step_lowers s c ≡ false
+  link-ends e (inl h) = link-fails (sym e ∙ h)
+  link-ends e (inr h) = link-nowhere (sym e ∙ h)
 
   step_is : (low : Low) (n from : ℕ) (a : Made) → link s c ≡ Lowers n from
       → step_by (step_rule s c) s low c a ≡ step_names (step_rule s c) s (operand_of s c) (operands s low n from a)

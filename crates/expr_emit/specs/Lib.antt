@@ -5,5 +5,4 @@ pub mod Ways
 pub mod WayFacts
 pub mod ChainParts
 pub mod Decision
-pub mod Walking
 pub mod Ends

@@ -6,8 +6,9 @@ ghost use Rattle.scratch_keys.specs.Keys.{key_of, name_of};
 ghost use Rattle.scratch_keys.specs.Used.{TokenKey, NameKey};
 ghost use Rattle.scratch.specs.declared.Layout.{Layout};
 ghost use Rattle.scratch_index.specs.Locals.{Slots};
-ghost use Rattle.scratch_store.specs.Holds.{Holds};
-ghost use Rattle.scratch_store.specs.Does.{Does};
+ghost use Rattle.scratch_store.specs.Stores.{Held};
+ghost use Rattle.scratch_store.specs.Stores.{Done};
+ghost use Rattle.scratch_store.specs.States.{layout_of};
 ghost use Rattle.expr_model.specs.Made.{Made};
 ghost use Rattle.expr_model.specs.Construct as constructs;
 ghost use Rattle.expr_emit.specs.Plain.{Plain};
@@ -18,11 +19,9 @@ ghost use Rattle.expr_emit.specs.WayFacts.{Facts};
 
 use crate::names::add_name;
 use bytecode::{Op, Receiver};
-use expr_count::plans::one_less;
 use expr_rules::calls::{CallRule, call_rule, receiver_kind, stores_token};
-use scratch::Layout;
 use scratch_locals::local_of;
-use scratch_store::{State, add_token, emit, residual};
+use scratch_store::Store;
 use sheet::kinds::{THIS, VARIABLE};
 use sheet::{child, count, field_b, next, position};
 
@@ -40,6 +39,7 @@ pub enum Way {
 }
 
 // A variable as a receiver, by the local that it is.
+#[tactic(auto, unfolding(crate::specs::Ways::way_found))]
 fn way_variable(found: Option<u32>) -> Way
     ensures { result ≡ ways.way_found found }
 {
@@ -50,209 +50,178 @@ fn way_variable(found: Option<u32>) -> Way
 }
 
 // The way of a call that generic dispatch takes.
-fn way_first(sheet: &[u8], scratch: &[u32], layout: Layout, j: u32) -> Way
-    ensures { let sheet = sheet.now in
-        (Slots sheet layout scratch.now → result ≡ ways.way_first (calling.receiver sheet j)) }
+fn way_first(sheet: &[u8], store: &Store, j: u32) -> Way
+    ensures { let sheet = sheet.now in let it = store.now in
+        (Slots sheet (layout_of it.state) it.scratch.now → result ≡ ways.way_first (calling.receiver sheet j)) }
 {
-    let k = receiver_kind(sheet, j);
-    if k == VARIABLE {
-        return way_variable(local_of(sheet, scratch, layout, child(j)));
+    match receiver_kind(sheet, j) {
+        VARIABLE => {
+            let layout = store.state.layout();
+            way_variable(local_of(sheet, store.words(), layout, child(j)))
+        }
+        THIS => Way::This,
+        _ => Way::Value,
     }
-    if k == THIS {
-        return Way::This;
-    }
-    Way::Value
 }
 
 // The way of call `j`.
-pub fn way_of(sheet: &[u8], scratch: &[u32], layout: Layout, j: u32) -> Way
-    ensures { let sheet = sheet.now in (Slots sheet layout scratch.now → result ≡ ways.way_of sheet j) }
+pub fn way_of(sheet: &[u8], store: &Store, j: u32) -> Way
+    ensures { let sheet = sheet.now in let it = store.now in
+        (Slots sheet (layout_of it.state) it.scratch.now → result ≡ ways.way_of sheet j) }
 {
-    let by = call_rule(sheet, j);
-    match by {
+    match call_rule(sheet, j) {
         CallRule::FnPtr => Way::FnPtr,
         CallRule::FnPtrCall => Way::FnPtrCall,
-        CallRule::Lowerable => way_first(sheet, scratch, layout, j),
+        CallRule::Lowerable => way_first(sheet, store, j),
         CallRule::Eval => Way::Eval,
         CallRule::Residual => Way::Kept,
     }
 }
 
-// How many arguments are lowered.
-pub fn arg_count(w: Way, sheet: &[u8], j: u32) -> u32
-    ensures { result ≡ ways.arg_count w sheet.now j }
-{
-    match w {
-        Way::FnPtr => 1,
-        Way::FnPtrCall => count(sheet, j),
-        Way::Local(_) => one_less(count(sheet, j)),
-        Way::Named => one_less(count(sheet, j)),
-        Way::This => one_less(count(sheet, j)),
-        Way::Value => count(sheet, j),
-        Way::Eval => 0,
-        Way::Kept => 0,
-    }
-}
-
-// The first of them.
-pub fn first_arg(w: Way, sheet: &[u8], j: u32) -> u32
-    ensures { result ≡ ways.first_arg w sheet.now j }
-{
-    let first = child(j);
-    match w {
-        Way::FnPtr => first,
-        Way::FnPtrCall => first,
-        Way::Local(_) => next(sheet, first),
-        Way::Named => next(sheet, first),
-        Way::This => next(sheet, first),
-        Way::Value => first,
-        Way::Eval => first,
-        Way::Kept => first,
-    }
-}
-
-// What comes before the arguments, and where the receiver's name stands.
-pub fn open(sheet: &[u8], state: &mut State, scratch: &mut [u32], w: Way, j: u32) -> u32
-    ensures { let sheet = sheet.now in ((l : Layout) → (Facts w sheet j
-        → Does sheet l scratch.old state.old scratch.new state.new
-        (ways.opened w sheet j)) ×
-        (Facts w sheet j → (a : Made) → Holds sheet l scratch.old state.old a
-        → result ≡ ways.opened_at w sheet j a)) }
-{
-    match w {
-        Way::FnPtr => 0,
-        Way::FnPtrCall => 0,
-        Way::Local(_) => 0,
-        Way::Named => add_name(sheet, state, scratch, child(j), 0),
-        Way::This => {
-            emit(state, scratch, Op::LoadThis, position(sheet, child(j)), 0);
-            0
-        }
-        Way::Value => 0,
-        Way::Eval => 0,
-        Way::Kept => 0,
-    }
-}
-
 // The call's name and CallRef.
-fn call_ref(sheet: &[u8], state: &mut State, scratch: &mut [u32], j: u32, receiver: Receiver)
+fn call_ref(sheet: &[u8], store: &mut Store, j: u32, receiver: Receiver)
     ensures { let sheet = sheet.now in ((l : Layout) → Plain sheet j → nodes.count sheet j < 256 → NameKey sheet (key_of j 0)
-        → Does sheet l scratch.old state.old scratch.new state.new
-        (constructs.call_ref sheet j receiver)) }
+        → Done sheet l store.old store.new (constructs.call_ref sheet j receiver)) }
 {
-    let name = add_name(sheet, state, scratch, j, 0);
+    let name = add_name(sheet, store, j, 0);
     let op = Op::CallRef {
         name,
         argc: count(sheet, j),
         receiver,
     };
-    emit(state, scratch, op, position(sheet, j), 0);
+    store.emit(op, position(sheet, j), 0);
 }
 
 // The receiver's value under `others` other arguments.
-fn rotate(state: &mut State, scratch: &mut [u32], others: u32)
+fn rotate(store: &mut Store, others: u32)
     ensures { (l : Layout) → (s : List ℕ)
-        → Does s l scratch.old state.old scratch.new state.new
-        (constructs.rotate others) }
+        → Done s l store.old store.new (constructs.rotate others) }
 {
     if others == 0 {
         return;
     }
-    emit(state, scratch, Op::Rotate(others), 0, 0);
+    store.emit(Op::Rotate(others), 0, 0);
 }
 
 // A call through the name at place `at`.
-fn close_named(sheet: &[u8], state: &mut State, scratch: &mut [u32], j: u32, at: u32)
+fn close_named(sheet: &[u8], store: &mut Store, j: u32, at: u32)
     ensures { let sheet = sheet.now in ((l : Layout) → Plain sheet j → nodes.count sheet j < 256 → NameKey sheet (key_of j 0)
-        → Does sheet l scratch.old state.old scratch.new state.new
-        (ways.close_named sheet j at)) }
+        → Done sheet l store.old store.new (ways.close_named sheet j at)) }
 {
-    emit(
-        state,
-        scratch,
-        Op::LoadNamed(at),
-        position(sheet, child(j)),
-        0,
-    );
-    rotate(state, scratch, one_less(count(sheet, j)));
-    call_ref(sheet, state, scratch, j, Receiver::Named(at));
+    store.emit(Op::LoadNamed(at), position(sheet, child(j)), 0);
+    rotate(store, count(sheet, j).saturating_sub(1));
+    call_ref(sheet, store, j, Receiver::Named(at));
 }
 
 // The call's name and Call, with a token plus 1, or 0.
-fn call_as(sheet: &[u8], state: &mut State, scratch: &mut [u32], j: u32, op: u32, capture: u32)
+// Kept: `op` as the instruction has it. An Option would be unmade here.
+fn call_as(sheet: &[u8], store: &mut Store, j: u32, op: u32, capture: u32)
     ensures { let sheet = sheet.now in ((l : Layout) → name_of sheet (key_of j 0) ≡ name (nodes.field_a sheet j) capture
         → nodes.count sheet j < 256 → capture < 2 → NameKey sheet (key_of j 0)
-        → Does sheet l scratch.old state.old scratch.new state.new
-        (constructs.call_as sheet j op capture)) }
+        → Done sheet l store.old store.new (constructs.call_as sheet j op capture)) }
 {
-    let name = add_name(sheet, state, scratch, j, 0);
+    let name = add_name(sheet, store, j, 0);
     let call = Op::Call {
         name,
         argc: count(sheet, j),
         op,
         capture,
     };
-    emit(state, scratch, call, position(sheet, j), 0);
-}
-
-// One more, where that is a word.
-fn one_more(n: u32) -> u32
-    ensures { n < 4294967295 → result ≡ n + 1 }
-{
-    if n < 4294967295 { n + 1 } else { 0 }
+    store.emit(call, position(sheet, j), 0);
 }
 
 // The operator's token, the call's name and Call.
-fn call_token(sheet: &[u8], state: &mut State, scratch: &mut [u32], j: u32)
+fn call_token(sheet: &[u8], store: &mut Store, j: u32)
     ensures { let sheet = sheet.now in ((l : Layout) → Plain sheet j → nodes.count sheet j < 256 → NameKey sheet (key_of j 0)
         → TokenKey sheet j
-        → Does sheet l scratch.old state.old scratch.new state.new
-        (constructs.call_token sheet j)) }
+        → Done sheet l store.old store.new (constructs.call_token sheet j)) }
 {
-    let at = add_token(sheet, state, scratch, j);
-    call_as(sheet, state, scratch, j, one_more(at), 0);
+    let at = store.add_token(sheet, j);
+    call_as(sheet, store, j, at.wrapping_add(1), 0);
 }
 
 // The end of a call of values.
-fn call_end(sheet: &[u8], state: &mut State, scratch: &mut [u32], j: u32)
+fn call_end(sheet: &[u8], store: &mut Store, j: u32)
     ensures { let sheet = sheet.now in ((l : Layout) → Facts (kinds.Value) sheet j
-        → Does sheet l scratch.old state.old scratch.new state.new
-        (constructs.call_end sheet j)) }
+        → Done sheet l store.old store.new (constructs.call_end sheet j)) }
 {
     if stores_token(sheet, j) {
-        call_token(sheet, state, scratch, j);
+        call_token(sheet, store, j);
     } else {
-        call_as(sheet, state, scratch, j, 0, field_b(sheet, j));
+        call_as(sheet, store, j, 0, field_b(sheet, j));
     }
 }
 
 // `call(f, ..)`.
-fn close_pointer(sheet: &[u8], state: &mut State, scratch: &mut [u32], j: u32)
-    ensures { let sheet = sheet.now in ((l : Layout) → Does sheet l scratch.old state.old scratch.new state.new
-        (ways.closed
+fn close_pointer(sheet: &[u8], store: &mut Store, j: u32)
+    ensures { let sheet = sheet.now in ((l : Layout) → Done sheet l store.old store.new (ways.closed
         (kinds.FnPtrCall) sheet j 0)) }
 {
     let op = Op::CallFnPtr {
-        argc: one_less(count(sheet, j)),
+        argc: count(sheet, j).saturating_sub(1),
         capture: field_b(sheet, j),
     };
-    emit(state, scratch, op, position(sheet, j), 0);
+    store.emit(op, position(sheet, j), 0);
 }
 
-// What comes behind the arguments, with the receiver's name at place `at`.
-pub fn close(sheet: &[u8], state: &mut State, scratch: &mut [u32], w: Way, j: u32, at: u32)
-    ensures { let sheet = sheet.now in ((l : Layout) → Facts w sheet j
-        → Does sheet l scratch.old state.old scratch.new state.new
-        (ways.closed w sheet j at)) }
-{
-    match w {
-        Way::FnPtr => emit(state, scratch, Op::MakeFnPtr, position(sheet, child(j)), 0),
-        Way::FnPtrCall => close_pointer(sheet, state, scratch, j),
-        Way::Local(slot) => call_ref(sheet, state, scratch, j, Receiver::Local(slot)),
-        Way::Named => close_named(sheet, state, scratch, j, at),
-        Way::This => call_ref(sheet, state, scratch, j, Receiver::This),
-        Way::Value => call_end(sheet, state, scratch, j),
-        Way::Eval => residual(state, scratch, j),
-        Way::Kept => residual(state, scratch, j),
+impl Way {
+    // How many arguments are lowered.
+    #[tactic(auto, unfolding(crate::specs::Ways::arg_count))]
+    pub fn arg_count(self, sheet: &[u8], j: u32) -> u32
+        ensures { result ≡ ways.arg_count self sheet.now j }
+    {
+        match self {
+            Way::FnPtr => 1,
+            Way::FnPtrCall | Way::Value => count(sheet, j),
+            Way::Local(_) | Way::Named | Way::This => count(sheet, j).saturating_sub(1),
+            Way::Eval | Way::Kept => 0,
+        }
+    }
+
+    // The first of them.
+    #[tactic(auto, unfolding(crate::specs::Ways::first_arg))]
+    pub fn first_arg(self, sheet: &[u8], j: u32) -> u32
+        ensures { result ≡ ways.first_arg self sheet.now j }
+    {
+        let first = child(j);
+        match self {
+            Way::Local(_) | Way::Named | Way::This => next(sheet, first),
+            Way::FnPtr | Way::FnPtrCall | Way::Value | Way::Eval | Way::Kept => first,
+        }
+    }
+
+    // What comes before the arguments, and where the receiver's name stands.
+    // Kept: 0 where none does, at which `close` does not look. With an Option it would have an arm for a name that is not there.
+    pub fn open(self, sheet: &[u8], store: &mut Store, j: u32) -> u32
+        ensures { let sheet = sheet.now in ((l : Layout) → (Facts self sheet j
+            → Done sheet l store.old store.new (ways.opened self sheet j)) ×
+            (Facts self sheet j → (a : Made) → Held sheet l store.old a
+            → result ≡ ways.opened_at self sheet j a)) }
+    {
+        match self {
+            Way::Named => add_name(sheet, store, child(j), 0),
+            Way::This => {
+                store.emit(Op::LoadThis, position(sheet, child(j)), 0);
+                0
+            }
+            Way::FnPtr | Way::FnPtrCall | Way::Local(_) | Way::Value | Way::Eval | Way::Kept => 0,
+        }
+    }
+
+    // What comes behind the arguments, with the receiver's name at place `at`.
+    // Kept: a match on the way. Each arm is one construct of the definition; closures for them would be chosen by the same match.
+    pub fn close(self, sheet: &[u8], store: &mut Store, j: u32, at: u32)
+        ensures { let sheet = sheet.now in ((l : Layout) → Facts self sheet j
+            → Done sheet l store.old store.new (ways.closed self sheet j at)) }
+    {
+        match self {
+            Way::FnPtr => store.emit(Op::MakeFnPtr, position(sheet, child(j)), 0),
+            Way::FnPtrCall => close_pointer(sheet, store, j),
+            Way::Local(slot) => call_ref(sheet, store, j, Receiver::Local(slot)),
+            Way::Named => close_named(sheet, store, j, at),
+            Way::This => call_ref(sheet, store, j, Receiver::This),
+            Way::Value => call_end(sheet, store, j),
+            Way::Eval | Way::Kept => store.residual(j),
+        }
     }
 }

@@ -4,7 +4,7 @@ ghost use Rattle.sheet.specs.Node.{field_a};
 ghost use Rattle.lowering.specs.Pools.{name};
 ghost use Rattle.scratch_keys.specs.Used.{ConstKey, NameKey};
 ghost use Rattle.scratch.specs.declared.Layout.{Layout};
-ghost use Rattle.scratch_store.specs.Does.{Does};
+ghost use Rattle.scratch_store.specs.Stores.{Done};
 ghost use Rattle.expr_model.specs.Construct as constructs;
 ghost use Rattle.scratch_keys.specs.Keys.{key_of};
 ghost use Rattle.expr_emit.specs.Plain.{Plain};
@@ -12,38 +12,35 @@ ghost use Rattle.expr_emit.specs.Plain.{Plain};
 use crate::names::add_name;
 use bytecode::Op;
 use scratch_locals::local_of;
-use scratch_store::{State, add_const, emit};
+use scratch_store::Store;
 use sheet::position;
 
 // A constant.
-pub fn constant(sheet: &[u8], state: &mut State, scratch: &mut [u32], j: u32)
+pub fn constant(sheet: &[u8], store: &mut Store, j: u32)
     ensures { let sheet = sheet.now in ((l : Layout) → ConstKey sheet j
-        → Does sheet l scratch.old state.old scratch.new state.new
-        (constructs.constant sheet j)) }
+        → Done sheet l store.old store.new (constructs.constant sheet j)) }
 {
-    let at = add_const(sheet, state, scratch, j);
-    emit(state, scratch, Op::Const(at), 0, 0);
+    let at = store.add_const(sheet, j);
+    store.emit(Op::Const(at), 0, 0);
 }
 
 // A name, loaded.
-fn load_named(sheet: &[u8], state: &mut State, scratch: &mut [u32], j: u32)
+fn load_named(sheet: &[u8], store: &mut Store, j: u32)
     ensures { let sheet = sheet.now in ((l : Layout) → Plain sheet j → NameKey sheet (key_of j 0)
-        → Does sheet l scratch.old state.old scratch.new state.new
-        (constructs.load_named sheet j)) }
+        → Done sheet l store.old store.new (constructs.load_named sheet j)) }
 {
-    let at = add_name(sheet, state, scratch, j, 0);
-    emit(state, scratch, Op::LoadNamed(at), position(sheet, j), 0);
+    let at = add_name(sheet, store, j, 0);
+    store.emit(Op::LoadNamed(at), position(sheet, j), 0);
 }
 
 // A variable: a local, or a name.
-pub fn variable(sheet: &[u8], state: &mut State, scratch: &mut [u32], j: u32)
+pub fn variable(sheet: &[u8], store: &mut Store, j: u32)
     ensures { let sheet = sheet.now in ((l : Layout) → Plain sheet j → NameKey sheet (key_of j 0)
-        → Does sheet l scratch.old state.old scratch.new state.new
-        (constructs.variable sheet j)) }
+        → Done sheet l store.old store.new (constructs.variable sheet j)) }
 {
-    let found = local_of(sheet, &scratch[..], state.layout(), j);
-    match found {
-        Some(slot) => emit(state, scratch, Op::LoadLocal(slot), 0, 0),
-        None => load_named(sheet, state, scratch, j),
+    let layout = store.state.layout();
+    match local_of(sheet, store.words(), layout, j) {
+        Some(slot) => store.emit(Op::LoadLocal(slot), 0, 0),
+        None => load_named(sheet, store, j),
     }
 }

@@ -7,8 +7,9 @@ ghost use Rattle.sheet.specs.Node as nodes;
 ghost use Rattle.sheet.specs.Limits.{max_depth};
 ghost use Rattle.lowering.specs.Nodes.{Right, Valid, Row};
 ghost use Rattle.lowering.specs.Flatten as flatten;
+ghost use Rattle.std.specs.Int.{from_bool};
 ghost use Rattle.scratch.specs.declared.Layout.{Layout};
-ghost use Rattle.scratch_store.specs.Does.{Does};
+ghost use Rattle.scratch_store.specs.Stores.{Done};
 ghost use Rattle.expr_model.specs.Made.{lowered};
 ghost use Rattle.expr_model.specs.Construct as constructs;
 ghost use Rattle.expr_emit.specs.Linked.{Linked};
@@ -23,270 +24,203 @@ mod steps;
 
 use after::{After, after_one};
 use bytecode::Op;
-use calls::{arg_count, first_arg, way_of};
+use calls::way_of;
 use ends::{decision, end_of};
 use expr_chains::far_of;
 use expr_count::links::{Link, link_with, temporary};
-use expr_count::plans::one_less;
-use expr_rules::chains::read_link;
+use expr_rules::chains::links_of;
 use expr_rules::kinds::Rule;
 use expr_rules::rule;
 use leaves::{constant, variable};
 use lowering::MAX_ELEMENTS;
-use scratch_store::{State, emit, residual};
-use sheet::limits::MAX_DEPTH;
+use scratch_store::Store;
 use sheet::{child, count, field_a, next, position, skip};
 
 // `n` siblings from node `from` on, each with `by` behind it.
+// Kept: `levels` and `sheet` are two parameters here and below. `levels` goes down at each node, so a struct of both would be made anew for
+// each call, and be passed through memory.
 #[cycle(array_call_chain_coalesce_expression_interpolated_short_circuit_siblings_walk)]
-fn siblings(
-    levels: u32,
-    sheet: &[u8],
-    state: &mut State,
-    scratch: &mut [u32],
-    by: After,
-    n: u32,
-    from: u32,
-)
+fn siblings(levels: u32, sheet: &[u8], store: &mut Store, by: After, n: u32, from: u32)
     ensures { let sheet = sheet.now in ((l : Layout) → Right sheet → Row sheet n from
-        → Does sheet l scratch.old state.old scratch.new state.new
-        (rows sheet
+        → Done sheet l store.old store.new (rows sheet
         (lowered levels sheet) by n from)) }
 {
     let mut j = from;
     for i in 0..n {
-        expression(levels, sheet, state, scratch, j);
-        after_one(state, scratch, by, i, position(sheet, j));
+        expression(levels, sheet, store, j);
+        after_one(store, by, i, position(sheet, j));
         j = next(sheet, j);
     }
 }
 
 // Array: its elements, MakeArray. One with too many elements is kept.
 #[cycle(array_call_chain_coalesce_expression_interpolated_short_circuit_siblings_walk)]
-fn array(levels: u32, sheet: &[u8], state: &mut State, scratch: &mut [u32], j: u32)
+fn array(levels: u32, sheet: &[u8], store: &mut Store, j: u32)
     ensures { let sheet = sheet.now in ((l : Layout) → Right sheet → Valid sheet j
-        → Does sheet l scratch.old state.old scratch.new state.new
-        (constructs.array sheet
+        → Done sheet l store.old store.new (constructs.array sheet
         (lowered levels sheet) j)) }
 {
     let n = count(sheet, j);
     if n <= MAX_ELEMENTS {
-        siblings(
-            levels,
-            sheet,
-            state,
-            scratch,
-            After::CheckPlace,
-            n,
-            child(j),
-        );
-        emit(state, scratch, Op::MakeArray(n), position(sheet, j), 0);
+        siblings(levels, sheet, store, After::CheckPlace, n, child(j));
+        store.emit(Op::MakeArray(n), position(sheet, j), 0);
     } else {
-        residual(state, scratch, j);
+        store.residual(j);
     }
 }
 
 // Interpolated string.
 #[cycle(array_call_chain_coalesce_expression_interpolated_short_circuit_siblings_walk)]
-fn interpolated(levels: u32, sheet: &[u8], state: &mut State, scratch: &mut [u32], j: u32)
+fn interpolated(levels: u32, sheet: &[u8], store: &mut Store, j: u32)
     ensures { let sheet = sheet.now in ((l : Layout) → Right sheet → Valid sheet j
-        → Does sheet l scratch.old state.old scratch.new state.new
-        (constructs.interpolated sheet (lowered levels sheet) j)) }
+        → Done sheet l store.old store.new (constructs.interpolated sheet (lowered levels sheet) j)) }
 {
-    emit(state, scratch, Op::InterpolateStart, 0, 0);
+    store.emit(Op::InterpolateStart, 0, 0);
     siblings(
         levels,
         sheet,
-        state,
-        scratch,
+        store,
         After::Append,
         count(sheet, j),
         child(j),
     );
-    emit(state, scratch, Op::InterpolateEnd, 0, 0);
+    store.emit(Op::InterpolateEnd, 0, 0);
 }
 
-// And (`stop` 0), Or (1), with the code's end at place `end`.
+// And and Or, which stop at `stop`, with the code's end at place `end`.
 #[cycle(array_call_chain_coalesce_expression_interpolated_short_circuit_siblings_walk)]
-fn short_circuit(
-    levels: u32,
-    sheet: &[u8],
-    state: &mut State,
-    scratch: &mut [u32],
-    stop: u32,
-    end: u32,
-    j: u32,
-)
-    requires { stop < 2 }
+fn short_circuit(levels: u32, sheet: &[u8], store: &mut Store, stop: bool, end: u32, j: u32)
     ensures { let sheet = sheet.now in ((l : Layout) → Right sheet → Valid sheet j
-        → Does sheet l scratch.old state.old scratch.new state.new
-        (constructs.short_circuit stop sheet (lowered levels sheet) end j)) }
+        → Done sheet l store.old store.new (constructs.short_circuit (from_bool stop) sheet (lowered levels sheet) end j)) }
 {
     let by = After::Decide {
         stop,
-        to: one_less(end),
+        to: end.saturating_sub(1),
     };
-    let d = state.depth;
-    siblings(levels, sheet, state, scratch, by, count(sheet, j), child(j));
-    decision(state, scratch, stop, end, d);
+    let d = store.state.depth;
+    siblings(levels, sheet, store, by, count(sheet, j), child(j));
+    decision(store, stop, end, d);
 }
 
 // Coalesce, with the code's end at place `end`.
 #[cycle(array_call_chain_coalesce_expression_interpolated_short_circuit_siblings_walk)]
-fn coalesce(levels: u32, sheet: &[u8], state: &mut State, scratch: &mut [u32], end: u32, j: u32)
+fn coalesce(levels: u32, sheet: &[u8], store: &mut Store, end: u32, j: u32)
     ensures { let sheet = sheet.now in ((l : Layout) → Right sheet → Valid sheet j → 1 ≤ nodes.count sheet j
-        → Does sheet l scratch.old state.old scratch.new state.new
-        (constructs.coalesce sheet
+        → Done sheet l store.old store.new (constructs.coalesce sheet
         (lowered levels sheet) end j)) }
 {
-    let n = one_less(count(sheet, j));
+    let n = count(sheet, j).saturating_sub(1);
     let first = child(j);
-    siblings(
-        levels,
-        sheet,
-        state,
-        scratch,
-        After::Unless { to: end },
-        n,
-        first,
-    );
-    expression(levels, sheet, state, scratch, skip(sheet, n, first));
+    siblings(levels, sheet, store, After::Unless { to: end }, n, first);
+    expression(levels, sheet, store, skip(sheet, n, first));
 }
 
 // FnCall.
 #[cycle(array_call_chain_coalesce_expression_interpolated_short_circuit_siblings_walk)]
-fn call(levels: u32, sheet: &[u8], state: &mut State, scratch: &mut [u32], j: u32)
+fn call(levels: u32, sheet: &[u8], store: &mut Store, j: u32)
     ensures { let sheet = sheet.now in ((l : Layout) → Right sheet → Valid sheet j → nodes.kind sheet j ≡ 13
-        → Does sheet l scratch.old state.old scratch.new state.new
-        (constructs.fn_call sheet
+        → Done sheet l store.old store.new (constructs.fn_call sheet
         (lowered levels sheet) j)) }
 {
-    let w = way_of(sheet, &scratch[..], state.layout(), j);
-    let at = calls::open(sheet, state, scratch, w, j);
+    let w = way_of(sheet, store, j);
+    let at = w.open(sheet, store, j);
+    let n = w.arg_count(sheet, j);
     siblings(
         levels,
         sheet,
-        state,
-        scratch,
+        store,
         After::Nothing,
-        arg_count(w, sheet, j),
-        first_arg(w, sheet, j),
+        n,
+        w.first_arg(sheet, j),
     );
-    calls::close(sheet, state, scratch, w, j, at);
+    w.close(sheet, store, j, at);
 }
 
 // The operands and names of the links of chain `j`, up to one that does not lower.
 #[cycle(array_call_chain_coalesce_expression_interpolated_short_circuit_siblings_walk)]
-fn walk(levels: u32, sheet: &[u8], state: &mut State, scratch: &mut [u32], j: u32)
+fn walk(levels: u32, sheet: &[u8], store: &mut Store, j: u32)
     ensures { let sheet = sheet.now in ((l : Layout) → Right sheet → Linked sheet j
-        → Does sheet l scratch.old state.old scratch.new state.new
-        (constructs.steps sheet
+        → Done sheet l store.old store.new (constructs.steps sheet
         (lowered levels sheet) (flatten.links max_depth sheet j))) }
 {
-    let mut left = MAX_DEPTH;
-    let mut at = j;
-    while 0 < left {
-        let p = read_link(sheet, at);
-        let k = link_with(sheet, p);
-        match k {
+    for p in links_of(sheet, j) {
+        match link_with(sheet, p) {
             Link::Lowers { n, from } => {
-                siblings(levels, sheet, state, scratch, After::Nothing, n, from);
-                steps::step_names(sheet, state, scratch, at, p);
-                if p.on {
-                    at = p.rest;
-                    left -= 1;
-                } else {
-                    return;
-                }
+                siblings(levels, sheet, store, After::Nothing, n, from);
+                steps::step_names(sheet, store, p);
             }
-            Link::Fails => return,
-            Link::Nowhere => return,
+            Link::Fails | Link::Nowhere => return,
         }
     }
 }
 
 // Dot, Index. The code of a chain that fails is taken back.
 #[cycle(array_call_chain_coalesce_expression_interpolated_short_circuit_siblings_walk)]
-fn chain(levels: u32, sheet: &[u8], state: &mut State, scratch: &mut [u32], j: u32)
+fn chain(levels: u32, sheet: &[u8], store: &mut Store, j: u32)
     ensures { let sheet = sheet.now in ((l : Layout) → Right sheet → Linked sheet j
-        → Does sheet l scratch.old state.old scratch.new state.new
-        (constructs.chain sheet
+        → Done sheet l store.old store.new (constructs.chain sheet
         (lowered levels sheet) j)) }
 {
     let far = far_of(sheet, j);
     if far.flattens {
         let root = child(j);
-        let saved = *state;
-        steps::root_name(sheet, state, scratch, root);
-        walk(levels, sheet, state, scratch, j);
+        let saved = store.state;
+        steps::root_name(sheet, store, root);
+        walk(levels, sheet, store, j);
         if far.lowers {
             siblings(
                 levels,
                 sheet,
-                state,
-                scratch,
+                store,
                 After::Nothing,
                 temporary(sheet, root),
                 root,
             );
-            steps::close_chain(sheet, state, scratch, j, far.operands);
+            steps::close_chain(sheet, store, j, far.operands);
             return;
         }
-        state.take_back(saved);
-        residual(state, scratch, j);
+        store.state.take_back(saved);
+        store.residual(j);
         return;
     }
-    residual(state, scratch, j);
+    store.residual(j);
 }
 
 // Node `j`, with that many levels left.
 #[cycle(array_call_chain_coalesce_expression_interpolated_short_circuit_siblings_walk)]
-pub fn expression(levels: u32, sheet: &[u8], state: &mut State, scratch: &mut [u32], j: u32)
+pub fn expression(levels: u32, sheet: &[u8], store: &mut Store, j: u32)
     ensures { let sheet = sheet.now in ((l : Layout) → Right sheet → Valid sheet j
-        → Does sheet l scratch.old state.old scratch.new state.new
-        (lowered levels sheet j)) }
+        → Done sheet l store.old store.new (lowered levels sheet j)) }
 {
     if levels == 0 {
-        residual(state, scratch, j);
+        store.residual(j);
         return;
     }
-    let by = rule(sheet, j);
-    match by {
-        Rule::Boolean => emit(state, scratch, Op::Bool(field_a(sheet, j)), 0, 0),
-        Rule::Unit => emit(state, scratch, Op::Unit, 0, 0),
-        Rule::Constant => constant(sheet, state, scratch, j),
-        Rule::Interpolated => interpolated(levels - 1, sheet, state, scratch, j),
-        Rule::Array => array(levels - 1, sheet, state, scratch, j),
-        Rule::Variable => variable(sheet, state, scratch, j),
-        Rule::This => emit(state, scratch, Op::LoadThis, position(sheet, j), 0),
-        Rule::FnCall => call(levels - 1, sheet, state, scratch, j),
-        Rule::Chain => chain(levels - 1, sheet, state, scratch, j),
-        Rule::And => short_circuit(
-            levels - 1,
-            sheet,
-            state,
-            scratch,
-            0,
-            end_of(levels, sheet, &scratch[..], state, j),
-            j,
-        ),
-        Rule::Or => short_circuit(
-            levels - 1,
-            sheet,
-            state,
-            scratch,
-            1,
-            end_of(levels, sheet, &scratch[..], state, j),
-            j,
-        ),
-        Rule::Coalesce => coalesce(
-            levels - 1,
-            sheet,
-            state,
-            scratch,
-            end_of(levels, sheet, &scratch[..], state, j),
-            j,
-        ),
-        Rule::Residual => residual(state, scratch, j),
+    let below = levels - 1;
+    // Kept: a match on the definition's rule. Each arm is one construct, with what of the node it takes; closures for them would be chosen
+    // by the same match.
+    match rule(sheet, j) {
+        Rule::Boolean => store.emit(Op::Bool(field_a(sheet, j)), 0, 0),
+        Rule::Unit => store.emit(Op::Unit, 0, 0),
+        Rule::Constant => constant(sheet, store, j),
+        Rule::Interpolated => interpolated(below, sheet, store, j),
+        Rule::Array => array(below, sheet, store, j),
+        Rule::Variable => variable(sheet, store, j),
+        Rule::This => store.emit(Op::LoadThis, position(sheet, j), 0),
+        Rule::FnCall => call(below, sheet, store, j),
+        Rule::Chain => chain(below, sheet, store, j),
+        Rule::And => {
+            let end = end_of(levels, sheet, store, j);
+            short_circuit(below, sheet, store, false, end, j);
+        }
+        Rule::Or => {
+            let end = end_of(levels, sheet, store, j);
+            short_circuit(below, sheet, store, true, end, j);
+        }
+        Rule::Coalesce => {
+            let end = end_of(levels, sheet, store, j);
+            coalesce(below, sheet, store, end, j);
+        }
+        Rule::Residual => store.residual(j),
     }
 }

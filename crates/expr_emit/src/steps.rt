@@ -9,8 +9,8 @@ ghost use Rattle.scratch_keys.specs.Used.{ChainKey};
 ghost use Rattle.expr_chains.specs.Steps as entries;
 ghost use Rattle.expr_count.specs.Link as links;
 ghost use Rattle.scratch.specs.declared.Layout.{Layout};
-ghost use Rattle.scratch_store.specs.Holds.{Holds};
-ghost use Rattle.scratch_store.specs.Does.{Fits, Does};
+ghost use Rattle.scratch_store.specs.Stores.{Done, Held};
+ghost use Rattle.scratch_store.specs.Does.{Fits};
 ghost use Rattle.expr_model.specs.Made.{Made};
 ghost use Rattle.expr_model.specs.Construct as constructs;
 ghost use Rattle.expr_emit.specs.ChainParts.{step_names};
@@ -19,79 +19,71 @@ use crate::names::add_name;
 use bytecode::Op;
 use expr_count::links::temporary;
 use expr_rules::chains::{Read, StepRule};
-use scratch_store::{State, add_chain, emit};
+use scratch_store::Store;
 use sheet::kinds::VARIABLE;
 use sheet::{child, kind, position};
-use std::num::wrapping_add_u32;
 
 // A variable's name, for the root of a chain.
-pub fn root_name(sheet: &[u8], state: &mut State, scratch: &mut [u32], v: u32)
+pub fn root_name(sheet: &[u8], store: &mut Store, v: u32)
     ensures { let sheet = sheet.now in ((l : Layout) → Valid sheet v
-        → Does sheet l scratch.old state.old scratch.new state.new
-        (constructs.root_name sheet v)) }
+        → Done sheet l store.old store.new (constructs.root_name sheet v)) }
 {
     if kind(sheet, v) == VARIABLE {
-        let _at = add_name(sheet, state, scratch, v, 0);
+        let _at = add_name(sheet, store, v, 0);
     }
 }
 
 // The name, getter and setter of property `v`, which a link is taken with.
-fn property(sheet: &[u8], state: &mut State, scratch: &mut [u32], v: u32, link: u32)
-    ensures { let sheet = sheet.now in ((l : Layout) → nodes.kind sheet v ≡ 11 → v ≡ flatten.operand_of sheet link → nodes.kind sheet link ≡ 14 → Valid sheet v
+fn property(sheet: &[u8], store: &mut Store, v: u32, link: u32)
+    ensures { let sheet = sheet.now in
+        ((l : Layout) → nodes.kind sheet v ≡ 11 → v ≡ flatten.operand_of sheet link → nodes.kind sheet link ≡ 14 → Valid sheet v
         → Valid sheet link
-        → Does sheet l scratch.old state.old scratch.new state.new
-        (constructs.property sheet v)) }
+        → Done sheet l store.old store.new (constructs.property sheet v)) }
 {
-    let _name = add_name(sheet, state, scratch, v, 0);
-    let _getter = add_name(sheet, state, scratch, v, 1);
-    let _setter = add_name(sheet, state, scratch, link, 2);
+    let _name = add_name(sheet, store, v, 0);
+    let _getter = add_name(sheet, store, v, 1);
+    let _setter = add_name(sheet, store, link, 2);
 }
 
 // The name of method `v`.
-fn method(sheet: &[u8], state: &mut State, scratch: &mut [u32], v: u32)
+fn method(sheet: &[u8], store: &mut Store, v: u32)
     ensures { let sheet = sheet.now in ((l : Layout) → nodes.kind sheet v ≡ 12 → Valid sheet v
-        → Does sheet l scratch.old state.old scratch.new state.new
-        (step_names flatten.method sheet v)) }
+        → Done sheet l store.old store.new (step_names flatten.method sheet v)) }
 {
-    let _name = add_name(sheet, state, scratch, v, 0);
+    let _name = add_name(sheet, store, v, 0);
 }
 
-// The names of the step of a link, which says `p`.
-pub fn step_names(sheet: &[u8], state: &mut State, scratch: &mut [u32], link: u32, p: Read)
-    ensures { let sheet = sheet.now in ((l : Layout) → Reads sheet link p → Valid sheet (flatten.operand_of sheet link) → ChainKey sheet link
-        → Does sheet l scratch.old state.old scratch.new state.new
-        (step_names
-        (flatten.step_rule sheet link) sheet (flatten.operand_of sheet link))) }
+// The names of the step of the link that says `p`.
+// Kept: a match on the step's rule. Each arm is one construct of the definition; closures for them would be chosen by the same match.
+pub fn step_names(sheet: &[u8], store: &mut Store, p: Read)
+    ensures { let sheet = sheet.now in
+        ((l : Layout) → Reads sheet p.link p → Valid sheet (flatten.operand_of sheet p.link) → ChainKey sheet p.link
+        → Done sheet l store.old store.new (step_names
+        (flatten.step_rule sheet p.link) sheet (flatten.operand_of sheet p.link))) }
 {
-    let by = p.rule;
-    match by {
+    match p.rule {
         StepRule::Index => {}
-        StepRule::Property => property(sheet, state, scratch, p.with, link),
-        StepRule::Method => method(sheet, state, scratch, p.with),
+        StepRule::Property => property(sheet, store, p.with, p.link),
+        StepRule::Method => method(sheet, store, p.with),
         StepRule::Nothing => {}
     }
 }
 
 // How many values the chain of node `j` takes off the stack: the `n` operands of its steps, and a root that is lowered.
 fn popped(sheet: &[u8], j: u32, n: u32) -> u32
-    ensures { let sheet = sheet.now in (n ≡ entries.chain_operands sheet j → result ≡ entries.chain_operands sheet j + links.temporary sheet (nodes.child j)) }
+    ensures { let sheet = sheet.now in
+        (n ≡ entries.chain_operands sheet j → result ≡ entries.chain_operands sheet j + links.temporary sheet (nodes.child j)) }
 {
-    wrapping_add_u32(n, temporary(sheet, child(j)))
+    n.wrapping_add(temporary(sheet, child(j)))
 }
 
 // The chain's entry and Chain, where its steps take `n` operands.
-pub fn close_chain(sheet: &[u8], state: &mut State, scratch: &mut [u32], j: u32, n: u32)
+pub fn close_chain(sheet: &[u8], store: &mut Store, j: u32, n: u32)
     ensures { let sheet = sheet.now in ((l : Layout) → n ≡ entries.chain_operands sheet j → ChainKey sheet j → (a : Made)
         → Pooled sheet a.pools.names j
-        → Holds sheet l scratch.old state.old a → Fits l (constructs.close_chain sheet j a)
-        → Holds sheet l scratch.new state.new (constructs.close_chain sheet j a)) }
+        → Held sheet l store.old a → Fits l (constructs.close_chain sheet j a)
+        → Held sheet l store.new (constructs.close_chain sheet j a)) }
 {
-    let at = add_chain(sheet, state, scratch, j);
-    emit(
-        state,
-        scratch,
-        Op::Chain(at),
-        position(sheet, j),
-        popped(sheet, j, n),
-    );
+    let at = store.add_chain(sheet, j);
+    store.emit(Op::Chain(at), position(sheet, j), popped(sheet, j, n));
 }

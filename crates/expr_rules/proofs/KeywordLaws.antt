@@ -1,11 +1,10 @@
 -- Laws of keywords, in the shapes of the code: a name of another length is none, no name is two of them, and the rules go by the keyword.
-use Prim.Native.Nat.{ℕ, ◌+◌, ◌≤◌, ◌<◌}
+use Prim.Native.Nat.{ℕ, ◌+◌}
 use mathlib.Core.Path.{◌≡◌, refl, ap, sym, ◌∙◌}
 use mathlib.Core.Bool.{Bool, true, false, ◌&&◌, ◌||◌, not}
 use mathlib.Core.List.{List}
 use lib.Dec.{eqb, leb}
 use lib.ListN.{length}
-use borrow.Author.Tests.{eq-eqb, ne_eqb, le-leb, lt-leb}
 use Rattle.text.specs.Same.{same}
 use Rattle.text.proofs.SameLaws.{same_true, same-lengths}
 use Rattle.text.specs.Keyword.{eval_name, fn_name, call_name, curry_name, is_eval, is_fn, is_call, is_curry}
@@ -14,9 +13,6 @@ use Rattle.lowering.specs.Limits.{max_args}
 use Rattle.lowering.specs.Call.{callee, syntactic, is_lowerable_call, is_fn_ptr, is_fn_ptr_call, call_rule}
 use Rattle.lowering.specs.Call.{CallRule, fn_ptr, fn_ptr_call, lowerable, eval, residual}
 use Rattle.lowering.specs.Steps.{is_lowerable_method}
-use Rattle.expr_rules.specs.declared.keywords.Keyword.{Keyword}
-use Rattle.expr_rules.specs.declared.keywords.Keyword.TheVariants.{Fn, Call, Eval, Curry, Other}
-use Rattle.expr_rules.specs.Answers.{call_rule_of}
 use Rattle.expr_rules.specs.Keywords.{keyword_by, keyword_of, rule_by, as_method}
 
 -- ---- names
@@ -151,9 +147,9 @@ module _ (s : List ℕ) (j : ℕ) where
       (said-curry (eqb n 1) (leb 1 n) (leb n (max_args + 1)) (leb n max_args))
       (said-other (eqb n 1) (leb 1 n) (leb n (max_args + 1)) (leb n max_args))
 
-  pub method-lowers : is_lowerable_method s j ≡ (leb (count s j) max_args && as_method (keyword_of (callee s j)))
+  pub method_lowers : is_lowerable_method s j ≡ (leb (count s j) max_args && as_method (keyword_of (callee s j)))
   unfolding is_lowerable_method is_lowerable_call syntactic keyword_of as_method
-  method-lowers =
+  method_lowers =
       let few = leb (count s j) max_args in
       by-keyword (callee s j) (λ f c e u. ((c || u || (few && not (e || f || c || u))) && few) ≡ (few && as_method (keyword_by f c e u)))
       (never few) (always few) (never few) (always few) (twice few)
@@ -169,42 +165,3 @@ module _ (s : List ℕ) (j : ℕ) where
       twice : (few : Bool) → ((few && true) && few) ≡ (few && true)
       twice true = refl
       twice false = refl
-
--- ---- calls of n arguments, one law for each way through
-
--- by the code's name of the keyword
-pub rule_told : (n : ℕ) {word k : Keyword} {r : CallRule} → word ≡ k → r ≡ rule_by k n → call_rule_of r ≡ call_rule_of (rule_by word n)
-rule_told n e h = ap call_rule_of (h ∙ ap (λ w. rule_by w n) (sym e))
-
-module _ (n : ℕ) where
-  pub fn-one : n ≡ 1 → fn_ptr ≡ rule_by Fn n
-  unfolding rule_by
-  fn-one h = rw (eq-eqb n 1 h, rule_by)
-
-  pub fn-other : (n ≡ 1 → ⊥) → residual ≡ rule_by Fn n
-  unfolding rule_by
-  fn-other h = rw (ne_eqb n 1 h, rule_by)
-
-  pub call-some : (leb 1 n && leb n (max_args + 1)) ≡ true → fn_ptr_call ≡ rule_by Call n
-  unfolding rule_by
-  call-some h = rw (h, rule_by)
-
-  pub call_none : (leb 1 n && leb n (max_args + 1)) ≡ false → residual ≡ rule_by Call n
-  unfolding rule_by
-  call_none h = rw (h, rule_by)
-
-  pub eval-always : eval ≡ rule_by Eval n
-  unfolding rule_by
-  eval-always = refl
-
-  pub curry-never : residual ≡ rule_by Curry n
-  unfolding rule_by
-  curry-never = refl
-
-  pub other-few : n ≤ max_args → lowerable ≡ rule_by Other n
-  unfolding rule_by
-  other-few h = rw (le-leb n max_args h, rule_by)
-
-  pub other-many : max_args < n → residual ≡ rule_by Other n
-  unfolding rule_by
-  other-many h = rw (lt-leb n max_args h, rule_by)

@@ -4,4 +4,3 @@ pub mod ReceiverLaws
 pub mod InverseLaws
 pub mod ReadsLaws
 pub mod LinksLaws
-mod RuleLaws

@@ -1,22 +1,23 @@
 -- Laws of the iterator of a chain's links: what it gives next, and what is left then.
 use Prim.Native.Nat.{ℕ, ◌-◌}
 use mathlib.Core.Path.{◌≡◌, refl, sym, ap, ap₂, subst, ◌∙◌}
-use mathlib.Core.Bool.{true, false}
+use mathlib.Core.Bool.{Bool, true, false}
+use Rattle.std.specs.Prelude.{Option, Some, None}
+use Rattle.std.specs.Bool.{then_some}
 use mathlib.Core.List.{List, [], ◌∷◌, map}
 use native.Mathlib.Omega.{arith}
 use Rattle.lowering.proofs.ChainNodesLaws.{links-more, links-last, links-none}
-use Rattle.lowering.specs.Flatten.{links}
+use Rattle.lowering.specs.Flatten.{links, goes_on, rest_of}
 use Rattle.expr_rules.specs.declared.chains.Read.{Read}
 use Rattle.expr_rules.specs.declared.chains.Links.{Links}
-use Rattle.expr_rules.specs.Reads.{Reads, read_of}
-use Rattle.expr_rules.specs.Links.{links_left, nodes_left}
+use Rattle.expr_rules.specs.Reads.{Reads, read_of, next_of}
+use Rattle.expr_rules.specs.Links.{links_from, links_left, nodes_left}
 
 -- what is read of a link is all that a read says
 pub read_is : {s : List ℕ} {c : ℕ} {p : Read} → Reads s c p → p ≡ read_of s c
 read_is h = λ i. record {
   link = h.link_is i;
-  on = h.on_is i;
-  rest = h.rest_is i;
+  next = h.next_is i;
   with = h.with_is i;
   rule = h.rule_is i;
   flag = h.flag_is i;
@@ -24,25 +25,28 @@ read_is h = λ i. record {
 
 module _ (s : List ℕ) where
   -- no link is left
-  pub links-end : (n c : ℕ) → n ≡ 0 → map (read_of s) (links n s c) ≡ []
-  links-end n c e = ap (map (read_of s)) (links-none s n c (omega (arith, e)))
+  pub links-end : (n : ℕ) (o : Option ℕ) → n ≡ 0 → map (read_of s) (links_from n s o) ≡ []
+  links-end n None e = refl
+  links-end n (Some c) e = ap (map (read_of s)) (links-none s n c (omega (arith, e)))
 
-  module _ (n c : ℕ) {p : Read} (h : Reads s c p) (some : n ≡ 0 → ⊥) where
-    -- the rest is a link too, or it is not
-    pub links-go : {m : ℕ} → p.on ≡ true → m ≡ n - 1 → map (read_of s) (links n s c) ≡ p ∷ map (read_of s) (links m s p.rest)
-    links-go on e =
-        ap (map (read_of s)) (links-more s n c (omega arith) (sym h.on_is ∙ on))
-        ∙ ap₂ (λ x l. x ∷ map (read_of s) l) (sym (read_is h)) (ap₂ (λ k r. links k s r) (sym e) (sym h.rest_is))
+  -- a link, and what is behind it
+  links-first : (n c : ℕ) → (n ≡ 0 → ⊥) → links n s c ≡ c ∷ links_from (n - 1) s (next_of s c)
+  links-first n c some = by (goes_on s c) refl
+    where
+      by : (t : Bool) → goes_on s c ≡ t → links n s c ≡ c ∷ links_from (n - 1) s (then_some (goes_on s c) (rest_of s c))
+      by true e = links-more s n c (omega arith) e ∙ rw e refl
+      by false e = links-last s n c (omega arith) e ∙ rw e refl
 
-    pub links-stop : {m : ℕ} → p.on ≡ false → m ≡ 0 → map (read_of s) (links n s c) ≡ p ∷ map (read_of s) (links m s p.rest)
-    links-stop off e =
-        ap (map (read_of s)) (links-last s n c (omega arith) (sym h.on_is ∙ off))
-        ∙ ap₂ (λ x l. x ∷ l) (sym (read_is h)) (sym (links-end _ p.rest e))
+  pub links-go : (n c : ℕ) {p : Read} → Reads s c p → (n ≡ 0 → ⊥)
+      → map (read_of s) (links n s c) ≡ p ∷ map (read_of s) (links_from (n - 1) s p.next)
+  links-go n c h some =
+      ap (map (read_of s)) (links-first n c some)
+      ∙ ap₂ (λ x o. x ∷ map (read_of s) (links_from (n - 1) s o)) (sym (read_is h)) (sym h.next_is)
 
 -- ---- for whoever walks along the links of a chain
 
 reads-own : (s : List ℕ) (c : ℕ) → Reads s c (read_of s c)
-reads-own s c = record { link_is = refl; on_is = refl; rest_is = refl; with_is = refl; rule_is = refl; flag_is = refl }
+reads-own s c = record { link_is = refl; next_is = refl; with_is = refl; rule_is = refl; flag_is = refl }
 
 links-read : (s cs : List ℕ) → map (λ (p : Read). p.link) (map (read_of s) cs) ≡ cs
 links-read s [] = refl

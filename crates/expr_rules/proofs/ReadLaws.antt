@@ -9,6 +9,8 @@ use Rattle.lowering.specs.Flatten.{rest_of, goes_on, operand_of, step_rule}
 use Rattle.expr_rules.specs.declared.chains.StepRule.{StepRule}
 use Rattle.expr_rules.specs.Answers.{step_rule_of, leads_on, rule_onto}
 use Rattle.expr_rules.specs.Reads.{Reads}
+use Rattle.std.specs.Prelude.{Some, None}
+use Rattle.std.specs.Bool.{then_some}
 
 module _ (s : List ℕ) (c : ℕ) {k flags rest m : ℕ} {t : Bool}
     (ek : k ≡ kind s c) (ef : flags ≡ field_a s c) (er : rest ≡ rest_of s c) (em : m ≡ kind s rest) (et : t ≡ leads_on flags m) where
@@ -26,12 +28,11 @@ module _ (s : List ℕ) (c : ℕ) {k flags rest m : ℕ} {t : Bool}
       → with ≡ child rest
       → n ≡ kind s with
       → rule ≡ step_rule_of (rule_onto k n)
-      → Reads s c (record { link = c; on = true; rest = rest; with = with; rule = rule; flag = flags % 2 })
+      → Reads s c (record { link = c; next = Some rest; with = with; rule = rule; flag = flags % 2 })
   read_goes {with} ht ew en eu =
       let operand = ew ∙ ap child er ∙ sym (operand_on s c (sym leads-on ∙ ht)) in record {
         link_is = refl;
-        on_is = sym ht ∙ leads-on;
-        rest_is = er;
+        next_is = ap₂ then_some (sym ht ∙ leads-on) er;
         with_is = operand;
         rule_is = rule-onto with operand (eu ∙ ap (λ y. step_rule_of (rule_onto k y)) en);
         flag_is = ap (λ f. f % 2) ef;
@@ -41,12 +42,11 @@ module _ (s : List ℕ) (c : ℕ) {k flags rest m : ℕ} {t : Bool}
       {rule : StepRule}
       → t ≡ false
       → rule ≡ step_rule_of (rule_onto k m)
-      → Reads s c (record { link = c; on = false; rest = rest; with = rest; rule = rule; flag = flags % 2 })
+      → Reads s c (record { link = c; next = None; with = rest; rule = rule; flag = flags % 2 })
   read-stops ht eu =
       let operand = er ∙ sym (operand-last s c (sym leads-on ∙ ht)) in record {
         link_is = refl;
-        on_is = sym ht ∙ leads-on;
-        rest_is = er;
+        next_is = ap₂ then_some (sym ht ∙ leads-on) er;
         with_is = operand;
         rule_is = rule-onto rest operand (eu ∙ ap (λ y. step_rule_of (rule_onto k y)) em);
         flag_is = ap (λ f. f % 2) ef;

@@ -1,10 +1,8 @@
 -- The receiver of a call, by its kind.
 use Prim.Native.Nat.{ℕ}
-use mathlib.Core.Path.{◌≡◌, refl, sym, ap, ◌∙◌}
+use mathlib.Core.Path.{◌≡◌, refl, sym, ◌∙◌}
 use mathlib.Core.Bool.{Bool, true, false, ◌&&◌}
 use mathlib.Core.List.{List}
-use Rattle.std.specs.Prelude.{Some, None, unwrap_or}
-use Rattle.std.specs.Bool.{then_some}
 use native.Mathlib.Omega.{arith}
 use lib.Dec.{leb, eqb}
 use borrow.Author.Tests.{eq-eqb, ne_eqb}
@@ -12,37 +10,20 @@ use Rattle.sheet.specs.Node.{kind, count, field_b, field_c, child}
 use Rattle.lowering.specs.Kinds.{variable_kind, this_kind}
 use Rattle.lowering.specs.Call as Call
 use Rattle.lowering.specs.Call.{first_of, variable_first, receiver}
-use Rattle.expr_rules.specs.Answers.{receiver_node, receiver_kind}
+use Rattle.expr_rules.specs.Answers.{receiver_kind}
 
 module _ (s : List ℕ) (j : ℕ) where
   abbrev asked : Bool
   asked = eqb (field_c s j) 0 && eqb (field_b s j) 0 && leb 1 (count s j)
 
   -- it has one
-  pub kind-here : asked ≡ true → receiver_kind s j ≡ kind s (child j)
+  kind-here : asked ≡ true → receiver_kind s j ≡ kind s (child j)
   unfolding receiver_kind
   kind-here h = rw (h, receiver_kind)
 
-  pub kind-none : asked ≡ false → receiver_kind s j ≡ 0
+  kind-none : asked ≡ false → receiver_kind s j ≡ 0
   unfolding receiver_kind
   kind-none h = rw (h, receiver_kind)
-
-  -- as the code is told of it
-  pub kind-some : (v : ℕ) → receiver_node s j ≡ Some v → receiver_kind s j ≡ kind s v
-  unfolding receiver_node
-  kind-some v = by asked refl
-    where
-      by : (t : Bool) → asked ≡ t → then_some asked (child j) ≡ Some v → receiver_kind s j ≡ kind s v
-      by true h = rw h (λ e. kind-here h ∙ ap (λ o. kind s (unwrap_or o (child j))) e)
-      by false h = rw h (λ e. cc)
-
-  pub kind-nothing : receiver_node s j ≡ None → receiver_kind s j ≡ 0
-  unfolding receiver_node
-  kind-nothing = by asked refl
-    where
-      by : (t : Bool) → asked ≡ t → then_some asked (child j) ≡ None → receiver_kind s j ≡ 0
-      by true h = rw h (λ e. cc)
-      by false h = rw h (λ e. kind-none h)
 
   first-here : asked ≡ true → receiver s j ≡ first_of s (child j)
   unfolding receiver

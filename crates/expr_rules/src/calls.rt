@@ -25,6 +25,7 @@ pub enum First {
     Value,
 }
 
+#[tactic(auto, using(crate::proofs::KeywordLaws::rule_is))]
 // The rule of call `j`.
 pub fn call_rule(sheet: &[u8], j: u32) -> CallRule
     ensures { result ≡ answers.call_rule_of (calls.call_rule sheet.now j) }
@@ -33,6 +34,7 @@ pub fn call_rule(sheet: &[u8], j: u32) -> CallRule
     rule_by(word, count(sheet, j))
 }
 
+#[tactic(auto, unfolding(crate::specs::Answers::receiver_node))]
 // The receiver of call `j`. A call with an operator, with capture or with no argument has none.
 pub fn receiver_node(sheet: &[u8], j: u32) -> Option<u32>
     ensures { result ≡ answers.receiver_node sheet.now j }
@@ -43,6 +45,7 @@ pub fn receiver_node(sheet: &[u8], j: u32) -> Option<u32>
     ((c == 0) & (b == 0) & (1 <= n)).then_some(child(j))
 }
 
+#[tactic(auto, unfolding(crate::specs::Answers::receiver_node, crate::specs::Answers::receiver_kind))]
 // The kind of call `j`'s receiver, 0 where it has none: what the locals say of a variable is left to the caller.
 // Kept: 0 is no node's kind, and a caller only compares. `receiver_node` is the form with an Option.
 pub fn receiver_kind(sheet: &[u8], j: u32) -> u32
@@ -54,6 +57,7 @@ pub fn receiver_kind(sheet: &[u8], j: u32) -> u32
     }
 }
 
+#[tactic(auto, unfolding(lowering::specs::Call::stores_token))]
 // An operator is stored with 1 or 2 arguments.
 pub fn stores_token(sheet: &[u8], j: u32) -> bool
     ensures { result ≡ calls.stores_token sheet.now j }

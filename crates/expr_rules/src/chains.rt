@@ -14,7 +14,7 @@ use sheet::limits::MAX_DEPTH;
 use sheet::{child, count, field_a, kind, next};
 
 // What step a link has. A dot onto anything but a property or a method has none.
-// Kept: not an Option of three steps. Each use is one match on the four, which would have `Some` around three of them.
+// Kept: not an Option of three steps. The definition has the four, each read at every link.
 #[derive(Clone, Copy, PartialEq, Eq)]
 pub enum StepRule {
     Index,
@@ -23,13 +23,13 @@ pub enum StepRule {
     Nothing,
 }
 
-// What a link says: its node, whether the rest is a link too, the rest, the node that the step is taken with, the step, flag NEGATED (0 or
-// 1).
+// What a link says: its node, the rest where it is a link too, the node that the step is taken with, the step, and flag NEGATED as
+// the word of an image (0 or 1).
+// Kept: that a Read is read from a sheet is a premise. As a ghost fact of the type it would ask more of the callers of public functions.
 #[derive(Clone, Copy)]
 pub struct Read {
     pub link: u32,
-    pub on: bool,
-    pub rest: u32,
+    pub next: Option<u32>,
     pub with: u32,
     pub rule: StepRule,
     pub flag: u32,
@@ -42,6 +42,7 @@ fn is_chain(k: u32) -> bool
     (k == DOT) | (k == INDEX)
 }
 
+#[tactic(auto, unfolding(lowering::specs::Flatten::rest_of))]
 // The rest behind link `c`.
 pub fn rest_of(sheet: &[u8], c: u32) -> u32
     ensures { result ≡ chains.rest_of sheet.now c }
@@ -57,6 +58,7 @@ fn leads_on(flags: u32, k: u32) -> bool
     !stops & is_chain(k)
 }
 
+#[tactic(auto, unfolding(lowering::specs::Flatten::goes_on))]
 // The rest is a link too.
 pub fn goes_on(sheet: &[u8], c: u32) -> bool
     ensures { result ≡ chains.goes_on sheet.now c }
@@ -64,6 +66,7 @@ pub fn goes_on(sheet: &[u8], c: u32) -> bool
     leads_on(field_a(sheet, c), kind(sheet, rest_of(sheet, c)))
 }
 
+#[tactic(auto, unfolding(lowering::specs::Flatten::operand_of))]
 // The node that the step of link `c` is taken with.
 pub fn operand_of(sheet: &[u8], c: u32) -> u32
     ensures { result ≡ chains.operand_of sheet.now c }
@@ -75,19 +78,7 @@ pub fn operand_of(sheet: &[u8], c: u32) -> u32
     rest
 }
 
-// The step of a dot onto a node of kind `k`.
-fn dot_rule(k: u32) -> StepRule
-    ensures { result ≡ answers.step_rule_of (chains.dot_rule k) }
-{
-    if k == PROPERTY {
-        return StepRule::Property;
-    }
-    if k == METHOD_CALL {
-        return StepRule::Method;
-    }
-    StepRule::Nothing
-}
-
+#[tactic(auto, unfolding(crate::specs::Answers::rule_onto, crate::specs::Answers::step_rule_of, lowering::specs::Flatten::dot_rule))]
 // The step of a link of kind `k` onto a node of kind `m`.
 fn rule_onto(k: u32, m: u32) -> StepRule
     ensures { result ≡ answers.step_rule_of (answers.rule_onto k m) }
@@ -95,7 +86,11 @@ fn rule_onto(k: u32, m: u32) -> StepRule
     if k == INDEX {
         return StepRule::Index;
     }
-    dot_rule(m)
+    match m {
+        PROPERTY => StepRule::Property,
+        METHOD_CALL => StepRule::Method,
+        _ => StepRule::Nothing,
+    }
 }
 
 // What link `c` says. Its words are read once.
@@ -111,8 +106,7 @@ pub fn read_link(sheet: &[u8], c: u32) -> Read
         let rule = rule_onto(k, kind(sheet, with));
         return Read {
             link: c,
-            on: true,
-            rest,
+            next: Some(rest),
             with,
             rule,
             flag: flags % 2,
@@ -121,19 +115,18 @@ pub fn read_link(sheet: &[u8], c: u32) -> Read
     let rule = rule_onto(k, m);
     Read {
         link: c,
-        on: false,
-        rest,
+        next: None,
         with: rest,
         rule,
         flag: flags % 2,
     }
 }
 
-// The links of a chain, each with what it says: at most `left` more, the next of them `node`.
+// The links of a chain, each with what it says: from `next` on, at most `left` of them.
 #[derive(Clone, Drop)]
 pub struct Links<'a> {
     sheet: &'a [u8],
-    node: u32,
+    next: Option<u32>,
     left: u32,
 }
 
@@ -143,7 +136,7 @@ pub fn links_of(sheet: &[u8], j: u32) -> Links
 {
     Links {
         sheet,
-        node: j,
+        next: Some(j),
         left: MAX_DEPTH,
     }
 }
@@ -162,13 +155,14 @@ impl<'a> Iterator for Links<'a> {
         if self.left == 0 {
             return None;
         }
-        let p = read_link(self.sheet, self.node);
-        self.left = if p.on { self.left - 1 } else { 0 };
-        self.node = p.rest;
+        let p = read_link(self.sheet, self.next?);
+        self.left -= 1;
+        self.next = p.next;
         Some(p)
     }
 }
 
+#[tactic(auto, using(crate::proofs::KeywordLaws::method_lowers))]
 // Method call `x` lowers: `call` and `curry` do, `eval` and `Fn` never.
 pub fn is_lowerable_method(sheet: &[u8], x: u32) -> bool
     ensures { result ≡ steps.is_lowerable_method sheet.now x }

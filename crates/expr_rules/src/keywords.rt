@@ -8,6 +8,7 @@ use lowering::MAX_ARGS;
 use text::{is_call, is_curry, is_eval, is_fn};
 
 // A name with a meaning of its own, or any other.
+// Kept: not an Option of four. `rule_by` is one match on the five, which would have `Some` around four of them.
 #[derive(Clone, Copy)]
 pub enum Keyword {
     Fn,
@@ -21,31 +22,16 @@ pub enum Keyword {
 pub fn keyword_of(name: &[u8]) -> Keyword
     ensures { result ≡ keywords.keyword_of name.now }
 {
-    let n = name.len();
-    if n == 4 {
-        if is_call(name) {
-            return Keyword::Call;
-        }
-        if is_eval(name) {
-            return Keyword::Eval;
-        }
-        return Keyword::Other;
+    match name.len() {
+        4 if is_call(name) => Keyword::Call,
+        4 if is_eval(name) => Keyword::Eval,
+        2 if is_fn(name) => Keyword::Fn,
+        5 if is_curry(name) => Keyword::Curry,
+        _ => Keyword::Other,
     }
-    if n == 2 {
-        if is_fn(name) {
-            return Keyword::Fn;
-        }
-        return Keyword::Other;
-    }
-    if n == 5 {
-        if is_curry(name) {
-            return Keyword::Curry;
-        }
-        return Keyword::Other;
-    }
-    Keyword::Other
 }
 
+#[tactic(auto, unfolding(crate::specs::Keywords::rule_by, crate::specs::Answers::call_rule_of))]
 // The rule of a call of `n` arguments by that name.
 pub fn rule_by(word: Keyword, n: u32) -> CallRule
     ensures { result ≡ answers.call_rule_of (keywords.rule_by word n) }
@@ -59,6 +45,7 @@ pub fn rule_by(word: Keyword, n: u32) -> CallRule
     }
 }
 
+#[tactic(auto, unfolding(crate::specs::Keywords::as_method))]
 // A method by that name lowers: `call` and `curry` do, `eval` and `Fn` never.
 pub fn as_method(word: Keyword) -> bool
     ensures { result ≡ keywords.as_method word }

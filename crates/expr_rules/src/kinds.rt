@@ -29,6 +29,7 @@ impl From<u32> for Rule {
 
     ghost from_gives = { λ k r. r ≡ rule_of (rule_at k) };
 
+    #[tactic(auto, unfolding(crate::specs::Answers::rule_of, lowering::specs::Expression::rules))]
     fn from(k: u32) -> Rule {
         match k {
             BOOL => Rule::Boolean,

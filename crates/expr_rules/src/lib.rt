@@ -12,6 +12,7 @@ pub mod kinds;
 
 use kinds::Rule;
 
+#[tactic(auto, unfolding(lowering::specs::Expression::rule))]
 // The rule of node `j` goes by its kind.
 pub fn rule(sheet: &[u8], j: u32) -> Rule
     ensures { result ≡ answers.rule_of (expressions.rule sheet.now j) }

@@ -1,7 +1,7 @@
 -- Laws of names by their lengths: a text of another length is another name, where the name does not stand at the sheet's end.
 use Prim.Native.Nat.{ℕ, ◌+◌, ◌-◌, ◌*◌, ◌<◌, ◌≤◌}
 use mathlib.Core.Path.{◌≡◌, refl, ap, ap₂, sym, ◌∙◌}
-use mathlib.Core.Bool.{Bool, false, true≢false}
+use mathlib.Core.Bool.{Bool, true, false, true≢false}
 use mathlib.Core.List.{List, [], ◌∷◌}
 use native.Mathlib.Omega.{arith}
 use native.Mathlib.Decide.{dec_le}
@@ -14,6 +14,9 @@ use Rattle.sheet.specs.Sections.{lengths_at, bytes_at, locals_at}
 use Rattle.sheet.specs.Node.{local_text}
 use Rattle.sheet.specs.Text.{text, text_start, text_length_by, text_length}
 use Rattle.expr_slots.specs.Ends.{Ends}
+use Rattle.expr_slots.specs.Named.{text_by, named_by}
+use borrow.Author.Tests.{eqb-false, eq-eqb, ne_eqb}
+use Rattle.std.proofs.Common.{eqb, eqb-true}
 
 -- the test of the sheet's end
 pub ends-told : (s name : List ℕ) {r : Bool} {x : List ℕ} → x ≡ take (length name) (drop (length s - length name) s)
@@ -104,3 +107,41 @@ module _ (s name : List ℕ) (t left : ℕ) (is-text : name ≡ text s t) (no_en
     other_length ne =
         let apart = lengths_differ s name no_end t k is-text (λ e. ne (length-read ∙ e ∙ sym hn)) in
         sym (ap (λ i. same (text s i) name) local-read) ∙ apart
+
+-- what the code reads for its test
+module _ (s name : List ℕ) (n lengths locals bytes left : ℕ) {k l : ℕ} (hk : k ≡ word s (locals + left)) (hl : l ≡ word s (lengths + k)) where
+  length-of : l ≡ word s (lengths + text_by s locals left)
+  unfolding text_by
+  length-of = hl ∙ ap (λ i. word s (lengths + i)) hk
+
+  pub read-equal : {a : ℕ} {r : Bool} → l ≡ n → a ≡ text_start s k → r ≡ same (take n (drop (bytes + a) s)) name
+      → r ≡ named_by s name n locals lengths bytes left
+  unfolding named_by text_by
+  read-equal e ha h =
+      rw (eq-eqb _ _ (sym length-of ∙ e), named_by, text_by)
+      (h ∙ ap (λ i. same (take n (drop (bytes + i) s)) name) (ha ∙ ap (text_start s) hk))
+
+  pub read-other : (l ≡ n → ⊥) → false ≡ named_by s name n locals lengths bytes left
+  unfolding named_by text_by
+  read-other ne = rw (ne_eqb _ _ (λ e. ne (length-of ∙ e)), named_by, text_by)
+
+-- the test of the code
+pub named-is :
+    (s name : List ℕ) (t left : ℕ) {n lengths locals b : ℕ} → name ≡ text s t → (Ends s name → ⊥) → n ≡ text_length s t
+    → lengths ≡ lengths_at s → locals ≡ locals_at s → b ≡ bytes_at s
+    → named_by s name n locals lengths (4 * b) left ≡ same (text s (local_text s left)) name
+unfolding named_by text_by
+named-is s name t left {n} {lengths} {locals} {b} is-text no_end hn hs ho hb = by (eqb (word s (lengths + word s (locals + left))) n) refl
+  where
+    by : (q : Bool) → eqb (word s (lengths + word s (locals + left))) n ≡ q
+        → named_by s name n locals lengths (4 * b) left ≡ same (text s (local_text s left)) name
+    by true e =
+        rw (e, named_by, text_by)
+        (equal-length s name t left is-text no_end hn hs ho refl refl (eqb-true _ _ e) hb refl (λ _. refl))
+    by false e =
+        rw (e, named_by, text_by)
+        (sym (other_length s name t left is-text no_end hn hs ho refl refl (eqb-false _ _ e)))
+
+-- the text's length is not 0
+pub some-length : (s name : List ℕ) (t : ℕ) {n : ℕ} → name ≡ text s t → (Ends s name → ⊥) → n ≡ text_length s t → 0 < n
+some-length s name t is-text no_end e = let some = some_bytes s name no_end t is-text in omega arith

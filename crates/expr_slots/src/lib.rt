@@ -7,6 +7,7 @@ ghost use Rattle.sheet.specs.Text as texts;
 ghost use Rattle.lowering.specs.Slots as slots;
 ghost use Rattle.expr_slots.specs.Found as answers;
 ghost use Rattle.expr_slots.specs.Ends.{Ends};
+ghost use Rattle.expr_slots.specs.Named as named;
 
 use sheet::{
     bytes_at, lengths_at, local_count, local_text, locals_at, text, text_length, text_start,
@@ -18,12 +19,10 @@ use words::{byte, part, word_at};
 fn by_bytes(sheet: &[u8], name: &[u8]) -> Option<u32>
     ensures { let sheet = sheet.now in result ≡ answers.found (slots.resolve sheet name.now) }
 {
-    for left in (0..local_count(sheet)).rev() {
-        if same_bytes(text(sheet, local_text(sheet, left)), name) {
-            return Some(left);
-        }
-    }
-    None
+    (0..local_count(sheet)).rev().find(|left| same_bytes(
+        text(sheet, local_text(sheet, *left)),
+        name,
+    ))
 }
 
 // Whether the sheet ends with `name`, or is shorter: only such a name can be a text that is cut short.
@@ -57,20 +56,21 @@ fn by_length(sheet: &[u8], t: u32, name: &[u8]) -> Option<u32>
     let lengths = lengths_at(sheet);
     let bytes = 4 * bytes_at(sheet);
     let locals = locals_at(sheet);
-    for left in (0..local_count(sheet)).rev() {
-        let k = word_at(sheet, locals + (left as usize));
-        if word_at(sheet, lengths + (k as usize)) == n {
-            if same_part(
-                sheet,
-                bytes + (text_start(sheet, k) as usize),
-                n as usize,
-                name,
-            ) {
-                return Some(left);
-            }
-        }
-    }
-    None
+    (0..local_count(sheet)).rev().find(
+        |left: &u32|
+            requires { (0 < n) × (locals < 1000000000000) × (lengths < 1000000000000) × (bytes < 1000000000000) }
+            ensures { result ≡ named.named_by sheet.entry.now name.entry.now n locals lengths bytes left.now }
+        {
+            let k = word_at(sheet, locals + (*left as usize));
+            word_at(sheet, lengths + (k as usize)) == n
+                && same_part(
+                    sheet,
+                    bytes + (text_start(sheet, k) as usize),
+                    n as usize,
+                    name,
+                )
+        },
+    )
 }
 
 // The last local whose name has the bytes of text `t`.

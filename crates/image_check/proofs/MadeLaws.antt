@@ -7,7 +7,7 @@ use native.Mathlib.Omega.{arith}
 use borrow.Author.Tests.{leb-true, eqb-true}
 use lib.Dec.{leb, eqb}
 use lib.ListN.{length}
-use Rattle.laws.proofs.Bool.{left-fails}
+use Rattle.std.proofs.Math.Bool.{and_assoc}
 use Rattle.lowering.specs.Limits.{sizes_words}
 use Rattle.lowering.specs.Words.{instructions}
 use Rattle.image_rule.specs.Rules.{end_at}
@@ -50,8 +50,18 @@ three a b c d e f g h i j t =
     let two = ((and-eq-true_iff (a && b) c).0 more).0 in
     (((and-eq-true_iff a b).0 two).0, (five.1, seven.1))
 
-and-true : (a b : Bool) → a ≡ true → (a && b) ≡ b
-and-true a b e = ap (λ (x : Bool). x && b) e
+-- one test behind another, made only where that one holds
+pub and-then : {a b v : Bool} → a ≡ true → v ≡ b → v ≡ (a && b)
+and-then {a} {b} {v} t e = e ∙ sym (ap (λ x. x && b) t)
+
+pub and-else : {a v : Bool} (b : Bool) → v ≡ a → a ≡ false → v ≡ (a && b)
+and-else {a} {v} b e t = e ∙ t ∙ sym (ap (λ x. x && b) t)
+
+pub left-holds : {a v : Bool} (b : Bool) → v ≡ (a && b) → v ≡ true → a ≡ true
+left-holds {a} {v} b e t = ((and-eq-true_iff a b).0 (sym e ∙ t)).0
+
+pub right-holds : {b v : Bool} (a : Bool) → v ≡ (a && b) → v ≡ true → b ≡ true
+right-holds {b} {v} a e t = ((and-eq-true_iff a b).0 (sym e ∙ t)).1
 
 -- sizes that agree
 there : (w : List ℕ) → sizes_agree w ≡ true → (sizes_words ≤ length w) × (length w ≡ end_at w)
@@ -77,24 +87,15 @@ module _ (s w : List ℕ) where
   unfolding well_made sizes_agree
   made-is = ap (λ (x : Bool). sizes_agree w && x && targets_right w && depths_right w) words_are
 
-  -- where one part fails
-  pub sizes-fail : sizes_agree w ≡ false → false ≡ well_made s w
-  sizes-fail z =
-      sym (made-is
-      ∙ left-fails _ (depths_right w) (left-fails _ (targets_right w) (left-fails (sizes_agree w) (fields_right s w && operands_right w) z)))
+  -- so it is where the value of the parts before the last is known
+  pub made-by : (v : Bool) → v ≡ (sizes_agree w && fields_right s w && operands_right w && targets_right w)
+      → (v && depths_right w) ≡ well_made s w
+  made-by v e =
+      ap (λ x. x && depths_right w) (e ∙ ap (λ x. x && targets_right w) (and_assoc (sizes_agree w) (fields_right s w) (operands_right w)))
+      ∙ sym made-is
 
   module _ (a : sizes_agree w ≡ true) where
-    after-sizes : well_made s w ≡ ((fields_right s w && operands_right w) && targets_right w && depths_right w)
-    after-sizes = made-is ∙ ap (λ (x : Bool). x && (fields_right s w && operands_right w) && targets_right w && depths_right w) a
-
-    pub fields-fail : fields_right s w ≡ false → false ≡ well_made s w
-    fields-fail z =
-        sym (after-sizes ∙ left-fails _ (depths_right w) (left-fails _ (targets_right w) (left-fails (fields_right s w) (operands_right w) z)))
-
     module _ (f : fields_right s w ≡ true) where
-      after-fields : well_made s w ≡ (operands_right w && targets_right w && depths_right w)
-      after-fields = after-sizes ∙ ap (λ (x : Bool). (x && operands_right w) && targets_right w && depths_right w) f
-
       sections : (test.code_right s w ≡ true) × ((test.chains_right s w ≡ true) × (test.switches_right w ≡ true))
       unfolding fields_right
       sections =
@@ -107,20 +108,8 @@ module _ (s w : List ℕ) where
       pub rows : RowsLie w
       rows = rows_lie s w sections.0 sections.1.1
 
-      pub operands-fail : operands_right w ≡ false → false ≡ well_made s w
-      operands-fail z = sym (after-fields ∙ left-fails _ (depths_right w) (left-fails (operands_right w) (targets_right w) z))
-
       module _ (o : operands_right w ≡ true) where
-        after-operands : well_made s w ≡ (targets_right w && depths_right w)
-        after-operands = after-fields ∙ ap (λ (x : Bool). x && targets_right w && depths_right w) o
-
-        pub targets-fail : targets_right w ≡ false → false ≡ well_made s w
-        targets-fail z = sym (after-operands ∙ left-fails (targets_right w) (depths_right w) z)
-
         module _ (t : targets_right w ≡ true) where
-          pub depths-are : depths_right w ≡ well_made s w
-          depths-are = sym (after-operands ∙ and-true (targets_right w) (depths_right w) t)
-
           pub tested : Checked w
           tested =
               let right = words_are ∙ ap (λ (x : Bool). x && operands_right w) f ∙ o in

@@ -10,7 +10,7 @@ ghost use Rattle.image_check.specs.Sizes.{sizes_agree};
 use checks::check;
 use image_depths::depths_right;
 use image_fields::fields_right;
-use image_read::end_at;
+use image_read::Image;
 use image_spans::{operands_right, targets_right};
 use lowering::SIZES;
 use refusals::Refusal;
@@ -20,27 +20,21 @@ use zeros::zero;
 fn sizes_agree(image: &[u32]) -> bool
     ensures { result ≡ sizes_agree image.now }
 {
-    (SIZES <= image.len()) & (image.len() == end_at(image))
+    (SIZES <= image.len()) & (image.len() == Image::of(image).end())
 }
 
 // Whether the image `image` is well made for the sheet `sheet`, found in a scratch of as many words. Each test may rely on those before it.
+// Kept: sheet, image and scratch apart, here and below, as in to_image. Of a field that was lent nothing is known but its length, and here
+// the scratch is lent part by part.
 fn well_made(sheet: &[u8], image: &[u32], scratch: &mut [u32]) -> bool
     ensures { let image = image.now in
         (length scratch.old ≡ length image → result ≡ well_made sheet.now image) }
 {
-    if sizes_agree(image) {
-        if fields_right(sheet, image) {
-            if operands_right(image, scratch) {
-                if targets_right(image, scratch) {
-                    return depths_right(image, scratch);
-                }
-                return false;
-            }
-            return false;
-        }
-        return false;
-    }
-    false
+    sizes_agree(image)
+        && fields_right(sheet, image)
+        && operands_right(image, scratch)
+        && targets_right(image, scratch)
+        && depths_right(image, scratch)
 }
 
 // An image beside an accepted sheet: 11 for a scratch that has fewer words than the image, 13, or nothing. The scratch is

@@ -1,48 +1,47 @@
 -- One law for each way through the code that checks the marks.
-use Prim.Native.Nat.{ℕ, suc, ◌+◌, ◌-◌, ◌≤◌, ◌<◌, max}
-use mathlib.Core.Path.{◌≡◌, sym, ap, ap₂, ◌∙◌, subst}
+use Prim.Native.Nat.{ℕ, zero, suc, ◌+◌, ◌-◌, ◌<◌, ◌≤◌, max}
+use mathlib.Core.Path.{◌≡◌, refl, sym, ap, ap₂, ◌∙◌}
 use mathlib.Core.Bool.{Bool, true, false, ◌&&◌}
 use mathlib.Core.List.{List}
 use native.Mathlib.Omega.{arith}
 use lib.Dec.{eqb, leb}
+use native.Mathlib.Decide.{dec_lt}
 use lib.ListN.{length}
+use lib.ListN.{take}
+use lib.Seq.{take_all}
+use Rattle.std.specs.List.{fold}
+use Rattle.std.proofs.lemmas.List.{get_or_past}
+use Rattle.std.proofs.lemmas.List.Sums.{fold_more}
+use Rattle.std.proofs.Math.Nat.{max-zero, zero-max}
 use Rattle.image_rule.proofs.WordLaws.{row-there, default-there}
 use Rattle.laws.proofs.Bool.{and-lazy}
 use Rattle.words.specs.Count.{all_below}
-use Rattle.words.proofs.CountLaws.{all-suc, all_same, all-fails}
+use Rattle.words.proofs.CountLaws.{all-suc, all_same}
 use Rattle.bytecode.specs.Effect.{Flow, on, jump, branch, table}
 use Rattle.lowering.specs.Words.{instructions, greatest_depth, consts_at, chains_at, switches_at, cases_at, ranges_at, a_at, switch_word}
 use Rattle.lowering.specs.Run.{needs, branch_target, row_target, table_target}
-use Rattle.image_rule.specs.Rules.{tables, cases, ranges, end_at}
+use Rattle.image_rule.specs.Rules.{cases, ranges, end_at}
 use Rattle.image_rule.specs.Marks.{mark, marks_there, table_node, flow_at, after, edges, edge, place_by, table_by, most, marked, marks_right}
-use Rattle.image_rows.specs.Scratch.{marks_of, Counted}
 use Rattle.image_depths.specs.Checked.{Checked}
-use Rattle.image_depths.specs.Passing.{leads, places_right, tables_right, MarkedAll}
+use Rattle.image_depths.specs.Passing.{Ways, leads, places_right, tables_right, MarkedAll}
 use Rattle.image_depths.proofs.DeepLaws.{deep-false}
 
--- where the edges lead, by the flow
-pub leads-table : (F : Flow) (w l : List ℕ) (p m a t x : ℕ) → F ≡ table → a ≡ a_at w p → t ≡ table_node w a → x ≡ mark l t
-    → eqb x m ≡ leads F w l p m
-unfolding leads all_below edges edge
-leads-table F w l p m a t x e q g h =
-    subst (λ (G : Flow). eqb x m ≡ leads G w l p m) (sym e) (ap (λ (y : ℕ). eqb y m) (h ∙ ap (mark l) (g ∙ ap (table_node w) q)))
+-- where the two ways lead
+and-same : (b : Bool) → (b && b) ≡ b
+and-same true = refl
+and-same false = refl
 
-pub leads-branch : (F : Flow) (w l : List ℕ) (p m a x y : ℕ) → F ≡ branch → a ≡ a_at w p → x ≡ mark l (p + 1) → y ≡ mark l a
-    → (eqb x m && eqb y m) ≡ leads F w l p m
+leads-ways : (F : Flow) (w l : List ℕ) (p m : ℕ) → (eqb (mark l (edge F w p 0)) m && eqb (mark l (edge F w p 1)) m) ≡ leads F w l p m
 unfolding leads all_below edges edge branch_target
-leads-branch F w l p m a x y e q g h =
-    subst (λ (G : Flow). (eqb x m && eqb y m) ≡ leads G w l p m) (sym e)
-    (ap₂ ◌&&◌ (ap (λ (z : ℕ). eqb z m) g) (ap (λ (z : ℕ). eqb z m) (h ∙ ap (mark l) q))
-    ∙ sym (and-lazy (eqb (mark l (p + 1)) m) (eqb (mark l (a_at w p)) m)))
+leads-ways on w l p m = and-same (eqb (mark l (p + 1)) m)
+leads-ways jump w l p m = and-same (eqb (mark l (a_at w p)) m)
+leads-ways branch w l p m = sym (and-lazy (eqb (mark l (p + 1)) m) (eqb (mark l (a_at w p)) m))
+leads-ways table w l p m = and-same (eqb (mark l (table_node w (a_at w p))) m)
 
-pub leads-jump : (F : Flow) (w l : List ℕ) (p m a x : ℕ) → F ≡ jump → a ≡ a_at w p → x ≡ mark l a → eqb x m ≡ leads F w l p m
-unfolding leads all_below edges edge
-leads-jump F w l p m a x e q h =
-    subst (λ (G : Flow). eqb x m ≡ leads G w l p m) (sym e) (ap (λ (y : ℕ). eqb y m) (h ∙ ap (mark l) q))
-
-pub leads-on : (F : Flow) (w l : List ℕ) (p m x : ℕ) → F ≡ on → x ≡ mark l (p + 1) → eqb x m ≡ leads F w l p m
-unfolding leads all_below edges edge
-leads-on F w l p m x e h = subst (λ (G : Flow). eqb x m ≡ leads G w l p m) (sym e) (ap (λ (y : ℕ). eqb y m) h)
+pub leads-both : (w l : List ℕ) (p m x y u v : ℕ) → Ways w p x y → u ≡ mark l x → v ≡ mark l y
+    → (eqb u m && eqb v m) ≡ leads (flow_at w p) w l p m
+leads-both w l p m x y u v W e g =
+    ap₂ (λ (i j : ℕ). eqb i m && eqb j m) (e ∙ ap (mark l) W.first) (g ∙ ap (mark l) W.second) ∙ leads-ways (flow_at w p) w l p m
 
 -- one place: without a mark there is nothing to test
 pub place_none : (w l : List ℕ) (p m : ℕ) → m ≡ mark l p → m ≡ 0 → true ≡ place_by (mark l p) w l p
@@ -50,40 +49,13 @@ unfolding place_by
 place_none w l p m e z = ap (λ (x : ℕ). place_by x w l p) (sym (sym e ∙ z))
 
 -- one place with a mark
-pub place-by : (w l : List ℕ) (p m n k : ℕ) (r : Bool) → m ≡ mark l p → (m ≡ 0 → ⊥) → n ≡ after w p (m - 1) → k ≡ needs w p
-    → r ≡ leads (flow_at w p) w l p (n + 1) → (leb k (m - 1) && r) ≡ place_by (mark l p) w l p
+pub place-by : (w l : List ℕ) (p m n k d : ℕ) (r : Bool) → m ≡ mark l p → (m ≡ 0 → ⊥) → n ≡ after w p (m - 1) → k ≡ needs w p
+    → d ≡ m - 1 → r ≡ leads (flow_at w p) w l p (n + 1) → (leb k d && r) ≡ place_by (mark l p) w l p
 unfolding place_by leads
-place-by w l p m n k r e z g h f =
+place-by w l p m n k d r e z g h j f =
     let s : mark l p ≡ suc (m - 1) = omega arith in
     let next : n + 1 ≡ suc (after w p (m - 1)) = omega (arith, g) in
-    ap₂ ◌&&◌ (ap (λ (x : ℕ). leb x (m - 1)) h) (f ∙ ap (leads (flow_at w p) w l p) next) ∙ ap (λ (x : ℕ). place_by x w l p) (sym s)
-
--- loops over all places, all tables
-pub places-fail : (w l : List ℕ) (n p : ℕ) (r : Bool) → n ≡ instructions w → p < n → r ≡ place_by (mark l p) w l p → r ≡ false
-    → false ≡ places_right w l
-unfolding places_right
-places-fail w l n p r e h q f =
-    sym (all-fails (λ p. place_by (mark l p) w l p) (instructions w) p (subst (λ (k : ℕ). p < k) e h) (sym q ∙ f))
-
-pub places-done : (w l : List ℕ) (n p : ℕ) → n ≡ instructions w → p ≤ n → n ≤ p → all_below p (λ p. place_by (mark l p) w l p) ≡ true
-    → true ≡ places_right w l
-unfolding places_right
-places-done w l n p e a b h =
-    let q : p ≡ instructions w = omega arith in
-    sym (subst (λ (k : ℕ). all_below k (λ p. place_by (mark l p) w l p) ≡ true) q h)
-
-pub tables-fail : (w l : List ℕ) (n i : ℕ) (r : Bool) → n ≡ tables w → i < n → r ≡ table_by (mark l (table_node w i)) w l i
-    → r ≡ false → false ≡ tables_right w l
-unfolding tables_right
-tables-fail w l n i r e h q f =
-    sym (all-fails (λ i. table_by (mark l (table_node w i)) w l i) (tables w) i (subst (λ (k : ℕ). i < k) e h) (sym q ∙ f))
-
-pub tables-done : (w l : List ℕ) (n i : ℕ) → n ≡ tables w → i ≤ n → n ≤ i
-    → all_below i (λ i. table_by (mark l (table_node w i)) w l i) ≡ true → true ≡ tables_right w l
-unfolding tables_right
-tables-done w l n i e a b h =
-    let q : i ≡ tables w = omega arith in
-    sym (subst (λ (k : ℕ). all_below k (λ i. table_by (mark l (table_node w i)) w l i) ≡ true) q h)
+    ap₂ ◌&&◌ (ap₂ leb h j) (f ∙ ap (leads (flow_at w p) w l p) next) ∙ ap (λ (x : ℕ). place_by x w l p) (sym s)
 
 -- one table
 abbrev rows_to : List ℕ → List ℕ → ℕ → ℕ → ℕ → Bool
@@ -115,19 +87,25 @@ table-by w l i m d x r e z h g k =
     (ap (λ (y : ℕ). eqb y m) (k ∙ ap (mark l) (g ∙ sym (default-there w i))))
     ∙ sym (all-suc (rows_to w l i m) n) ∙ table-some w l i m e z
 
--- the greatest mark
-pub most-none : (l : List ℕ) (x : ℕ) → x ≡ mark l 0 → x ≡ most l 0
-unfolding most
-most-none l x e = e
+-- the greatest mark: with one mark more, or past the end
+most-step : (l : List ℕ) (n : ℕ) → fold max 0 (take (n + 1) l) ≡ max (fold max 0 (take n l)) (mark l n)
+most-step l n = by (dec_lt n (length l))
+  where
+    f : ℕ → ℕ
+    f i = fold max 0 (take i l)
 
-pub most-more : (l : List ℕ) (i x y z : ℕ) → x ≡ most l i → y ≡ mark l (i + 1) → z ≡ max x y → z ≡ most l (i + 1)
-unfolding most
-most-more l i x y z e g h =
-    let s : i + 1 ≡ suc i = omega arith in
-    h ∙ ap₂ max e (g ∙ ap (mark l) s) ∙ ap (most l) (sym s)
+    by : Dec (n < length l) → f (n + 1) ≡ max (f n) (mark l n)
+    by (yes h) = fold_more max 0 l n 0 h
+    by (no h) =
+        ap (fold max 0) (take_all (n + 1) l (omega (arith, h)) ∙ sym (take_all n l (omega (arith, h))))
+        ∙ sym (max-zero (f n)) ∙ ap (max (f n)) (sym (get_or_past l n 0 (omega (arith, h))))
 
-pub most-done : (l : List ℕ) (i n x : ℕ) → i ≤ n → n ≤ i → x ≡ most l i → x ≡ most l n
-most-done l i n x a b e = let s : i ≡ n = omega arith in e ∙ ap (most l) s
+pub most-fold : (l : List ℕ) (n : ℕ) → fold max 0 (take (n + 1) l) ≡ most l n
+unfolding most
+most-fold l zero = most-step l 0 ∙ zero-max (mark l 0)
+most-fold l (suc n) =
+    let s : n + 1 ≡ suc n = omega arith in
+    most-step l (suc n) ∙ ap (λ (x : ℕ). max x (mark l (suc n))) (ap (λ (i : ℕ). fold max 0 (take i l)) (sym s) ∙ most-fold l n)
 
 -- the four tests joined
 pub marks-by : (w l : List ℕ) (n g : ℕ) (a b : Bool) (x y : ℕ) → n ≡ instructions w → g ≡ greatest_depth w → a ≡ places_right w l
@@ -143,11 +121,11 @@ unfolding end_at ranges_at cases_at switches_at chains_at consts_at
 room w K = omega (arith, K.sizes)
 
 -- the pass went to the end: its marks are tested
-pub marked-right : (w : List ℕ) (l l' : List ℕ) (t r : Bool) → MarkedAll w l t → t ≡ true → Counted w l l'
-    → r ≡ marks_right w (marks_of w l') → r ≡ marks_right w (marked w (marks_there w) (instructions w))
-marked-right w l l' t r M e C h = h ∙ ap (marks_right w) (C.marks ∙ M.done e)
+pub marked-right : (w l : List ℕ) (t r : Bool) → MarkedAll w l t → t ≡ true → r ≡ marks_right w l
+    → r ≡ marks_right w (marked w (marks_there w) (instructions w))
+marked-right w l t r M e h = h ∙ ap (marks_right w) (M.done e)
 
 -- the pass stopped at a mark without room: the image is not well made
-pub marked-wrong : (w : List ℕ) (l : List ℕ) (t : Bool) → Checked w → instructions w ≤ 4294967295 → MarkedAll w l t → t ≡ false
+pub marked-wrong : (w l : List ℕ) (t : Bool) → Checked w → instructions w ≤ 4294967295 → MarkedAll w l t → t ≡ false
     → false ≡ marks_right w (marked w (marks_there w) (instructions w))
 marked-wrong w l t K b M e = sym (deep-false w K.aims K.named b (M.deep e))

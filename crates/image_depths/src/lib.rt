@@ -1,25 +1,21 @@
 // The depth at each place of an image, found in one pass over its code in the lent scratch, and checked in a second one.
 #![tactic(auto)]
 
-ghost use Rattle.std.specs.Prelude.{◌≡◌, List, ℕ, ◌+◌, ◌-◌, ◌<◌, ◌≤◌, length, take};
+ghost use Rattle.std.specs.Prelude.{◌≡◌, ◌+◌, ◌-◌, ◌<◌, ◌≤◌, length, ℕ};
 ghost use Rattle.bytecode.specs.Coded.{count_of};
 ghost use Rattle.bytecode.specs.Effect.{popped};
 ghost use Rattle.lowering.specs.Words as words;
 ghost use Rattle.lowering.specs.Run as runs;
 ghost use Rattle.image_rule.specs.Marks as marks;
 ghost use Rattle.image_rule.proofs.Right.{TablesNamed};
-ghost use Rattle.image_rows.specs.AllRows.{Placed, Pooled};
-ghost use Rattle.image_rows.specs.Scratch.{marks_of, Does, Runs};
+ghost use Rattle.image_rows.specs.AllRows.{Pooled};
+ghost use Rattle.image_rows.specs.Scratch.{Does, Runs};
 ghost use Rattle.image_depths.specs.Checked.{Checked, RowsPooled};
-ghost use Rattle.image_depths.specs.Passing.{Read, PooledAt, Passed, MarkedAll, leads, places_right, tables_right};
+ghost use Rattle.image_depths.specs.Passing.{Read, Ways, PooledAt, Passed, MarkedAll, taken, leads, places_right, tables_right};
 
 use bytecode::{Flow, Top, effect_of};
-use image_read::word_of;
-use image_rows::{
-    Starts, come, come_rows, count_runs, mark_of, marks_there, rows_right, starts_of, table_word,
-    word_from,
-};
-use lowering::{CHAIN_WIDTH, OP_WIDTH, SIZES};
+use image_read::{Image, RootKind, word_of};
+use image_rows::{come, come_rows, count_runs, rows_right};
 use zeros::zero;
 
 // An instruction: its word a, where it goes, and what it pushes, pops and needs to find.
@@ -32,40 +28,46 @@ struct Code {
     pub needs: u64,
 }
 
-// What chain `i` takes: its operands, and one more for a Temporary root.
-fn chain_takes(image: &[u32], o: Starts, i: u32) -> u64
-    ensures value { Placed image.now o → result ≡ runs.chain_takes image.now i }
+// What a chain with `n` operands takes: one more where it starts from the stack.
+#[tactic(auto, unfolding(crate::specs::Passing::taken))]
+fn taken(root: Option<RootKind>, n: u32) -> u64
+    ensures value { result ≡ taken root n }
     ensures small { result ≤ 4294967296 }
 {
-    let n = word_from(image, o.chains, CHAIN_WIDTH * (i as usize) + 5) as u64;
-    if word_from(image, o.chains, CHAIN_WIDTH * (i as usize)) == 3 {
-        return n + 1;
+    match root {
+        Some(RootKind::Temporary) => u64::from(n) + 1,
+        Some(RootKind::Local) | Some(RootKind::Named) | Some(RootKind::This) | None => u64::from(n),
     }
-    n
+}
+
+// What chain `i` takes.
+fn chain_takes(image: &Image, i: u32) -> u64
+    ensures value { result ≡ runs.chain_takes image.now.words.now i }
+    ensures small { result ≤ 4294967296 }
+{
+    taken(RootKind::of(image.chain_word(i, 0)), image.chain_word(i, 5))
 }
 
 // The count that is popped on top; the chain is looked at only where it counts.
-fn on_top(image: &[u32], o: Starts, top: Top, a: u32, b: u32) -> u64
-    ensures value { let image = image.now in
-        (Placed image o → result ≡ popped (count_of top) a b (runs.chain_takes image a)) }
+fn on_top(image: &Image, top: Top, a: u32, b: u32) -> u64
+    ensures value { result ≡ popped (count_of top) a b (runs.chain_takes image.now.words.now a) }
     ensures small { result ≤ 4294967296 }
 {
     match top {
-        Top::Operands => chain_takes(image, o, a),
+        Top::Operands => chain_takes(image, a),
         Top::Nothing | Top::Argc | Top::RefArgc | Top::PopsA | Top::NeedsA => top.popped(a, b, 0),
     }
 }
 
 // The instruction at `p`.
-fn code_at(image: &[u32], o: Starts, p: u32) -> Code
-    ensures { Placed image.now o → Read image.now p result }
+fn code_at(image: &Image, p: u32) -> Code
+    ensures { Read image.now.words.now p result }
 {
-    let at = SIZES + OP_WIDTH * (p as usize);
-    let kind = word_of(image, at);
-    let a = word_of(image, at + 1);
-    let b = word_of(image, at + 2);
+    let kind = image.kind_at(p);
+    let a = image.a_at(p);
+    let b = image.b_at(p);
     let effect = effect_of(kind);
-    let top = on_top(image, o, effect.top, a, b);
+    let top = on_top(image, effect.top, a, b);
     let pops = (effect.pops as u64) + top;
     let needs = pops + (effect.keeps as u64) + (effect.top.kept(a) as u64);
     Code {
@@ -82,84 +84,96 @@ fn after(c: Code, d: u32) -> u64
     ensures value { result ≡ d - c.pops + c.pushes }
     ensures small { result ≤ 8589934592 }
 {
-    let x = d as u64;
-    if c.pops < x {
-        return x - c.pops + (c.pushes as u64);
-    }
-    c.pushes as u64
+    u64::from(d).saturating_sub(c.pops) + u64::from(c.pushes)
 }
 
-// A Switch hands the mark `m` to its table. If none has come to the table before, its rows and its default are come to.
-fn open_table(image: &[u32], o: Starts, m: u32, scratch: &mut [u32], i: u32)
-    ensures { let image = image.now in
-        (Placed image o
-        → Pooled image i
-        → 0 < m
-        → Does image (λ a. marks.come m (marks.enter image i m a) (marks.table_node image i)) scratch.old
-        scratch.new) }
+// Where the two ways from `p` take a mark, the same place twice where there is one: a Switch hands it to its table.
+// Kept: two places always. A test that leaves out the second step where it is the first one was timed, and no image is checked faster.
+fn ways(image: &Image, c: Code, p: u32) -> (usize, usize)
+    ensures { let image = image.now.words.now in (Read image p c → Ways image p result.0 result.1) }
 {
-    let size = marks_there(o);
-    let node = (o.places as usize) + 1 + (i as usize);
-    if mark_of(scratch, size, node) != 0 {
+    let next = (p as usize) + 1;
+    let to = c.a as usize;
+    match c.flow {
+        Flow::Table => (image.table_node(c.a), image.table_node(c.a)),
+        Flow::Branch => (next, to),
+        Flow::Jump => (to, to),
+        Flow::On => (next, next),
+    }
+}
+
+// If no mark has come to table `i` before, its rows and its default are come to.
+// Kept: marks and rows apart, here and below, as in image_rows.
+fn enter(image: &Image, m: u32, found: &mut [u32], rows: &mut [u32], i: u32)
+    ensures { let image = image.now.words.now in
+        (Pooled image i → 0 < m → Does image (marks.enter image i m) found.old rows.old found.new rows.new) }
+{
+    if word_of(found, image.table_node(i)) != 0 {
         return;
     }
-    come_rows(image, o, m, scratch, i);
-    let d = table_word(image, o, i, 3);
-    come(m, scratch, size, d as usize);
-    come(m, scratch, size, node);
+    come_rows(image, m, found, rows, i);
+    come(m, found, image.table_word(i, 3) as usize);
+}
+
+// A Switch opens its table, any other instruction none.
+fn open_table(image: &Image, c: Code, m: u32, found: &mut [u32], rows: &mut [u32])
+    ensures { let image = image.now.words.now in
+        ((p : ℕ)
+        → Read image p c
+        → PooledAt image p
+        → 0 < m
+        → Does image (marks.opened (marks.flow_at image p) image p m) found.old rows.old found.new rows.new) }
+{
+    match c.flow {
+        Flow::Table => enter(image, m, found, rows, c.a),
+        Flow::Branch | Flow::Jump | Flow::On => {}
+    }
 }
 
 // Place `p` hands on the mark `m`.
-fn hand_on(image: &[u32], o: Starts, c: Code, p: u32, m: u32, scratch: &mut [u32])
-    ensures { let image = image.now in
-        let done = Does image (marks.hand_on (marks.flow_at image p) image p m) scratch.old scratch.new in
-        (Placed image o → Read image p c → PooledAt image p → 0 < m → done) }
+fn hand_on(image: &Image, c: Code, p: u32, m: u32, found: &mut [u32], rows: &mut [u32])
+    ensures { let image = image.now.words.now in
+        let change = marks.hand_on (marks.flow_at image p) image p m in
+        (Read image p c → PooledAt image p → 0 < m → Does image change found.old rows.old found.new rows.new) }
 {
-    let size = marks_there(o);
-    let next = (p as usize) + 1;
-    match c.flow {
-        Flow::Table => open_table(image, o, m, scratch, c.a),
-        Flow::Branch => {
-            come(m, scratch, size, next);
-            come(m, scratch, size, c.a as usize);
-        }
-        Flow::Jump => come(m, scratch, size, c.a as usize),
-        Flow::On => come(m, scratch, size, next),
-    }
+    open_table(image, c, m, found, rows);
+    let (x, y) = ways(image, c, p);
+    come(m, found, x);
+    come(m, found, y);
 }
 
 // Place `p` hands on its mark; false where the mark to hand on has no room in a word.
-fn pass(image: &[u32], o: Starts, p: u32, scratch: &mut [u32]) -> bool
-    ensures { let image = image.now in
-        let done = Passed image p scratch.old scratch.new result in
-        (Placed image o → PooledAt image p → done) }
+// Kept: a mark is the depth and 1, or 0 for none, here and below: so the rule has it, and one word of the scratch holds it.
+fn pass(image: &Image, p: u32, found: &mut [u32], rows: &mut [u32]) -> bool
+    ensures { let image = image.now.words.now in
+        (PooledAt image p → Passed image p found.old rows.old found.new rows.new result) }
 {
-    let m = mark_of(scratch, marks_there(o), p as usize);
+    let m = word_of(found, p as usize);
     if m == 0 {
         return true;
     }
-    let c = code_at(image, o, p);
+    let c = code_at(image, p);
     let n = after(c, m - 1) + 1;
     if 4294967295 < n {
         return false;
     }
-    hand_on(image, o, c, p, n as u32, scratch);
+    hand_on(image, c, p, n as u32, found, rows);
     true
 }
 
 // The marks of the whole code.
-fn mark_all(image: &[u32], o: Starts, scratch: &mut [u32]) -> bool
-    ensures { let image = image.now in
-        (Placed image o
-        → TablesNamed image
+fn mark_all(image: &Image, found: &mut [u32], rows: &mut [u32]) -> bool
+    ensures { let image = image.now.words.now in
+        (TablesNamed image
         → RowsPooled image
-        → marks.marks_there image ≤ length scratch.old
-        → MarkedAll image scratch.new result) }
+        → length found.old ≡ marks.marks_there image
+        → MarkedAll image found.new result) }
 {
-    zero(scratch);
-    come(1, scratch, marks_there(o), 0);
-    for p in 0..o.places {
-        if !pass(image, o, p, scratch) {
+    zero(found);
+    zero(rows);
+    come(1, found, 0);
+    for p in 0..image.sizes.places {
+        if !pass(image, p, found, rows) {
             return false;
         }
     }
@@ -167,108 +181,78 @@ fn mark_all(image: &[u32], o: Starts, scratch: &mut [u32]) -> bool
 }
 
 // Each way from `p` leads to the mark `m`.
-fn leads(o: Starts, c: Code, scratch: &[u32], p: u32, m: u64) -> bool
-    ensures { (w : List ℕ) → Placed w o → Read w p c → result ≡ leads (marks.flow_at w p) w (marks_of w scratch.now) p m }
+fn leads(image: &Image, c: Code, found: &[u32], p: u32, m: u64) -> bool
+    ensures { let image = image.now.words.now in
+        (Read image p c → result ≡ leads (marks.flow_at image p) image found.now p m) }
 {
-    let size = marks_there(o);
-    let next = (p as usize) + 1;
-    match c.flow {
-        Flow::Table => (mark_of(scratch, size, (o.places as usize) + 1 + (c.a as usize)) as u64)
-            == m,
-        Flow::Branch => {
-            ((mark_of(scratch, size, next) as u64) == m)
-                & ((mark_of(scratch, size, c.a as usize) as u64) == m)
-        }
-        Flow::Jump => (mark_of(scratch, size, c.a as usize) as u64) == m,
-        Flow::On => (mark_of(scratch, size, next) as u64) == m,
-    }
+    let (x, y) = ways(image, c, p);
+    (u64::from(word_of(found, x)) == m) & (u64::from(word_of(found, y)) == m)
 }
 
 // Place `p` finds what it needs, and leads to its own mark.
-fn place_right(image: &[u32], o: Starts, scratch: &[u32], p: u32) -> bool
-    ensures { let image = image.now in
-        let found = marks_of image scratch.now in
-        (Placed image o → result ≡ marks.place_by (marks.mark found p) image found p) }
+fn place_right(image: &Image, found: &[u32], p: u32) -> bool
+    ensures { let found = found.now in result ≡ marks.place_by (marks.mark found p) image.now.words.now found p }
 {
-    let m = mark_of(scratch, marks_there(o), p as usize);
+    let m = word_of(found, p as usize);
     if m == 0 {
         return true;
     }
-    let c = code_at(image, o, p);
+    let c = code_at(image, p);
     let n = after(c, m - 1) + 1;
-    (c.needs <= ((m - 1) as u64)) & leads(o, c, scratch, p, n)
+    (c.needs <= u64::from(m - 1)) & leads(image, c, found, p, n)
 }
 
-fn places_right(image: &[u32], o: Starts, scratch: &[u32]) -> bool
-    ensures { let image = image.now in
-        (Placed image o → result ≡ places_right image (marks_of image scratch.now)) }
+// All places are right.
+fn places_right(image: &Image, found: &[u32]) -> bool
+    ensures { result ≡ places_right image.now.words.now found.now }
 {
-    for p in 0..o.places {
-        if !place_right(image, o, scratch, p) {
-            return false;
-        }
-    }
-    true
+    (0..image.sizes.places).all(|p| place_right(image, found, p))
 }
 
 // The rows and the default of table `i` have its mark.
-fn table_right(image: &[u32], o: Starts, scratch: &[u32], i: u32) -> bool
-    ensures { let image = image.now in
-        let found = marks_of image scratch.now in
+fn table_right(image: &Image, found: &[u32], rows: &[u32], i: u32) -> bool
+    ensures { let image = image.now.words.now in
+        let found = found.now in
         let right = marks.table_by (marks.mark found (marks.table_node image i)) image found i in
-        (Placed image o → Pooled image i → Runs image scratch.now → result ≡ right) }
+        (Pooled image i → Runs image found rows.now → result ≡ right) }
 {
-    let size = marks_there(o);
-    let m = mark_of(scratch, size, (o.places as usize) + 1 + (i as usize));
+    let m = word_of(found, image.table_node(i));
     if m == 0 {
         return true;
     }
-    let rows = rows_right(image, o, scratch, i, m);
-    let d = table_word(image, o, i, 3);
-    rows & (mark_of(scratch, size, d as usize) == m)
+    let right = rows_right(image, found, rows, i, m);
+    right & (word_of(found, image.table_word(i, 3) as usize) == m)
 }
 
-fn tables_right(image: &[u32], o: Starts, scratch: &[u32]) -> bool
-    ensures { let image = image.now in
-        let found = marks_of image scratch.now in
-        (Placed image o → RowsPooled image → Runs image scratch.now → result ≡ tables_right image found) }
+// All tables are right.
+fn tables_right(image: &Image, found: &[u32], rows: &[u32]) -> bool
+    ensures { let image = image.now.words.now in
+        (RowsPooled image → Runs image found.now rows.now → result ≡ tables_right image found.now) }
 {
-    for i in 0..o.tables {
-        if !table_right(image, o, scratch, i) {
-            return false;
-        }
-    }
-    true
+    (0..image.sizes.tables).all(|i| table_right(image, found, rows, i))
 }
 
 // The greatest of the marks 0 to `n`.
-fn most(scratch: &[u32], size: usize, n: u32) -> u32
-    ensures { result ≡ marks.most (take size scratch.now) n }
+fn most(found: &[u32], n: u32) -> u32
+    ensures { result ≡ marks.most found.now n }
 {
-    let mut x = mark_of(scratch, size, 0);
-    for i in 0..n {
-        x = x.max(mark_of(scratch, size, (i as usize) + 1));
-    }
-    x
+    found
+        .iter()
+        .take((n as usize) + 1)
+        .fold(0, |x, m| x.max(*m))
 }
 
 // The marks agree everywhere, one value remains, and the reported depth is the greatest.
-fn marks_right(image: &[u32], o: Starts, scratch: &[u32]) -> bool
-    ensures { let image = image.now in
-        (Placed image o
-        → RowsPooled image
-        → Runs image scratch.now
-        → result ≡ marks.marks_right image (marks_of image scratch.now)) }
+fn marks_right(image: &Image, found: &[u32], rows: &[u32]) -> bool
+    ensures { let image = image.now.words.now in
+        (RowsPooled image → Runs image found.now rows.now → result ≡ marks.marks_right image found.now) }
 {
-    let size = marks_there(o);
-    let n = o.places;
-    let d = (word_of(image, 11) as u64) + 1;
-    let places = places_right(image, o, scratch);
-    let tables = tables_right(image, o, scratch);
-    places
-        & tables
-        & (mark_of(scratch, size, n as usize) == 2)
-        & ((most(scratch, size, n) as u64) == d)
+    let n = image.sizes.places;
+    let d = u64::from(word_of(image.words, 11)) + 1;
+    places_right(image, found)
+        & tables_right(image, found, rows)
+        & (word_of(found, n as usize) == 2)
+        & (u64::from(most(found, n)) == d)
 }
 
 // Whether runs agree on the depth at each place, find what they need, end with one value, and reach the depth that the image reports.
@@ -278,10 +262,15 @@ pub fn depths_right(image: &[u32], scratch: &mut [u32]) -> bool
         let marked = marks.marked image (marks.marks_there image) (words.instructions image) in
         (Checked image → length scratch.old ≡ length image → result ≡ marks.marks_right image marked) }
 {
-    let o = starts_of(image);
-    if mark_all(image, o, scratch) {
-        count_runs(image, o, scratch);
-        return marks_right(image, o, scratch);
+    let image = Image::of(image);
+    let there = image.marks_there();
+    if scratch.len() < there {
+        return false;
     }
-    false
+    let (found, rows) = scratch.split_at_mut(there);
+    if !mark_all(&image, found, rows) {
+        return false;
+    }
+    count_runs(&image, found, rows);
+    marks_right(&image, found, rows)
 }

@@ -1,12 +1,12 @@
 -- Each record's test, over the words that were read, is the test of its rules.
 use Prim.Native.Nat.{ℕ, zero, suc, ◌+◌, ◌*◌, ◌<◌}
 use mathlib.Core.Path.{◌≡◌, refl, ap, ◌∙◌}
-use mathlib.Core.Bool.{Bool, false, ◌&&◌, and-true, and-false, or-false}
+use mathlib.Core.Bool.{Bool, true, false, ◌&&◌, and-true, and-false, or-false}
 use mathlib.Core.List.{List, [], ◌∷◌, ◌++◌}
 use native.Mathlib.Omega.{arith}
 use native.Mathlib.Nat.{add-zero}
 use borrow.Author.Tests.{ne_eqb, lt-leb}
-use lib.Dec.{ltb, leb}
+use lib.Dec.{ltb, leb, eqb}
 use lib.ListN.{get_or}
 use Rattle.sheet.specs.Sections.{node_count, text_count, local_count}
 use Rattle.lowering.specs.Limits.{max_args, max_elements, const_width, name_width, chain_width, step_width, switch_width, case_width, range_width}
@@ -16,10 +16,17 @@ use Rattle.image_read.specs.Placed.{name_word, token, residual}
 use Rattle.image_fields.specs.Records.{const_right, name_right, token_right, residual_right, chain_right, step_right, table_right}
 use Rattle.image_fields.specs.Records.{case_right, range_right}
 use Rattle.image_rule.specs.Rules.{Rule, free, unused, below, up_to, between, scalar, within}
-use Rattle.image_rule.specs.Rules.{constants, names, steps, cases, ranges, names_at, tokens_at, residuals_at, steps_at, step_word, rows_there}
+use Rattle.image_rule.specs.Rules.{constants, names, steps, names_at, tokens_at, residuals_at, steps_at, step_word, rows_there}
 use Rattle.image_rule.specs.Rules.{const_table, root_table, step_table}
 use Rattle.image_rule.specs.Test.{fits, obeys}
-use Rattle.image_fields.specs.Fields.{const_fits, run_fits, root_fits, step_fits, rows_fit}
+use Rattle.std.specs.Prelude.{Option}
+use Rattle.image_read.specs.Kinds.{root_of, step_of}
+use Rattle.image_read.specs.Pools.{kind_of, rows_of}
+use Rattle.image_read.specs.declared.RootKind.{RootKind}
+use Rattle.image_read.specs.declared.StepKind.{StepKind}
+use Rattle.image_read.specs.declared.Rows.{Rows}
+use Rattle.image_read.proofs.KindLaws.{root-past, step-past}
+use Rattle.image_fields.specs.Fields.{const_fits, run_fits, root_fits, step_fits}
 use Rattle.image_fields.proofs.ObeysLaws.{obeys-1, obeys-2, obeys-3, obeys-4, obeys-6, obeys-none}
 
 -- the first word of a record
@@ -85,11 +92,6 @@ range-right w i {code} p e₄ e₅ =
     cc (obeys-6 w (ranges_at w + range_width * i) refl free free free free (up_to 1) (up_to code) refl refl refl e₄ e₅)
 
 -- chains, by their root
-root-past : (locals names k x y : ℕ) → 3 < k → root_fits locals names k x y ≡ false
-unfolding root_fits
-root-past locals names k x y h =
-    rw (ne_eqb k 0 (λ e. omega arith), ne_eqb k 1 (λ e. omega arith), ne_eqb k 2 (λ e. omega arith), ne_eqb k 3 (λ e. omega arith)) refl
-
 module _ (s w : List ℕ) (at x y first count operands : ℕ)
     (e₁ : x ≡ word w (at + 1)) (e₂ : y ≡ word w (at + 2)) (e₃ : first ≡ word w (at + 3))
     (e₄ : count ≡ word w (at + 4)) (e₅ : operands ≡ word w (at + 5)) where
@@ -103,85 +105,80 @@ module _ (s w : List ℕ) (at x y first count operands : ℕ)
 
   -- the answer by the root is that of the rules
   chain-by : (k : ℕ) → k ≡ word w at
-      → (root_fits (local_count s) (names w) k x y && run_fits first count (steps w) && leb operands max_elements)
+      → (root_fits (local_count s) (names w) (root_of k) x y && run_fits first count (steps w) && leb operands max_elements)
       ≡ obeys (up_to 3 ∷ get_or (root_table s w) k [] ++ (free ∷ within first (steps w) ∷ up_to max_elements ∷ [])) w at
-  unfolding root_fits run_fits root_table fits
-  chain-by zero e₀ = simp or-false (by-rules e₀ (below (local_count s)) (below (names w)))
-  chain-by (suc zero) e₀ = simp or-false (simp and-true at (by-rules e₀ (below (names w)) free))
-  chain-by (suc (suc zero)) e₀ = simp or-false (simp and-true at (by-rules e₀ unused free))
+  unfolding root_fits root_of run_fits root_table fits
+  chain-by zero e₀ = by-rules e₀ (below (local_count s)) (below (names w))
+  chain-by (suc zero) e₀ = simp and-true at (by-rules e₀ (below (names w)) free)
+  chain-by (suc (suc zero)) e₀ = simp and-true at (by-rules e₀ unused free)
   chain-by (suc (suc (suc zero))) e₀ = by-rules e₀ unused unused
   chain-by (suc (suc (suc (suc k)))) e₀ =
       let k4 = suc (suc (suc (suc k))) in
-      ap (λ (t : Bool). t && leb (first + count) (steps w) && leb operands max_elements)
-      (root-past (local_count s) (names w) k4 x y (omega arith))
+      ap (λ o. root_fits (local_count s) (names w) o x y && leb (first + count) (steps w) && leb operands max_elements)
+      (root-past k4 (omega arith))
       ∙ obeys-none w at e₀ (up_to 3) (free ∷ within first (steps w) ∷ up_to max_elements ∷ []) (lt-leb k4 3 (omega arith))
 
-pub chain-right : (s w : List ℕ) (i : ℕ) {locals names' steps' k x y first count operands : ℕ} {root run : Bool}
+pub chain-right : (s w : List ℕ) (i : ℕ) {locals names' steps' k x y first count operands : ℕ} {o : Option RootKind} {root run : Bool}
     → locals ≡ local_count s → names' ≡ names w → steps' ≡ steps w
-    → k ≡ chain_word w i 0 → x ≡ chain_word w i 1 → y ≡ chain_word w i 2 → root ≡ root_fits locals names' k x y
+    → k ≡ chain_word w i 0 → x ≡ chain_word w i 1 → y ≡ chain_word w i 2 → o ≡ root_of k → root ≡ root_fits locals names' o x y
     → first ≡ chain_word w i 3 → count ≡ chain_word w i 4 → run ≡ run_fits first count steps' → operands ≡ chain_word w i 5
     → (root && run && leb operands max_elements) ≡ chain_right s w i
 unfolding chain_word
-chain-right s w i {k = k} {x} {y} {first} {count} {operands} l m n e₀ e₁ e₂ r e₃ e₄ q e₅ =
+chain-right s w i {k = k} {x} {y} {first} {count} {operands} l m n e₀ e₁ e₂ j r e₃ e₄ q e₅ =
     let at = chains_at w + chain_width * i in
     cc (chain-by s w at x y first count operands e₁ e₂ e₃ e₄ e₅ k (first-of w at e₀))
 
 -- steps, by their kind
-step_past : (names k a b c d e : ℕ) → 2 < k → step_fits names k a b c d e ≡ false
-unfolding step_fits
-step_past names k a b c d e h =
-    rw (ne_eqb k 0 (λ e. omega arith), ne_eqb k 1 (λ e. omega arith), ne_eqb k 2 (λ e. omega arith)) refl
-
 -- the answer by the kind is that of the rules
 step-by : (w : List ℕ) (at k a b c d e : ℕ) → k ≡ word w at
     → a ≡ word w (at + 1) → b ≡ word w (at + 2) → c ≡ word w (at + 3) → d ≡ word w (at + 4) → e ≡ word w (at + 5)
-    → step_fits (names w) k a b c d e ≡ obeys (up_to 2 ∷ get_or (step_table w) k []) w at
-unfolding step_fits step_table fits
+    → step_fits (names w) (step_of k) a b c d e ≡ obeys (up_to 2 ∷ get_or (step_table w) k []) w at
+unfolding step_fits step_of step_table fits
 step-by w at zero a b c d e e₀ e₁ e₂ e₃ e₄ e₅ =
-    simp or-false (simp and-true at (obeys-6 w at e₀ (up_to 2) free (up_to 1) free free unused e₁ e₂ e₃ e₄ e₅))
+    simp and-true at (obeys-6 w at e₀ (up_to 2) free (up_to 1) free free unused e₁ e₂ e₃ e₄ e₅)
 step-by w at (suc zero) a b c d e e₀ e₁ e₂ e₃ e₄ e₅ =
     let named = below (names w) in
-    simp or-false (simp and-true at (obeys-6 w at e₀ (up_to 2) named named named (up_to 1) free e₁ e₂ e₃ e₄ e₅))
+    simp and-true at (obeys-6 w at e₀ (up_to 2) named named named (up_to 1) free e₁ e₂ e₃ e₄ e₅)
 step-by w at (suc (suc zero)) a b c d e e₀ e₁ e₂ e₃ e₄ e₅ =
     simp and-true at (obeys-6 w at e₀ (up_to 2) (below (names w)) (up_to max_args) free (up_to 1) free e₁ e₂ e₃ e₄ e₅)
 step-by w at (suc (suc (suc k))) a b c d e e₀ e₁ e₂ e₃ e₄ e₅ =
     let k3 = suc (suc (suc k)) in
-    step_past (names w) k3 a b c d e (omega arith) ∙ obeys-none w at e₀ (up_to 2) [] (lt-leb k3 2 (omega arith))
+    ap (λ o. step_fits (names w) o a b c d e) (step-past k3 (omega arith)) ∙ obeys-none w at e₀ (up_to 2) [] (lt-leb k3 2 (omega arith))
 
-pub step-right : (w : List ℕ) (i : ℕ) {names' k a b c d e : ℕ} {r : Bool} → r ≡ step_fits names' k a b c d e → names' ≡ names w
+pub step-right : (w : List ℕ) (i : ℕ) {names' k a b c d e : ℕ} {o : Option StepKind} {r : Bool} → r ≡ step_fits names' o a b c d e
+    → o ≡ step_of k → names' ≡ names w
     → k ≡ step_word w i 0 → a ≡ step_word w i 1 → b ≡ step_word w i 2 → c ≡ step_word w i 3 → d ≡ step_word w i 4 → e ≡ step_word w i 5
     → r ≡ step_right w i
 unfolding step_word
-step-right w i {k = k} {a} {b} {c} {d} {e} q m e₀ e₁ e₂ e₃ e₄ e₅ =
+step-right w i {k = k} {a} {b} {c} {d} {e} q j m e₀ e₁ e₂ e₃ e₄ e₅ =
     let at = steps_at w + step_width * i in
     cc (step-by w at k a b c d e (first-of w at e₀) e₁ e₂ e₃ e₄ e₅)
 
--- tables, by their kind
-rows-past : (cases ranges k first rows : ℕ) → 1 < k → rows_fit cases ranges k first rows ≡ false
-unfolding rows_fit
-rows-past cases ranges k first rows h = rw (ne_eqb k 0 (λ e. omega arith), ne_eqb k 1 (λ e. omega arith)) refl
+-- the rows of a table are those of the pool that its kind names
+pool_rows : (w : List ℕ) (k : ℕ) → rows_there w (kind_of (rows_of k)) ≡ rows_there w k
+unfolding rows_there kind_of rows_of
+pool_rows w k = by (eqb k 0) refl
+  where
+    by : (b : Bool) → eqb k 0 ≡ b → rows_there w (kind_of (rows_of k)) ≡ rows_there w k
+    by true e = rw (e, rows_of, rows_there) refl
+    by false e = rw (e, rows_of, rows_there) refl
 
--- the answer by the kind is that of the rules
-table-by : (w : List ℕ) (at k first rows default : ℕ) → k ≡ word w at
-    → first ≡ word w (at + 1) → rows ≡ word w (at + 2) → default ≡ word w (at + 3)
-    → (rows_fit (cases w) (ranges w) k first rows && leb default (instructions w))
+-- the answer by the pool is that of the rules
+table-by : (w : List ℕ) (at k first rows n default : ℕ) → k ≡ word w at
+    → first ≡ word w (at + 1) → rows ≡ word w (at + 2) → default ≡ word w (at + 3) → n ≡ rows_there w k
+    → (leb k 1 && leb (first + rows) n && leb default (instructions w))
     ≡ obeys (up_to 1 ∷ free ∷ within first (rows_there w k) ∷ up_to (instructions w) ∷ []) w at
-unfolding rows_fit run_fits rows_there fits
-table-by w at zero first rows default e₀ e₁ e₂ e₃ =
-    simp or-false (obeys-4 w at e₀ (up_to 1) free (within first (cases w)) (up_to (instructions w)) e₁ e₂ e₃)
-table-by w at (suc zero) first rows default e₀ e₁ e₂ e₃ =
-    obeys-4 w at e₀ (up_to 1) free (within first (ranges w)) (up_to (instructions w)) e₁ e₂ e₃
-table-by w at (suc (suc k)) first rows default e₀ e₁ e₂ e₃ =
-    let k2 = suc (suc k) in
-    ap (λ (t : Bool). t && leb default (instructions w)) (rows-past (cases w) (ranges w) k2 first rows (omega arith))
-    ∙ obeys-none w at e₀ (up_to 1) (free ∷ within first (rows_there w k2) ∷ up_to (instructions w) ∷ []) (lt-leb k2 1 (omega arith))
+unfolding fits
+table-by w at k first rows n default e₀ e₁ e₂ e₃ h =
+    ap (λ m. leb k 1 && leb (first + rows) m && leb default (instructions w)) h
+    ∙ simp and-true at (obeys-4 w at e₀ (up_to 1) free (within first (rows_there w k)) (up_to (instructions w)) e₁ e₂ e₃)
 
-pub table-right : (w : List ℕ) (i : ℕ) {code cases' ranges' k first rows default : ℕ} {r : Bool}
-    → code ≡ instructions w → cases' ≡ cases w → ranges' ≡ ranges w
-    → k ≡ switch_word w i 0 → first ≡ switch_word w i 1 → rows ≡ switch_word w i 2
-    → r ≡ rows_fit cases' ranges' k first rows → default ≡ switch_word w i 3
-    → (r && leb default code) ≡ table_right w i
-unfolding switch_word
-table-right w i {k = k} {first} {rows} {default} p c g e₀ e₁ e₂ q e₃ =
+pub table-right : (w : List ℕ) (i : ℕ) {places n k first rows default : ℕ} {pool : Rows} {run : Bool} → places ≡ instructions w
+    → k ≡ switch_word w i 0 → first ≡ switch_word w i 1 → rows ≡ switch_word w i 2 → pool ≡ rows_of k → n ≡ rows_there w (kind_of pool)
+    → run ≡ run_fits first rows n → default ≡ switch_word w i 3
+    → (leb k 1 && run && leb default places) ≡ table_right w i
+unfolding switch_word run_fits
+table-right w i {n = n} {k} {first} {rows} {default} p e₀ e₁ e₂ o h q e₃ =
     let at = switches_at w + switch_width * i in
-    cc (table-by w at k first rows default (first-of w at e₀) e₁ e₂ e₃)
+    let pool : n ≡ rows_there w k = h ∙ ap (λ r. rows_there w (kind_of r)) o ∙ pool_rows w k in
+    cc (table-by w at k first rows n default (first-of w at e₀) e₁ e₂ e₃ pool)

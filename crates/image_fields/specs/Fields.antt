@@ -1,9 +1,13 @@
 -- The words of all records, and each record's test over numbers as the code makes it. Only `fields_right` is to be believed: the laws show
 -- that the others are the tests of crate image_rule.
-use Rattle.std.specs.Prelude.{ℕ, ◌+◌, ◌/◌, ◌%◌, Bool, true, false, ◌&&◌, ◌||◌, List, [], ◌∷◌, leb, ltb, eqb, get_or}
+use Rattle.std.specs.Prelude.{ℕ, ◌+◌, ◌/◌, ◌%◌, Bool, true, false, ◌&&◌, ◌||◌, List, [], ◌∷◌, Option, Some, None, leb, ltb, eqb, get_or}
 use Rattle.sheet.specs.Sections.{local_count}
 use Rattle.check_shape.specs.Kinds as Kinds
 use Rattle.lowering.specs.Limits.{max_args, max_elements}
+use Rattle.image_read.specs.declared.RootKind.{RootKind}
+use Rattle.image_read.specs.declared.RootKind.TheVariants.{Local, Named, This, Temporary}
+use Rattle.image_read.specs.declared.StepKind.{StepKind}
+use Rattle.image_read.specs.declared.StepKind.TheVariants.{Index, Property, Method}
 use Rattle.image_rule.specs.Rules.{constants, names, residuals, chains, tables}
 use Rattle.image_rule.specs.Test.{code_right, consts_right, names_right, tokens_right, residuals_right}
 use Rattle.image_rule.specs.Test.{chains_right, steps_right, switches_right, cases_right, ranges_right}
@@ -97,18 +101,15 @@ const_fits texts kind a b =
 unfoldable pub run_fits : ℕ → ℕ → ℕ → Bool
 run_fits first count n = leb (first + count) n
 
-unfoldable pub root_fits : ℕ → ℕ → ℕ → ℕ → ℕ → Bool
-root_fits locals names root x y =
-    (eqb root 0 && ltb x locals && ltb y names)
-    || (eqb root 1 && ltb x names)
-    || (eqb root 2 && eqb x 0)
-    || (eqb root 3 && eqb x 0 && eqb y 0)
+unfoldable pub root_fits : ℕ → ℕ → Option RootKind → ℕ → ℕ → Bool
+root_fits locals names (Some Local) x y = ltb x locals && ltb y names
+root_fits locals names (Some Named) x y = ltb x names
+root_fits locals names (Some This) x y = eqb x 0
+root_fits locals names (Some Temporary) x y = eqb x 0 && eqb y 0
+root_fits locals names None x y = false
 
-unfoldable pub step_fits : ℕ → ℕ → ℕ → ℕ → ℕ → ℕ → ℕ → Bool
-step_fits names kind a b c d e =
-    (eqb kind 0 && leb b 1 && eqb e 0)
-    || (eqb kind 1 && ltb a names && ltb b names && ltb c names && leb d 1)
-    || (eqb kind 2 && ltb a names && leb b max_args && leb d 1)
-
-unfoldable pub rows_fit : ℕ → ℕ → ℕ → ℕ → ℕ → Bool
-rows_fit cases ranges kind first rows = (eqb kind 0 && run_fits first rows cases) || (eqb kind 1 && run_fits first rows ranges)
+unfoldable pub step_fits : ℕ → Option StepKind → ℕ → ℕ → ℕ → ℕ → ℕ → Bool
+step_fits names (Some Index) a b c d e = leb b 1 && eqb e 0
+step_fits names (Some Property) a b c d e = ltb a names && ltb b names && ltb c names && leb d 1
+step_fits names (Some Method) a b c d e = ltb a names && leb b max_args && leb d 1
+step_fits names None a b c d e = false

@@ -8,8 +8,9 @@ ghost use Rattle.image_fields.specs.Fields as fields;
 ghost use Rattle.image_fields.specs.Records as records;
 
 use check_shape::scalar;
-use image_read::Image;
+use image_read::{Image, RootKind, Rows, StepKind};
 use lowering::{MAX_ARGS, MAX_ELEMENTS, RANGE_TARGET};
+use sheet::kinds::{CHAR, FLOAT, INT, STRING};
 use sheet::{local_count, node_count, text_count};
 
 // Greatest token.
@@ -19,6 +20,7 @@ const MAX_TOKEN: u32 = 65535;
 const ANY: u64 = 0x1_0000_0000;
 
 // Kinds of instructions whose b and c may be used.
+// Kept: words and no enum. A kind is a word that a stranger sends, by which the bound of a is looked up; only these three are named.
 const CALL: u32 = 12;
 
 const CALL_REF: u32 = 13;
@@ -26,6 +28,7 @@ const CALL_REF: u32 = 13;
 const CALL_FN_PTR: u32 = 17;
 
 // For the kinds 0 to 24: what a must be below. Kind 0 is none.
+// Kept: an array and no match. It has the same line for each kind, is made once for an image, and is one load for each instruction.
 fn code_bounds(sheet: &[u8], image: &Image) -> [u64; 25]
     ensures { result ≡ fields.code_bounds sheet.now image.now.words.now }
 {
@@ -65,9 +68,9 @@ fn code_bounds(sheet: &[u8], image: &Image) -> [u64; 25]
 fn const_fits(texts: u32, kind: u32, a: u32, b: u32) -> bool
     ensures { result ≡ fields.const_fits texts kind a b }
 {
-    let char = (kind == 5) & scalar(a) & (b == 0);
-    let string = (kind == 6) & (a < texts) & (b == 0);
-    (kind == 3) | (kind == 4) | char | string
+    let char = (kind == CHAR) & scalar(a) & (b == 0);
+    let string = (kind == STRING) & (a < texts) & (b == 0);
+    (kind == INT) | (kind == FLOAT) | char | string
 }
 
 // A run of `count` from `first` on lies among `n`.
@@ -78,31 +81,30 @@ fn run_fits(first: u32, count: u32, n: u32) -> bool
 }
 
 // Local: slot and name; Named: name and position; This: 0 and position; Temporary: 0 and 0.
-fn root_fits(locals: u32, names: u32, root: u32, x: u32, y: u32) -> bool
+#[tactic(auto, unfolding(crate::specs::Fields::root_fits))]
+fn root_fits(locals: u32, names: u32, root: Option<RootKind>, x: u32, y: u32) -> bool
     ensures { result ≡ fields.root_fits locals names root x y }
 {
-    let local = (root == 0) & (x < locals) & (y < names);
-    let named = (root == 1) & (x < names);
-    let this = (root == 2) & (x == 0);
-    let temporary = (root == 3) & (x == 0) & (y == 0);
-    local | named | this | temporary
+    match root {
+        Some(RootKind::Local) => (x < locals) & (y < names),
+        Some(RootKind::Named) => x < names,
+        Some(RootKind::This) => x == 0,
+        Some(RootKind::Temporary) => (x == 0) & (y == 0),
+        None => false,
+    }
 }
 
 // Index: operand, flags, two positions, 0; property: three names, flags, position; method: name, argc, operand, flags, position.
-fn step_fits(names: u32, kind: u32, a: u32, b: u32, c: u32, d: u32, e: u32) -> bool
+#[tactic(auto, unfolding(crate::specs::Fields::step_fits))]
+fn step_fits(names: u32, kind: Option<StepKind>, a: u32, b: u32, c: u32, d: u32, e: u32) -> bool
     ensures { result ≡ fields.step_fits names kind a b c d e }
 {
-    let index = (kind == 0) & (b <= 1) & (e == 0);
-    let property = (kind == 1) & (a < names) & (b < names) & (c < names) & (d <= 1);
-    let method = (kind == 2) & (a < names) & (b <= MAX_ARGS) & (d <= 1);
-    index | property | method
-}
-
-// A table's rows are a run of the cases (kind 0) or of the ranges (kind 1).
-fn rows_fit(cases: u32, ranges: u32, kind: u32, first: u32, rows: u32) -> bool
-    ensures { result ≡ fields.rows_fit cases ranges kind first rows }
-{
-    ((kind == 0) & run_fits(first, rows, cases)) | ((kind == 1) & run_fits(first, rows, ranges))
+    match kind {
+        Some(StepKind::Index) => (b <= 1) & (e == 0),
+        Some(StepKind::Property) => (a < names) & (b < names) & (c < names) & (d <= 1),
+        Some(StepKind::Method) => (a < names) & (b <= MAX_ARGS) & (d <= 1),
+        None => false,
+    }
 }
 
 // An image beside its sheet, with what is asked of the sheet and the bounds of a by kind, read once.
@@ -168,6 +170,7 @@ impl<'a> Pair<'a> {
         (b == 0) & (c == 0)
     }
 
+    // An instruction of a known kind whose word `a` is below its kind's bound, and whose other two words are right.
     fn code_fits(&self, kind: u32, a: u32, b: u32, c: u32) -> bool
         ensures { result ≡ fields.code_fits self.now.bounds self.now.image.sizes.tokens kind a b c }
     {
@@ -226,7 +229,7 @@ impl<'a> Pair<'a> {
         ensures { result ≡ records.chain_right self.now.sheet.now self.now.image.words.now i }
     {
         let image = &self.image;
-        let kind = image.chain_word(i, 0);
+        let kind = RootKind::of(image.chain_word(i, 0));
         let x = image.chain_word(i, 1);
         let y = image.chain_word(i, 2);
         let root = root_fits(self.locals, image.sizes.names, kind, x, y);
@@ -244,7 +247,7 @@ impl<'a> Pair<'a> {
         let image = &self.image;
         step_fits(
             image.sizes.names,
-            image.step_word(i, 0),
+            StepKind::of(image.step_word(i, 0)),
             image.step_word(i, 1),
             image.step_word(i, 2),
             image.step_word(i, 3),
@@ -253,6 +256,7 @@ impl<'a> Pair<'a> {
         )
     }
 
+    // A table's rows are a run of the cases (kind 0) or of the ranges (kind 1).
     fn table_right(&self, i: u32) -> bool
         ensures { result ≡ records.table_right self.now.image.words.now i }
     {
@@ -260,8 +264,8 @@ impl<'a> Pair<'a> {
         let kind = image.table_word(i, 0);
         let from = image.table_word(i, 1);
         let rows = image.table_word(i, 2);
-        let run = rows_fit(image.sizes.cases, image.sizes.ranges, kind, from, rows);
-        run & (image.table_word(i, 3) <= image.sizes.places)
+        let run = run_fits(from, rows, image.rows_there(Rows::from(kind)));
+        (kind <= 1) & run & (image.table_word(i, 3) <= image.sizes.places)
     }
 
     fn case_right(&self, i: u32) -> bool

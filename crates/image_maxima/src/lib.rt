@@ -1,28 +1,23 @@
 // Ranges of numbers asked for their maximum, each in as many steps as a tree over the numbers is high.
 #![tactic(auto)]
 
-ghost use Rattle.std.specs.Prelude.{◌≡◌, ◌*◌, ◌≤◌, length};
+ghost use Rattle.std.specs.Prelude.{◌≡◌, ◌/◌, ◌≤◌, length};
 ghost use Rattle.image_maxima.specs.Tree.{Tree, Built, leaves_up_to};
 
-// The tree over the leaves that stand in words `size` to 2 `size` - 1, which are kept.
-pub fn build(t: &mut [u32], size: usize)
-    ensures { 2 * size ≤ length t.old → Built t.old t.new size }
+// The tree over the leaves that stand in the second half of `t`, which is kept.
+pub fn build(t: &mut [u32])
+    ensures { Built t.old t.new (length t.old / 2) }
 {
-    if t.len() / 2 < size {
-        return;
-    }
-    for k in (1..size).rev() {
+    for k in (1..t.len() / 2).rev() {
         t[k] = t[2 * k].max(t[2 * k + 1]);
     }
 }
 
 // Whether leaves `a` to `b` - 1 are at most `x`. Both ends of a level are tested, what lies between by the level above.
-pub fn all_at_most(t: &[u32], size: usize, a: usize, b: usize, x: u32) -> bool
-    ensures { Tree t.now size → b ≤ size → result ≡ leaves_up_to t.now size a b x }
+pub fn all_at_most(t: &[u32], a: usize, b: usize, x: u32) -> bool
+    ensures { let size = length t.now / 2 in (Tree t.now size → b ≤ size → result ≡ leaves_up_to t.now size a b x) }
 {
-    if t.len() / 2 < size {
-        return false;
-    }
+    let size = t.len() / 2;
     if size < b {
         return false;
     }

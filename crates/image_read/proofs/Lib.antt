@@ -1,1 +1,3 @@
 pub mod TargetLaws
+pub mod BelowLaws
+pub mod KindLaws

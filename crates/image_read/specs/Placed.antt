@@ -4,7 +4,8 @@ use Rattle.lowering.specs.Limits.{op_width, name_width}
 use Rattle.lowering.specs.Words.{word, code_at, instructions, consts_at, chains_at, switches_at, cases_at, ranges_at}
 use Rattle.image_rule.specs.Rules.{constants, names, tokens, residuals, chains, steps, tables, cases, ranges}
 use Rattle.image_rule.specs.Rules.{names_at, tokens_at, residuals_at, steps_at}
-use Rattle.image_read.specs.Most.{ranges_most}
+use Rattle.image_read.specs.Most.{consts_most, names_most, tokens_most, residuals_most, chains_most, steps_most}
+use Rattle.image_read.specs.Most.{switches_most, cases_most, ranges_most}
 use Rattle.image_read.specs.declared.Sizes.{Sizes}
 use Rattle.image_read.specs.declared.Starts.{Starts}
 
@@ -33,16 +34,16 @@ pub record Placed (w : List ℕ) (o : Starts) : Type 0 where
   pub cases : o.cases ≡ cases_at w
   pub ranges : o.ranges ≡ ranges_at w
 
--- no section starts so far away that a place in it has no number
+-- how far each section starts at most: no place in it is without a number
 pub record Near (o : Starts) : Type 0 where
-  pub consts : o.consts ≤ ranges_most
-  pub names : o.names ≤ ranges_most
-  pub tokens : o.tokens ≤ ranges_most
-  pub residuals : o.residuals ≤ ranges_most
-  pub chains : o.chains ≤ ranges_most
-  pub steps : o.steps ≤ ranges_most
-  pub tables : o.tables ≤ ranges_most
-  pub cases : o.cases ≤ ranges_most
+  pub consts : o.consts ≤ consts_most
+  pub names : o.names ≤ names_most
+  pub tokens : o.tokens ≤ tokens_most
+  pub residuals : o.residuals ≤ residuals_most
+  pub chains : o.chains ≤ chains_most
+  pub steps : o.steps ≤ steps_most
+  pub tables : o.tables ≤ switches_most
+  pub cases : o.cases ≤ cases_most
   pub ranges : o.ranges ≤ ranges_most
 
 -- the last word of an instruction

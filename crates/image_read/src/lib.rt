@@ -1,10 +1,12 @@
 // An image read word by word: any word, where each section starts, and the targets of rows.
 #![tactic(auto)]
 
-ghost use Rattle.std.specs.Prelude.{◌≡◌, ◌+◌, ◌*◌, ◌≤◌};
+ghost use Rattle.std.specs.Prelude.{◌≡◌, ◌≤◌, List, ℕ};
 ghost use Rattle.lowering.specs.Limits.{range_width};
 ghost use Rattle.lowering.specs.Words as words;
 ghost use Rattle.image_rule.specs.Rules as rules;
+ghost use Rattle.image_rule.specs.Marks as marks;
+ghost use Rattle.image_read.specs.Kinds as kinds;
 ghost use Rattle.image_read.specs.Most as most;
 ghost use Rattle.image_read.specs.Placed.{SizesOf, Placed, Near, c_at, name_word, token, residual};
 ghost use Rattle.image_read.specs.Pools as pools;
@@ -22,93 +24,54 @@ pub fn word_of(image: &[u32], i: usize) -> u32
     image.get(i).copied().unwrap_or(0)
 }
 
-// Size `i` of the twelve, to be counted with.
-pub fn size_of(image: &[u32], i: usize) -> usize
-    ensures value { result ≡ words.word image.now i }
-    ensures small { result ≤ most.word_most }
-{
-    word_of(image, i) as usize
+// Where a chain starts, as its record's first word says.
+#[derive(Clone, Copy)]
+pub enum RootKind {
+    Local,
+    Named,
+    This,
+    Temporary,
 }
 
-// Where the sections start, in their order, each behind the one before it.
-#[tactic(auto, unfolding(lowering::specs::Words::consts_at))]
-pub fn consts_at(image: &[u32]) -> usize
-    ensures at { result ≡ words.consts_at image.now }
-    ensures small { result ≤ most.consts_most }
-{
-    SIZES + CODE_WIDTH * size_of(image, 0)
+impl RootKind {
+    #[tactic(auto, unfolding(crate::specs::Kinds::root_of))]
+    // None where the word is no kind.
+    // Kept: an Option and no TryFrom. Of a word that is no kind there is nothing more to say, so the error would be an empty type.
+    pub fn of(kind: u32) -> Option<RootKind>
+        ensures { result ≡ kinds.root_of kind }
+    {
+        match kind {
+            0 => Some(RootKind::Local),
+            1 => Some(RootKind::Named),
+            2 => Some(RootKind::This),
+            3 => Some(RootKind::Temporary),
+            _ => None,
+        }
+    }
 }
 
-#[tactic(auto, unfolding(image_rule::specs::Rules::names_at))]
-pub fn names_at(image: &[u32]) -> usize
-    ensures at { result ≡ rules.names_at image.now }
-    ensures small { result ≤ most.names_most }
-{
-    consts_at(image) + CONST_WIDTH * size_of(image, 1)
+// What a step does, as its record's first word says.
+#[derive(Clone, Copy)]
+pub enum StepKind {
+    Index,
+    Property,
+    Method,
 }
 
-#[tactic(auto, unfolding(image_rule::specs::Rules::tokens_at))]
-pub fn tokens_at(image: &[u32]) -> usize
-    ensures at { result ≡ rules.tokens_at image.now }
-    ensures small { result ≤ most.tokens_most }
-{
-    names_at(image) + NAME_WIDTH * size_of(image, 2)
-}
-
-#[tactic(auto, unfolding(image_rule::specs::Rules::residuals_at))]
-pub fn residuals_at(image: &[u32]) -> usize
-    ensures at { result ≡ rules.residuals_at image.now }
-    ensures small { result ≤ most.residuals_most }
-{
-    tokens_at(image) + size_of(image, 3)
-}
-
-pub fn chains_at(image: &[u32]) -> usize
-    ensures at { result ≡ words.chains_at image.now }
-    ensures small { result ≤ most.chains_most }
-{
-    residuals_at(image) + size_of(image, 4)
-}
-
-#[tactic(auto, unfolding(image_rule::specs::Rules::steps_at))]
-pub fn steps_at(image: &[u32]) -> usize
-    ensures at { result ≡ rules.steps_at image.now }
-    ensures small { result ≤ most.steps_most }
-{
-    chains_at(image) + CHAIN_WIDTH * size_of(image, 5)
-}
-
-#[tactic(auto, unfolding(lowering::specs::Words::switches_at, image_rule::specs::Rules::steps_at))]
-pub fn switches_at(image: &[u32]) -> usize
-    ensures at { result ≡ words.switches_at image.now }
-    ensures small { result ≤ most.switches_most }
-{
-    steps_at(image) + STEP_WIDTH * size_of(image, 6)
-}
-
-#[tactic(auto, unfolding(lowering::specs::Words::cases_at))]
-pub fn cases_at(image: &[u32]) -> usize
-    ensures at { result ≡ words.cases_at image.now }
-    ensures small { result ≤ most.cases_most }
-{
-    switches_at(image) + SWITCH_WIDTH * size_of(image, 7)
-}
-
-#[tactic(auto, unfolding(lowering::specs::Words::ranges_at))]
-pub fn ranges_at(image: &[u32]) -> usize
-    ensures at { result ≡ words.ranges_at image.now }
-    ensures small { result ≤ most.ranges_most }
-{
-    cases_at(image) + CASE_WIDTH * size_of(image, 8)
-}
-
-// Where an image with these sizes ends.
-#[tactic(auto, unfolding(image_rule::specs::Rules::end_at))]
-pub fn end_at(image: &[u32]) -> usize
-    ensures at { result ≡ rules.end_at image.now }
-    ensures small { result ≤ most.end_most }
-{
-    ranges_at(image) + RANGE_WIDTH * size_of(image, 9)
+impl StepKind {
+    #[tactic(auto, unfolding(crate::specs::Kinds::step_of))]
+    // None where the word is no kind.
+    // Kept: as `RootKind::of`, an Option and no TryFrom.
+    pub fn of(kind: u32) -> Option<StepKind>
+        ensures { result ≡ kinds.step_of kind }
+    {
+        match kind {
+            0 => Some(StepKind::Index),
+            1 => Some(StepKind::Property),
+            2 => Some(StepKind::Method),
+            _ => None,
+        }
+    }
 }
 
 // The two pools of rows: a table's rows are a part of one of them.
@@ -118,24 +81,29 @@ pub enum Rows {
     Ranges,
 }
 
-impl Rows {
+// The pool that a table's first word names.
+impl From<u32> for Rows {
+    ghost use Rattle.std.specs.Prelude.{◌≡◌};
+    ghost use Rattle.image_read.specs.Pools.{rows_of};
+
+    ghost from_gives = { λ k r. r ≡ rows_of k };
+
     #[tactic(auto, unfolding(crate::specs::Pools::rows_of))]
-    // The pool that a table's first word names.
-    pub fn of(kind: u32) -> Rows
-        ensures { result ≡ pools.rows_of kind }
-    {
+    fn from(kind: u32) -> Rows {
         if kind == 0 { Rows::Cases } else { Rows::Ranges }
     }
+}
 
+impl Rows {
     #[tactic(auto, unfolding(crate::specs::Pools::kind_of, crate::specs::Targets::targets_at))]
     // Where the target of the pool's first row stands.
-    pub fn targets_at(self, image: &[u32]) -> usize
-        ensures at { result ≡ targets.targets_at image.now (pools.kind_of self) }
+    pub fn targets_at(self, image: &Image) -> usize
+        ensures at { result ≡ targets.targets_at image.now.words.now (pools.kind_of self) }
         ensures small { result ≤ most.targets_most }
     {
         match self {
-            Rows::Cases => cases_at(image),
-            Rows::Ranges => ranges_at(image) + RANGE_TARGET,
+            Rows::Cases => image.starts.cases,
+            Rows::Ranges => image.starts.ranges + RANGE_TARGET,
         }
     }
 
@@ -198,20 +166,30 @@ pub struct Starts {
     pub ranges: usize,
 }
 
-fn starts_of(image: &[u32]) -> Starts
-    ensures placed { Placed image.now result }
+// Each section is behind the one before it.
+fn starts_of(sizes: Sizes) -> Starts
+    ensures placed { (w : List ℕ) → SizesOf w sizes → Placed w result }
     ensures near { Near result }
 {
+    let consts = SIZES + CODE_WIDTH * (sizes.places as usize);
+    let names = consts + CONST_WIDTH * (sizes.consts as usize);
+    let tokens = names + NAME_WIDTH * (sizes.names as usize);
+    let residuals = tokens + (sizes.tokens as usize);
+    let chains = residuals + (sizes.residuals as usize);
+    let steps = chains + CHAIN_WIDTH * (sizes.chains as usize);
+    let tables = steps + STEP_WIDTH * (sizes.steps as usize);
+    let cases = tables + SWITCH_WIDTH * (sizes.tables as usize);
+    let ranges = cases + CASE_WIDTH * (sizes.cases as usize);
     Starts {
-        consts: consts_at(image),
-        names: names_at(image),
-        tokens: tokens_at(image),
-        residuals: residuals_at(image),
-        chains: chains_at(image),
-        steps: steps_at(image),
-        tables: switches_at(image),
-        cases: cases_at(image),
-        ranges: ranges_at(image),
+        consts,
+        names,
+        tokens,
+        residuals,
+        chains,
+        steps,
+        tables,
+        cases,
+        ranges,
     }
 }
 
@@ -231,12 +209,46 @@ impl<'a> Image<'a> {
         ensures { result.words.now ≡ words.now }
     {
         let sizes = sizes_of(words);
-        let starts = starts_of(words);
+        let starts = starts_of(sizes);
         Image {
             words,
             sizes,
             starts,
         }
+    }
+
+    // Where the last section ends.
+    pub fn end(&self) -> usize
+        ensures at { result ≡ rules.end_at self.now.words.now }
+        ensures small { result ≤ most.end_most }
+    {
+        self.starts.ranges + RANGE_WIDTH * (self.sizes.ranges as usize)
+    }
+
+    #[tactic(auto, unfolding(crate::specs::Pools::kind_of, image_rule::specs::Rules::rows_there))]
+    // How many rows a pool has.
+    pub fn rows_there(&self, pool: Rows) -> u32
+        ensures { result ≡ rules.rows_there self.now.words.now (pools.kind_of pool) }
+    {
+        match pool {
+            Rows::Cases => self.sizes.cases,
+            Rows::Ranges => self.sizes.ranges,
+        }
+    }
+
+    // The mark of table `i` stands behind those of the places and of the end.
+    pub fn table_node(&self, i: u32) -> usize
+        ensures value { result ≡ marks.table_node self.now.words.now i }
+        ensures small { result ≤ 8589934592 }
+    {
+        (self.sizes.places as usize) + 1 + (i as usize)
+    }
+
+    // How many marks there are.
+    pub fn marks_there(&self) -> usize
+        ensures { result ≡ marks.marks_there self.now.words.now }
+    {
+        self.table_node(self.sizes.tables)
     }
 
     // The words of the instruction at `p`.
@@ -265,6 +277,8 @@ impl<'a> Image<'a> {
     }
 
     // Word `f` of record `i` of a section; so in each.
+    // Kept: a function for each. They are one call of `word_of` under the name that the section's definition has; one function of a
+    // section would have to be told apart again in each contract that names a definition.
     pub fn const_word(&self, i: u32, f: u32) -> u32
         ensures { result ≡ words.const_word self.now.words.now i f }
     {

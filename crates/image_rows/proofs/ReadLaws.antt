@@ -5,25 +5,15 @@ use mathlib.Core.Bool.{Bool, true, false}
 use mathlib.Core.List.{List}
 use native.Mathlib.Omega.{arith}
 use lib.Dec.{eqb}
-use lib.ListN.{length, get_or-eq_default}
-use borrow.Author.Tests.{eq-eqb, ne_eqb, lt-ltb, le-ltb}
-use Rattle.lowering.specs.Limits.{switch_width, case_width, range_width, range_target}
-use Rattle.lowering.specs.Words.{word, switches_at, cases_at, ranges_at, switch_word, case_word, range_word}
+use borrow.Author.Tests.{lt-ltb, le-ltb}
+use Rattle.lowering.specs.Limits.{case_width, range_width, range_target}
+use Rattle.lowering.specs.Words.{word, cases_at, ranges_at, switch_word, case_word, range_word}
 use Rattle.lowering.specs.Run.{row_target}
 use Rattle.image_rule.specs.Rules.{cases, ranges, rows_there}
-use Rattle.image_rows.specs.declared.Starts.{Starts}
-use Rattle.image_rows.specs.AllRows.{Placed, row_of, first_row, Pooled}
-
--- behind the last word nothing but 0 is read
-pub word-past : (w : List ℕ) (i : ℕ) → length w ≤ i → 0 ≡ word w i
-word-past w i h = sym (get_or-eq_default w 0 h)
-
--- word f of table i
-pub switch-at : (w : List ℕ) (o : Starts) (i f x : ℕ) → x ≡ word w (o.switches + (switch_width * i + f)) → Placed w o → x ≡ switch_word w i f
-unfolding switch_word
-switch-at w o i f x e P =
-    let same : o.switches + (switch_width * i + f) ≡ switches_at w + switch_width * i + f = omega (arith, P.switches) in
-    e ∙ ap (word w) same
+use Rattle.image_read.specs.Pools.{rows_of}
+use Rattle.image_read.specs.declared.Rows.{Rows}
+use Rattle.image_read.specs.declared.Rows.TheVariants.{Cases, Ranges}
+use Rattle.image_rows.specs.AllRows.{row_of, first_row, Pooled}
 
 -- row q, by the section that it lies in
 is-case : (w : List ℕ) (q : ℕ) → q < cases w → row_of w q ≡ word w (cases_at w + case_width * q)
@@ -40,39 +30,49 @@ unfolding row_of
 is_none w q a b = rw (le-ltb q (cases w) a, le-ltb (q - cases w) (ranges w) b, row_of)
 
 -- the same for the word that was read
-pub row-case : (w : List ℕ) (o : Starts) (q x : ℕ) → q < o.cases → x ≡ word w (o.rows + case_width * q) → Placed w o → x ≡ row_of w q
-row-case w o q x h e P =
-    let same : o.rows + case_width * q ≡ cases_at w + case_width * q = omega (arith, P.rows) in
-    e ∙ ap (word w) same ∙ sym (is-case w q (omega (arith, P.cases)))
+pub row-case : (w : List ℕ) (q n x : ℕ) → n ≡ cases w → q < n → x ≡ case_word w q 0 → x ≡ row_of w q
+unfolding case_word
+row-case w q n x c h e =
+    let same : cases_at w + case_width * q + 0 ≡ cases_at w + case_width * q = omega arith in
+    e ∙ ap (word w) same ∙ sym (is-case w q (omega arith))
 
-pub row-range : (w : List ℕ) (o : Starts) (q x : ℕ) → o.cases ≤ q → q - o.cases < o.ranges
-    → x ≡ word w (o.spans + (range_width * (q - o.cases) + range_target)) → Placed w o → x ≡ row_of w q
-row-range w o q x h g e P =
-    let same : o.spans + (range_width * (q - o.cases) + range_target) ≡ ranges_at w + (range_width * (q - cases w) + range_target) =
-    omega (arith, P.spans, P.cases) in
-    e ∙ ap (word w) same ∙ sym (is-range w q (omega (arith, P.cases)) (omega (arith, P.cases, P.ranges)))
+pub row-range : (w : List ℕ) (q n m x : ℕ) → n ≡ cases w → m ≡ ranges w → n ≤ q → q - n < m → x ≡ range_word w (q - n) range_target
+    → x ≡ row_of w q
+unfolding range_word
+row-range w q n m x c d h g e =
+    let same : ranges_at w + range_width * (q - n) + range_target ≡ ranges_at w + (range_width * (q - cases w) + range_target) =
+    omega (arith, c) in
+    e ∙ ap (word w) same ∙ sym (is-range w q (omega arith) (omega arith))
 
-pub row-none : (w : List ℕ) (o : Starts) (q : ℕ) → o.cases ≤ q → o.ranges ≤ q - o.cases → Placed w o → 0 ≡ row_of w q
-row-none w o q h g P = sym (is_none w q (omega (arith, P.cases)) (omega (arith, P.cases, P.ranges)))
+pub row-none : (w : List ℕ) (q n m : ℕ) → n ≡ cases w → m ≡ ranges w → n ≤ q → m ≤ q - n → 0 ≡ row_of w q
+row-none w q n m c d h g = sym (is_none w q (omega arith) (omega arith))
 
--- the first row of a table
-first-case : (w : List ℕ) (i : ℕ) → switch_word w i 0 ≡ 0 → first_row w i ≡ switch_word w i 1
-unfolding first_row
-first-case w i z = rw (eq-eqb (switch_word w i 0) 0 z, first_row)
+-- the first row of a table, by the pool
+first_in : List ℕ → Rows → ℕ → ℕ
+first_in w Cases x = x
+first_in w Ranges x = cases w + x
 
-first_range : (w : List ℕ) (i : ℕ) → (switch_word w i 0 ≡ 0 → ⊥) → first_row w i ≡ cases w + switch_word w i 1
-unfolding first_row
-first_range w i z = rw (ne_eqb (switch_word w i 0) 0 z, first_row)
+in-pool : (w : List ℕ) (i : ℕ) → first_in w (rows_of (switch_word w i 0)) (switch_word w i 1) ≡ first_row w i
+unfolding first_in first_row rows_of
+in-pool w i = by (eqb (switch_word w i 0) 0) refl
+  where
+    by : (b : Bool) → eqb (switch_word w i 0) 0 ≡ b → first_in w (rows_of (switch_word w i 0)) (switch_word w i 1) ≡ first_row w i
+    by true e = rw (e, rows_of, first_row) refl
+    by false e = rw (e, rows_of, first_row) refl
 
-pub first-of-cases : (w : List ℕ) (o : Starts) (i kind x : ℕ) → (Placed w o → kind ≡ switch_word w i 0) → kind ≡ 0
-    → (Placed w o → x ≡ switch_word w i 1) → Placed w o → x ≡ first_row w i
-first-of-cases w o i kind x k z e P = e P ∙ sym (first-case w i (sym (k P) ∙ z))
+first-read : (w : List ℕ) (i kind x : ℕ) (pool : Rows) → kind ≡ switch_word w i 0 → x ≡ switch_word w i 1 → pool ≡ rows_of kind
+    → first_in w pool x ≡ first_row w i
+first-read w i kind x pool k e h =
+    ap (λ p. first_in w p x) (h ∙ ap rows_of k) ∙ ap (first_in w (rows_of (switch_word w i 0))) e ∙ in-pool w i
 
-pub first-of-ranges : (w : List ℕ) (o : Starts) (i kind x : ℕ) → (Placed w o → kind ≡ switch_word w i 0) → (kind ≡ 0 → ⊥)
-    → (Placed w o → x ≡ switch_word w i 1) → Placed w o → o.cases + x ≡ first_row w i
-first-of-ranges w o i kind x k z e P =
-    let same : o.cases + x ≡ cases w + switch_word w i 1 = omega (arith, P.cases, e P) in
-    same ∙ sym (first_range w i (λ q. z (k P ∙ q)))
+pub first-of-cases : (w : List ℕ) (i kind x : ℕ) → kind ≡ switch_word w i 0 → x ≡ switch_word w i 1 → Cases ≡ rows_of kind → x ≡ first_row w i
+unfolding first_in
+first-of-cases w i kind x k e h = first-read w i kind x Cases k e h
+
+pub first-of-ranges : (w : List ℕ) (i kind x n : ℕ) → kind ≡ switch_word w i 0 → x ≡ switch_word w i 1 → Ranges ≡ rows_of kind → n ≡ cases w
+    → n + x ≡ first_row w i
+unfolding first_in
+first-of-ranges w i kind x n k e h c = ap (λ m. m + x) c ∙ first-read w i kind x Ranges k e h
 
 -- a table's rows are rows of the list
 target-case : (w : List ℕ) (i r : ℕ) → eqb (switch_word w i 0) 0 ≡ true

@@ -6,8 +6,8 @@ use mathlib.Core.List.{List}
 use native.Mathlib.Omega.{arith}
 use native.Mathlib.Numerals.{add-one}
 use lib.Dec.{eqb, leb}
-use lib.ListN.{length, set, take, drop, length-drop}
-use lib.Seq.{take-set-le, drop-set-add, get_or-drop, get_or-set_same, get_or-set_other}
+use lib.ListN.{length, set}
+use lib.Seq.{get_or-set_same, get_or-set_other}
 use borrow.Author.Tests.{eq-eqb, ne_eqb, eqb-true, eqb-false, le-leb, leb-true}
 use Rattle.laws.proofs.Bool.{both_ways}
 use Rattle.words.specs.Count.{all_below}
@@ -15,12 +15,10 @@ use Rattle.words.proofs.CountLaws.{all-at, all_of, all_same}
 use Rattle.lowering.specs.Words.{word, switch_word}
 use Rattle.lowering.specs.Run.{row_target}
 use Rattle.image_rule.specs.Rules.{cases, ranges}
-use Rattle.image_rule.specs.Marks.{mark, marks_there}
-use Rattle.image_rows.specs.declared.Starts.{Starts}
-use Rattle.image_rows.specs.AllRows.{Placed, row_of, first_row, Pooled, mark_before, run_before}
-use Rattle.image_rows.specs.Scratch.{marks_of, noted, row_mark, Runs, Counted}
+use Rattle.image_rule.specs.Marks.{mark}
+use Rattle.image_rows.specs.AllRows.{row_of, first_row, Pooled, mark_before, run_before}
+use Rattle.image_rows.specs.Scratch.{row_mark, Runs, Counted}
 use Rattle.image_rows.proofs.ReadLaws.{row-of, pooled-inside}
-use Rattle.image_rows.proofs.ScratchLaws.{size_is}
 
 module _ (f : ℕ → ℕ) where
   -- a row with the mark before it makes the run longer
@@ -95,100 +93,76 @@ module _ (f : ℕ → ℕ) where
           let long = subst (λ (i : ℕ). n ≤ run_before f i) end (run_long first m n at) in
           (eq-eqb x m (k ∙ ap f (sym last) ∙ at (n - 1) (omega arith)), le-leb n y (omega arith))
 
--- the loop that counts: q rows are passed, from the scratch l₀ on
-pub record Counting (w l₀ : List ℕ) (q before run : ℕ) (l : List ℕ) : Type 0 where
-  pub marks : marks_of w l ≡ marks_of w l₀
-  pub last : before ≡ mark_before (row_mark w l₀) q
-  pub long : run ≡ min (run_before (row_mark w l₀) q) 4294967295
-  pub runs : marks_there w + cases w + ranges w ≤ length l₀ → (j : ℕ) → j < q
-      → noted w l j ≡ min (run_before (row_mark w l₀) (suc j)) 4294967295
+-- the loop that counts: q rows are passed, from the words n₀ on
+pub record Counting (w l n₀ : List ℕ) (q before run : ℕ) (n : List ℕ) : Type 0 where
+  pub last : before ≡ mark_before (row_mark w l) q
+  pub long : run ≡ min (run_before (row_mark w l) q) 4294967295
+  pub runs : cases w + ranges w ≤ length n₀ → (j : ℕ) → j < q → word n j ≡ min (run_before (row_mark w l) (suc j)) 4294967295
 
 -- no row is passed
-pub counting-start : (w l : List ℕ) → Counting w l 0 0 0 l
+pub counting-start : (w l n : List ℕ) → Counting w l n 0 0 0 n
 unfolding mark_before run_before
-counting-start w l = record { marks = refl; last = refl; long = refl; runs = λ h j b. absurd (omega arith) }
+counting-start w l n = record { last = refl; long = refl; runs = λ h j b. absurd (omega arith) }
 
-module _ (w l₀ : List ℕ) (q before run t m run' size : ℕ) (l l' : List ℕ)
-    (C : Counting w l₀ q before run l) (inside : q < cases w + ranges w) (long : length l ≡ length l₀) (s : size ≡ marks_there w)
-    (target : t ≡ row_of w q) (there : m ≡ mark (take size l) t)
-    (same : m ≡ before → run' ≡ min (run + 1) 4294967295) (other : (m ≡ before → ⊥) → run' ≡ 1) (put : l' ≡ set l (size + q) run') where
+module _ (w l n₀ : List ℕ) (q before run t m run' : ℕ) (n n' : List ℕ)
+    (C : Counting w l n₀ q before run n) (inside : q < cases w + ranges w) (long : length n ≡ length n₀)
+    (target : t ≡ row_of w q) (there : m ≡ mark l t)
+    (same : m ≡ before → run' ≡ min (run + 1) 4294967295) (other : (m ≡ before → ⊥) → run' ≡ 1) (put : n' ≡ set n q run') where
   -- the mark of row q
-  mark-is : m ≡ row_mark w l₀ q
-  mark-is =
-      there ∙ ap (mark (take size l)) target ∙ ap (λ (n : ℕ). mark (take n l) (row_of w q)) s
-      ∙ ap (λ (a : List ℕ). mark a (row_of w q)) C.marks
+  mark-is : m ≡ row_mark w l q
+  mark-is = there ∙ ap (mark l) target
 
   -- the run that ends at row q
-  run_is : run' ≡ min (run_before (row_mark w l₀) (suc q)) 4294967295
+  run_is : run' ≡ min (run_before (row_mark w l) (suc q)) 4294967295
   run_is = by (eqb m before) refl
     where
-      by : (b : Bool) → eqb m before ≡ b → run' ≡ min (run_before (row_mark w l₀) (suc q)) 4294967295
+      by : (b : Bool) → eqb m before ≡ b → run' ≡ min (run_before (row_mark w l) (suc q)) 4294967295
       by true e =
           let z = eqb-true m before e in
-          omega (arith, same z, C.long, run-same (row_mark w l₀) q (sym mark-is ∙ z ∙ C.last))
+          omega (arith, same z, C.long, run-same (row_mark w l) q (sym mark-is ∙ z ∙ C.last))
       by false e =
           let z = eqb-false m before e in
-          omega (arith, other z, run-other (row_mark w l₀) q (λ g. z (mark-is ∙ g ∙ sym C.last)))
-
-  -- only the word of row q changes
-  rest_is : drop (marks_there w) l' ≡ set (drop (marks_there w) l) q run'
-  rest_is =
-      ap (drop (marks_there w)) (put ∙ ap (λ (n : ℕ). set l (n + q) run') s) ∙ drop-set-add (marks_there w) l q run'
+          omega (arith, other z, run-other (row_mark w l) q (λ g. z (mark-is ∙ g ∙ sym C.last)))
 
   -- the words of rows up to q
-  noted-at : marks_there w + cases w + ranges w ≤ length l₀ → (j : ℕ) → j < q + 1 → (b : Bool) → eqb j q ≡ b
-      → noted w l' j ≡ min (run_before (row_mark w l₀) (suc j)) 4294967295
+  noted-at : cases w + ranges w ≤ length n₀ → (j : ℕ) → j < q + 1 → (b : Bool) → eqb j q ≡ b
+      → word n' j ≡ min (run_before (row_mark w l) (suc j)) 4294967295
   noted-at room j h true e =
-      let z = eqb-true j q e in
-      ap (λ (x : List ℕ). word x j) rest_is ∙ ap (word (set (drop (marks_there w) l) q run')) z
-      ∙ get_or-set_same (drop (marks_there w) l) q run' 0 (omega (arith, length-drop (marks_there w) l))
-      ∙ run_is ∙ ap (λ (k : ℕ). min (run_before (row_mark w l₀) (suc k)) 4294967295) (sym z)
+      let same-row = eqb-true j q e in
+      subst (λ i. word n' i ≡ min (run_before (row_mark w l) (suc i)) 4294967295) (sym same-row)
+      (ap (λ (x : List ℕ). word x q) put ∙ get_or-set_same n q run' 0 (omega (arith, long)) ∙ run_is)
   noted-at room j h false e =
-      let z = eqb-false j q e in
-      ap (λ (x : List ℕ). word x j) rest_is ∙ get_or-set_other (drop (marks_there w) l) q j run' 0 z
-      ∙ C.runs room j (omega (arith, z))
+      let d = eqb-false j q e in
+      ap (λ (x : List ℕ). word x j) put ∙ get_or-set_other n q j run' 0 d ∙ C.runs room j (omega (arith, d))
 
   -- one more row is passed
-  pub counting-on : Counting w l₀ (q + 1) m run' l'
+  pub counting-on : Counting w l n₀ (q + 1) m run' n'
   unfolding mark_before
   counting-on = record {
-    marks = ap (take (marks_there w)) put ∙ take-set-le (marks_there w) l (size + q) run' (omega arith) ∙ C.marks;
     last = rw add-one mark-is;
     long = rw add-one run_is;
     runs = λ room j h. noted-at room j h (eqb j q) refl;
   }
 
 -- all rows are passed
-pub counting-done : (w : List ℕ) (o : Starts) (l₀ : List ℕ) (q total before run : ℕ) (l : List ℕ) → Placed w o
-    → total ≡ o.cases + o.ranges → q ≡ total → Counting w l₀ q before run l → Counted w l₀ l
-counting-done w o l₀ q total before run l P e d C = record {
-  marks = C.marks;
-  runs = λ room. record {
-    runs = λ j h.
-        subst (λ (a : List ℕ). noted w l j ≡ min (run_before (λ i. mark a (row_of w i)) (suc j)) 4294967295) (sym C.marks)
-        (C.runs room j (omega (arith, P.cases, P.ranges)));
-  };
-}
+pub counting-done : (w l n₀ : List ℕ) (q before run : ℕ) (n : List ℕ) → q ≡ cases w + ranges w → Counting w l n₀ q before run n
+    → Counted w l n₀ n
+counting-done w l n₀ q before run n d C room = record { runs = λ j h. C.runs room j (omega (arith, d)) }
 
 -- the rows of a table: none
 pub rows_none : (w l : List ℕ) (i m rows : ℕ) → rows ≡ switch_word w i 2 → rows ≡ 0
-    → true ≡ all_below (switch_word w i 2) (λ j. eqb (mark (marks_of w l) (row_target w i j)) m)
+    → true ≡ all_below (switch_word w i 2) (λ j. eqb (mark l (row_target w i j)) m)
 unfolding all_below
-rows_none w l i m rows e z = ap (λ (n : ℕ). all_below n (λ j. eqb (mark (marks_of w l) (row_target w i j)) m)) (sym z ∙ e)
+rows_none w l i m rows e z = ap (λ (n : ℕ). all_below n (λ j. eqb (mark l (row_target w i j)) m)) (sym z ∙ e)
 
 -- by the mark of the last row and the run that ends there
-pub rows-some : (w : List ℕ) (o : Starts) (l : List ℕ) (i m rows first size last t x y : ℕ)
-    → (Placed w o → rows ≡ switch_word w i 2) → (rows ≡ 0 → ⊥) → rows ≤ 4294967295 → size ≡ o.places + 1 + o.tables
-    → (Placed w o → first ≡ first_row w i) → last ≡ first + rows - 1 → (Placed w o → t ≡ row_of w last)
-    → x ≡ mark (take size l) t → y ≡ word l (size + last)
-    → Placed w o → Pooled w i → Runs w l
-    → (eqb x m && leb rows y) ≡ all_below (switch_word w i 2) (λ j. eqb (mark (marks_of w l) (row_target w i j)) m)
-rows-some w o l i m rows first size last t x y e z small s a d g h k P Q R =
-    let sz = size_is w o size s P in
-    let inside : last < cases w + ranges w = omega (arith, pooled-inside w i Q, e P, a P, z) in
-    let there : x ≡ row_mark w l last = h ∙ ap (mark (take size l)) (g P) ∙ ap (λ (n : ℕ). mark (take n l) (row_of w last)) sz in
-    let run : y ≡ noted w l last = k ∙ ap (λ (n : ℕ). word l (n + last)) sz ∙ sym (get_or-drop (marks_there w) l last 0) in
-    alike_is (row_mark w l) first m rows last x y (omega (arith, z)) small d there (run ∙ R.runs last inside)
-    ∙ ap (λ (n : ℕ). all_below n (λ j. eqb (row_mark w l (first + j)) m)) (e P)
-    ∙ all_same (λ j. eqb (row_mark w l (first + j)) m) (λ j. eqb (mark (marks_of w l) (row_target w i j)) m) (switch_word w i 2)
-    (λ j b. ap (λ (u : ℕ). eqb (mark (marks_of w l) u) m) (ap (λ (n : ℕ). row_of w (n + j)) (a P) ∙ sym (row-of w i j Q b)))
+pub rows-some : (w l n : List ℕ) (i m rows first last t x y : ℕ) → rows ≡ switch_word w i 2 → (rows ≡ 0 → ⊥) → rows ≤ 4294967295
+    → first ≡ first_row w i → last ≡ first + rows - 1 → t ≡ row_of w last → x ≡ mark l t → y ≡ word n last → Pooled w i → Runs w l n
+    → (eqb x m && leb rows y) ≡ all_below (switch_word w i 2) (λ j. eqb (mark l (row_target w i j)) m)
+rows-some w l n i m rows first last t x y e z small a d g h k Q R =
+    let inside : last < cases w + ranges w = omega (arith, pooled-inside w i Q, e, a, z) in
+    let there : x ≡ row_mark w l last = h ∙ ap (mark l) g in
+    alike_is (row_mark w l) first m rows last x y (omega (arith, z)) small d there (k ∙ R.runs last inside)
+    ∙ ap (λ (j : ℕ). all_below j (λ j. eqb (row_mark w l (first + j)) m)) e
+    ∙ all_same (λ j. eqb (row_mark w l (first + j)) m) (λ j. eqb (mark l (row_target w i j)) m) (switch_word w i 2)
+    (λ j b. ap (λ (u : ℕ). eqb (mark l u) m) (ap (λ (j' : ℕ). row_of w (j' + j)) a ∙ sym (row-of w i j Q b)))

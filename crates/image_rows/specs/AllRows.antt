@@ -1,20 +1,8 @@
 -- The rows of all tables as one list: the cases, and behind them the ranges.
-use Rattle.std.specs.Prelude.{ℕ, zero, suc, ◌+◌, ◌*◌, ◌-◌, ◌≤◌, ◌≡◌, true, false, List, eqb, ltb}
+use Rattle.std.specs.Prelude.{ℕ, zero, suc, ◌+◌, ◌*◌, ◌-◌, ◌≤◌, true, false, List, eqb, ltb}
 use Rattle.lowering.specs.Limits.{case_width, range_width, range_target}
-use Rattle.lowering.specs.Words.{word, instructions, chains_at, switches_at, cases_at, ranges_at, switch_word}
-use Rattle.image_rule.specs.Rules.{tables, cases, ranges, rows_there}
-use Rattle.image_rows.specs.declared.Starts.{Starts}
-
--- what was read once of the image's sizes
-pub record Placed (w : List ℕ) (o : Starts) : Type 0 where
-  pub places : o.places ≡ instructions w
-  pub tables : o.tables ≡ tables w
-  pub cases : o.cases ≡ cases w
-  pub ranges : o.ranges ≡ ranges w
-  pub chains : o.chains ≡ chains_at w
-  pub switches : o.switches ≡ switches_at w
-  pub rows : o.rows ≡ cases_at w
-  pub spans : o.spans ≡ ranges_at w
+use Rattle.lowering.specs.Words.{word, cases_at, ranges_at, switch_word}
+use Rattle.image_rule.specs.Rules.{cases, ranges, rows_there}
 
 -- the target of row q, 0 past the last
 unfoldable pub row_of : List ℕ → ℕ → ℕ

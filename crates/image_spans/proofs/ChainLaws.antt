@@ -1,18 +1,20 @@
 -- A chain has the operands of its steps just where it has as many as each of them needs.
-use Prim.Native.Nat.{ℕ, zero, suc, ◌+◌, ◌*◌, ◌-◌, ◌≤◌, ◌<◌}
+use Prim.Native.Nat.{ℕ, zero, suc, ◌+◌, ◌*◌, ◌-◌, ◌/◌, ◌≤◌, ◌<◌}
 use mathlib.Core.Path.{◌≡◌, refl, sym, ap, ◌∙◌}
 use mathlib.Core.Bool.{Bool, true, false}
 use mathlib.Core.List.{List, []}
 use native.Mathlib.Omega.{arith}
-use borrow.Author.Tests.{ltb-true, ltb-false, leb-true, leb-false, le-leb, lt-leb, ne_eqb}
+use borrow.Author.Tests.{ltb-true, ltb-false, leb-true, leb-false, le-leb, lt-leb}
 use lib.Dec.{leb, ltb}
-use lib.ListN.{get_or}
+use lib.ListN.{get_or, length}
 use Rattle.words.specs.Count.{all_below}
 use Rattle.words.proofs.CountLaws.{all_same}
 use Rattle.lowering.specs.Limits.{step_width}
 use Rattle.lowering.specs.Words.{chain_word}
 use Rattle.image_rule.specs.Rules.{chains, steps, steps_at, step_word, operand_table}
 use Rattle.image_rule.specs.Test.{fits, obeys, operands_by}
+use Rattle.image_read.specs.Kinds.{step_of}
+use Rattle.image_read.proofs.KindLaws.{step-past}
 use Rattle.image_maxima.specs.Tree.{leaf, Tree, leaves_up_to}
 use Rattle.image_spans.specs.Needs.{cut, need_of, step_need, NeedTree}
 
@@ -37,16 +39,17 @@ obeys_by w j n kind = obeys (get_or (operand_table w j n) kind []) w (steps_at w
 
 -- the need of a step is met just where its rule holds
 step-fits : (w : List ℕ) (j n : ℕ) → n ≤ 65535 → leb (step_need w j) n ≡ obeys_by w j n (step_word w j 0)
-unfolding step_need need_of operand_table obeys fits all_below step_word
+unfolding step_need need_of step_of operand_table obeys fits all_below step_word
 step-fits w j n h = by (step_word w j 0)
   where
-    by : (kind : ℕ) → leb (need_of kind (step_word w j 1) (step_word w j 2) (step_word w j 3)) n ≡ obeys_by w j n kind
+    by : (kind : ℕ) → leb (need_of (step_of kind) (step_word w j 1) (step_word w j 2) (step_word w j 3)) n ≡ obeys_by w j n kind
     by zero = below-cut (step_word w j 1) n h
     by (suc zero) = le-leb 0 n (omega arith)
     by (suc (suc zero)) = up-to-cut (step_word w j 2 + step_word w j 3) n h
     by (suc (suc (suc k))) =
         let three = suc (suc (suc k)) in
-        rw (ne_eqb three 0 (λ e. omega arith), ne_eqb three 2 (λ e. omega arith), need_of) (le-leb 0 n (omega arith))
+        ap (λ k. leb (need_of k (step_word w j 1) (step_word w j 2) (step_word w j 3)) n) (step-past three (omega arith))
+        ∙ le-leb 0 n (omega arith)
 
 -- the leaves of a run, one by one
 pub run-leaves : (t : List ℕ) (size a n x : ℕ) → leaves_up_to t size a (a + n) x ≡ all_below n (λ k. leb (leaf t size (a + k)) x)
@@ -55,17 +58,16 @@ run-leaves t size a n x = let e : a + n - a ≡ n = omega arith in rw e refl
 
 -- chain i's answer by the tree, from the words that were read
 pub chain_fits :
-    {w t : List ℕ} (size i a n x : ℕ) (r : Bool)
-    → size ≡ steps w
+    {w t : List ℕ} (i a n x : ℕ) (r : Bool)
     → a ≡ chain_word w i 3
     → n ≡ chain_word w i 4
     → x ≡ chain_word w i 5
-    → (Tree t size → a + n ≤ size → r ≡ all_below n (λ k. leb (leaf t size (a + k)) x))
+    → (Tree t (length t / 2) → a + n ≤ length t / 2 → r ≡ all_below n (λ k. leb (leaf t (length t / 2) (a + k)) x))
     → NeedTree w t
     → i < chains w
     → r ≡ operands_by w i
-chain_fits {w} {t} size i a n x r es ha hn hx says T h =
-    rw (es, ha, hn, hx) at says T.tree (T.lie.runs i h)
+chain_fits {w} {t} i a n x r ha hn hx says T h =
+    rw (T.half, ha, hn, hx) at says T.tree (T.lie.runs i h)
     ∙ all_same (λ k. leb (leaf t (steps w) (first + k)) most) (λ k. obeys_by w (first + k) most (step_word w (first + k) 0)) count same
   where
     first : ℕ

@@ -1,5 +1,4 @@
 -- Laws of the two tests over runs: operands of chains, and targets of tables.
-mod AllLaws
 mod NeedLaws
 mod ChainLaws
 mod FlowLaws

@@ -1,43 +1,34 @@
 -- The needs of steps become leaves one after another.
-use Prim.Native.Nat.{ℕ, ◌+◌, ◌*◌, ◌≤◌, ◌<◌}
+use Prim.Native.Nat.{ℕ, ◌+◌, ◌*◌, ◌/◌, ◌≤◌, ◌<◌}
 use mathlib.Core.Path.{◌≡◌, refl, sym, ap, ◌∙◌, subst}
 use mathlib.Core.Bool.{Bool, true, false}
 use mathlib.Core.List.{List}
 use native.Mathlib.Omega.{arith}
-use borrow.Author.Tests.{eqb-true, eqb-false, eq-eqb, ne_eqb}
+use borrow.Author.Tests.{eqb-true, eqb-false}
 use lib.Dec.{eqb}
 use lib.ListN.{length, get_or, set}
 use lib.Seq.{get_or-set_same, get_or-set_other}
 use Rattle.lowering.specs.Words.{switches_at, cases_at, ranges_at}
 use Rattle.image_rule.specs.Rules.{steps, step_word, end_at}
+use Rattle.std.specs.Prelude.{Option}
+use Rattle.image_read.specs.Kinds.{step_of}
+use Rattle.image_read.specs.declared.StepKind.{StepKind}
 use Rattle.image_maxima.specs.Tree.{leaf, Built}
 use Rattle.image_spans.specs.Premises.{Sized, ChainsLie}
-use Rattle.image_spans.specs.Needs.{cut, need_of, step_need, NeedsIn, NeedTree}
-
--- the need of a step by its kind: an index, a method, any other
-pub need-index : (kind a b c r : ℕ) → kind ≡ 0 → r ≡ cut (a + 1) → r ≡ need_of kind a b c
-unfolding need_of
-need-index kind a b c r z e = rw (eq-eqb kind 0 z, need_of) e
-
-pub need-method : (kind a b c r : ℕ) → (kind ≡ 0 → ⊥) → kind ≡ 2 → r ≡ cut (b + c) → r ≡ need_of kind a b c
-unfolding need_of
-need-method kind a b c r z m e = rw (ne_eqb kind 0 z, eq-eqb kind 2 m, need_of) e
-
-pub need-none : (kind a b c : ℕ) → (kind ≡ 0 → ⊥) → (kind ≡ 2 → ⊥) → 0 ≡ need_of kind a b c
-unfolding need_of
-need-none kind a b c z m = rw (ne_eqb kind 0 z, ne_eqb kind 2 m, need_of) refl
+use Rattle.image_spans.specs.Needs.{need_of, step_need, NeedsIn, NeedTree}
 
 -- the need of step j by the words that were read
 pub step-need :
-    (w : List ℕ) (j r a b c d : ℕ)
-    → r ≡ need_of a b c d
+    (w : List ℕ) (j r a b c d : ℕ) (k : Option StepKind)
+    → r ≡ need_of k b c d
+    → k ≡ step_of a
     → a ≡ step_word w j 0
     → b ≡ step_word w j 1
     → c ≡ step_word w j 2
     → d ≡ step_word w j 3
     → r ≡ step_need w j
 unfolding step_need
-step-need w j r a b c d e ha hb hc hd = e ∙ rw (ha, hb, hc, hd) refl
+step-need w j r a b c d k e o ha hb hc hd = e ∙ rw (o, ha, hb, hc, hd) refl
 
 -- no step is put
 pub needs-none : (w l : List ℕ) → NeedsIn w l 0
@@ -67,28 +58,23 @@ needs-more {w} {l} {j} n v e h room q p = record { need = λ k b. by k b (eqb k 
         get_or-set_other l (n + j) (steps w + k) v 0 (λ s. other (omega arith)) ∙ p.need k (omega arith)
 
 -- the scratch has room for the tree
-needs-fit : {w l : List ℕ} → Sized w l → 2 * steps w ≤ length l
+pub needs-fit : {w l : List ℕ} → Sized w l → 2 * steps w ≤ length l
 unfolding end_at ranges_at cases_at switches_at
 needs-fit s = omega (arith, s.ends, s.room)
 
--- the tree over the needs of all steps
-need-tree : {w l t : List ℕ} → NeedsIn w l (steps w) → Built l t (steps w) → ChainsLie w → NeedTree w t
-need-tree p b lie = record {
-  tree = b.tree;
-  needs = record { need = λ j h. b.leaves j ∙ p.need j h };
-  lie = lie;
-}
-
 -- the needs put into l, which gives l₁, and the tree built over them, which gives t
 pub needs-built :
-    {w l l₁ t : List ℕ} (size : ℕ)
+    {w l₁ t : List ℕ} (size n : ℕ)
     → size ≡ steps w
-    → length l₁ ≡ length l
-    → (2 * steps w ≤ length l → NeedsIn w l₁ (steps w))
-    → (2 * size ≤ length l₁ → Built l₁ t size)
-    → Sized w l
+    → n ≡ 2 * size
+    → length l₁ ≡ n
+    → length t ≡ length l₁
+    → (2 * steps w ≤ n → NeedsIn w l₁ (steps w))
+    → Built l₁ t (length l₁ / 2)
     → ChainsLie w
     → NeedTree w t
-needs-built {w} {l} {l₁} {t} size e same put built s lie =
-    let room = needs-fit s in
-    need-tree (put room) (subst (Built l₁ t) e (built (omega arith))) lie
+needs-built {w} {l₁} {t} size n e long same kept put built lie =
+    let half : length l₁ / 2 ≡ steps w = omega arith in
+    let b = subst (Built l₁ t) half built in
+    let p = put (omega arith) in
+    record { half = omega arith; tree = b.tree; needs = record { need = λ j h. b.leaves j ∙ p.need j h }; lie = lie }

@@ -1,5 +1,5 @@
 -- The targets of rows become leaves one after another.
-use Prim.Native.Nat.{ℕ, ◌+◌, ◌*◌, ◌≤◌, ◌<◌}
+use Prim.Native.Nat.{ℕ, ◌+◌, ◌*◌, ◌/◌, ◌≤◌, ◌<◌}
 use mathlib.Core.Path.{◌≡◌, refl, sym, ap, ◌∙◌, subst}
 use mathlib.Core.Bool.{Bool, true, false}
 use mathlib.Core.List.{List}
@@ -68,7 +68,7 @@ pub put-done : {w l₀ l : List ℕ} {kind at j : ℕ} (n : ℕ) → j ≤ n →
 put-done {w} {l₀} {l} {kind} {at} {j} n h g p = subst (λ (k : ℕ). Put w kind at k l₀ l) (omega arith) p
 
 -- the scratch has room for the tree
-rows-fit : {w l : List ℕ} → Sized w l → 2 * row_count w ≤ length l
+pub rows-fit : {w l : List ℕ} → Sized w l → 2 * row_count w ≤ length l
 unfolding end_at ranges_at
 rows-fit s = omega (arith, s.ends, s.room)
 
@@ -77,15 +77,17 @@ pub rows-built :
     {w l l₁ l₂ t : List ℕ} (n m : ℕ)
     → n ≡ cases w
     → m ≡ ranges w
+    → length l ≡ 2 * (n + m)
     → length l₁ ≡ length l
     → length l₂ ≡ length l₁
+    → length t ≡ length l₂
     → (n + m + n ≤ length l → Put w 0 (n + m) n l l₁)
     → (n + m + n + m ≤ length l₁ → Put w 1 (n + m + n) m l₁ l₂)
-    → (2 * (n + m) ≤ length l₂ → Built l₂ t (n + m))
-    → Sized w l
+    → Built l₂ t (length l₂ / 2)
     → RowsLie w
     → TargetTree w t
-rows-built {w} {l} {l₁} {l₂} {t} n m en em e₁ e₂ p₁ p₂ b s lie = record {
+rows-built {w} {l} {l₁} {l₂} {t} n m en em long e₁ e₂ e₃ p₁ p₂ b lie = record {
+  half = omega arith;
   tree = built.tree;
   first = λ j h.
       built.leaves j
@@ -97,17 +99,14 @@ rows-built {w} {l} {l₁} {l₂} {t} n m en em e₁ e₂ p₁ p₂ b s lie = rec
   lie = lie;
 }
   where
-    room : 2 * (n + m) ≤ length l
-    room = omega (arith, rows-fit s)
-
     size : n + m ≡ row_count w
     size = omega arith
 
     built : Built l₂ t (row_count w)
-    built = subst (Built l₂ t) size (b (omega (arith, room)))
+    built = let half : length l₂ / 2 ≡ row_count w = omega arith in subst (Built l₂ t) half b
 
     first : Put w 0 (n + m) n l l₁
-    first = p₁ (omega (arith, room))
+    first = p₁ (omega arith)
 
     second : Put w 1 (n + m + n) m l₁ l₂
-    second = p₂ (omega (arith, room))
+    second = p₂ (omega arith)

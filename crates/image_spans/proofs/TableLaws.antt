@@ -1,16 +1,17 @@
 -- A table's targets are all above p just where the least is; the tree tells it of the rows.
-use Prim.Native.Nat.{ℕ, zero, suc, ◌+◌, ◌-◌, ◌≤◌, ◌<◌, min}
+use Prim.Native.Nat.{ℕ, zero, suc, ◌+◌, ◌-◌, ◌/◌, ◌≤◌, ◌<◌, min}
 use mathlib.Core.Path.{◌≡◌, refl, sym, ap, ap₂, ◌∙◌}
 use mathlib.Core.Bool.{Bool, true, false, ◌&&◌, and-true, and_assoc}
 use mathlib.Core.List.{List}
 use native.Mathlib.Omega.{arith}
 use borrow.Author.Tests.{ltb-true, ltb-false, lt-ltb, le-ltb, le-leb, lt-leb, eq-eqb, ne_eqb, eqb-true, eqb-false}
 use lib.Dec.{eqb, ltb, leb}
+use lib.ListN.{length}
 use Rattle.words.specs.Count.{all_below}
 use Rattle.words.proofs.CountLaws.{all_none, all-suc, all_same}
 use Rattle.lowering.specs.Words.{switch_word}
 use Rattle.lowering.specs.Run.{row_target}
-use Rattle.image_rule.specs.Rules.{cases, ranges, tables, rows_there}
+use Rattle.image_rule.specs.Rules.{cases, tables, rows_there}
 use Rattle.image_rule.specs.Test.{least, least_target}
 use Rattle.image_read.specs.Targets.{target_of}
 use Rattle.image_read.specs.Pools.{kind_of, rows_of}
@@ -102,22 +103,21 @@ before_pool kind n = by (eqb kind 0) refl
 
 -- the answer of table i, from the words that were read, `a` leaves before those of its pool
 pub table-aims :
-    {w t : List ℕ} (p i n m kind a b k d : ℕ) {pool : Rows} (r : Bool)
+    {w t : List ℕ} (p i n kind a b k d : ℕ) {pool : Rows} (r : Bool)
     → n ≡ cases w
-    → m ≡ ranges w
     → kind ≡ switch_word w i 0
     → pool ≡ rows_of kind
     → a ≡ rows_before (kind_of pool) n
     → b ≡ switch_word w i 1
     → k ≡ switch_word w i 2
     → d ≡ switch_word w i 3
-    → (Tree t (n + m) → a + b + k ≤ n + m → r ≡ leaves_up_to t (n + m) (a + b) (a + b + k) (4294967294 - p))
+    → (Tree t (length t / 2) → a + b + k ≤ length t / 2 → r ≡ leaves_up_to t (length t / 2) (a + b) (a + b + k) (4294967294 - p))
     → TargetTree w t
     → p < 4294967295
     → i < tables w
     → (ltb p d && r) ≡ ltb p (least_target w i)
 unfolding least_target
-table-aims {w} {t} p i n m kind a b k d {pool} r en em ekind epool ea eb ek ed says T small h =
+table-aims {w} {t} p i n kind a b k d {pool} r en ekind epool ea eb ek ed says T small h =
     ap₂ ◌&&◌ (ap (ltb p) ed) rows ∙ sym (below-least (row_target w i) (switch_word w i 3) (switch_word w i 2) p)
   where
     before : a ≡ rows_before (switch_word w i 0) (cases w)
@@ -126,12 +126,9 @@ table-aims {w} {t} p i n m kind a b k d {pool} r en em ekind epool ea eb ek ed s
     first : a + b ≡ first_leaf w i
     first = rw (before, eb) refl
 
-    size : n + m ≡ row_count w
-    size = omega arith
-
     rows : r ≡ all_below (switch_word w i 2) (λ j. ltb p (row_target w i j))
     rows =
-        rw (size, first, ek) at says T.tree (rows_inside T i h)
+        rw (T.half, first, ek) at says T.tree (rows_inside T i h)
         ∙ run-leaves t (row_count w) (first_leaf w i) (switch_word w i 2) (4294967294 - p)
         ∙ all_same (λ j. leb (leaf t (row_count w) (first_leaf w i + j)) (4294967294 - p)) (λ j. ltb p (row_target w i j)) (switch_word w i 2)
         (λ j q. ap (λ (x : ℕ). leb x (4294967294 - p)) (row-leaf T i h j q) ∙ turned-above p (row_target w i j) small)

@@ -1,6 +1,6 @@
 -- The targets of cases and, behind them, of ranges as the leaves of one tree. A leaf is as far below the greatest word as the target is
 -- above 0, so that the greatest leaf is that of the least target.
-use Rattle.std.specs.Prelude.{ℕ, ◌+◌, ◌-◌, ◌<◌, ◌≡◌, true, false, List, eqb, get_or}
+use Rattle.std.specs.Prelude.{ℕ, ◌+◌, ◌-◌, ◌/◌, ◌<◌, ◌≡◌, true, false, List, eqb, get_or, length}
 use Rattle.image_rule.specs.Rules.{cases, ranges}
 use Rattle.image_read.specs.Targets.{target_of}
 use Rattle.image_maxima.specs.Tree.{leaf, Tree}
@@ -21,8 +21,9 @@ pub record Put (w : List ℕ) (kind at n : ℕ) (l₀ l : List ℕ) : Type 0 whe
   pub put : (j : ℕ) → j < n → get_or l (at + j) 0 ≡ turned (target_of w kind j)
   pub before : (k : ℕ) → k < at → get_or l k 0 ≡ get_or l₀ k 0
 
--- t is the tree over all targets, of tables whose rows lie in it
+-- all of t is the tree over all targets, of tables whose rows lie in it
 pub record TargetTree (w t : List ℕ) : Type 0 where
+  pub half : length t / 2 ≡ row_count w
   pub tree : Tree t (row_count w)
   pub first : (j : ℕ) → j < cases w → leaf t (row_count w) j ≡ turned (target_of w 0 j)
   pub second : (j : ℕ) → j < ranges w → leaf t (row_count w) (cases w + j) ≡ turned (target_of w 1 j)

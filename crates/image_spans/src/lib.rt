@@ -2,7 +2,7 @@
 // Switches share. A tree over the words in the lent scratch answers each record, so that the cost stays near the image's length.
 #![tactic(auto)]
 
-ghost use Rattle.std.specs.Prelude.{◌≡◌, ◌+◌, ◌*◌, ◌≤◌, ◌<◌, leb, ltb, length};
+ghost use Rattle.std.specs.Prelude.{◌≡◌, ◌+◌, ◌*◌, ◌/◌, ◌≤◌, ◌<◌, leb, ltb, length};
 ghost use Rattle.words.specs.Count.{all_below};
 ghost use Rattle.lowering.specs.Words as words;
 ghost use Rattle.image_rule.specs.Rules as rules;
@@ -16,7 +16,7 @@ ghost use Rattle.image_spans.specs.Leaves.{rows_before, Put, TargetTree};
 
 use bytecode::{Flow, effect_of};
 use image_maxima::{all_at_most, build};
-use image_read::{Image, Rows, word_of};
+use image_read::{Image, Rows, StepKind, word_of};
 use lowering::MAX_ELEMENTS;
 
 // More operands than any chain has.
@@ -24,28 +24,28 @@ const TOO_MANY: u32 = MAX_ELEMENTS + 1;
 
 #[tactic(auto, unfolding(crate::specs::Needs::need_of))]
 // How many operands a step with these words needs its chain to have; so many that no chain has them count as one more than the most.
-fn need(kind: u32, a: u32, b: u32, c: u32) -> u32
+fn need(kind: Option<StepKind>, a: u32, b: u32, c: u32) -> u32
     ensures { result ≡ need_of kind a b c }
 {
     match kind {
-        0 => a.saturating_add(1).min(TOO_MANY),
-        2 => b.saturating_add(c).min(TOO_MANY),
-        _ => 0,
+        Some(StepKind::Index) => a.saturating_add(1).min(TOO_MANY),
+        Some(StepKind::Method) => b.saturating_add(c).min(TOO_MANY),
+        Some(StepKind::Property) | None => 0,
     }
 }
 
 // The needs of all steps, as leaves of a tree.
-fn put_needs(image: &Image, scratch: &mut [u32])
+fn put_needs(image: &Image, t: &mut [u32])
     ensures { let image = image.now.words.now in
-        (2 * rules.steps image ≤ length scratch.old → NeedsIn image scratch.new (rules.steps image)) }
+        (2 * rules.steps image ≤ length t.old → NeedsIn image t.new (rules.steps image)) }
 {
     let n = image.sizes.steps as usize;
-    if scratch.len() / 2 < n {
+    if t.len() / 2 < n {
         return;
     }
     for j in 0..image.sizes.steps {
-        scratch[n + j as usize] = need(
-            image.step_word(j, 0),
+        t[n + j as usize] = need(
+            StepKind::of(image.step_word(j, 0)),
             image.step_word(j, 1),
             image.step_word(j, 2),
             image.step_word(j, 3),
@@ -54,12 +54,13 @@ fn put_needs(image: &Image, scratch: &mut [u32])
 }
 
 // Whether `count` leaves from `first` on are at most `x`.
-fn run_fits(t: &[u32], size: usize, first: u32, count: u32, x: u32) -> bool
+fn run_fits(t: &[u32], first: u32, count: u32, x: u32) -> bool
     ensures { let tree = t.now in
+        let size = length tree / 2 in
         (Tree tree size → first + count ≤ size → result ≡ all_below count (λ k. leb (leaf tree size (first + k)) x)) }
 {
     let a = first as usize;
-    all_at_most(t, size, a, a + count as usize, x)
+    all_at_most(t, a, a + count as usize, x)
 }
 
 // Whether chain `i` has the operands that its steps need, by the tree over the needs.
@@ -70,19 +71,15 @@ fn chain_fits(image: &Image, t: &[u32], i: u32) -> bool
     let first = image.chain_word(i, 3);
     let count = image.chain_word(i, 4);
     let operands = image.chain_word(i, 5);
-    run_fits(t, image.sizes.steps as usize, first, count, operands)
+    run_fits(t, first, count, operands)
 }
 
+// Whether all chains have.
 fn chains_fit(image: &Image, t: &[u32]) -> bool
     ensures { let image = image.now.words.now in
         (NeedTree image t.now → result ≡ test.operands_right image) }
 {
-    for i in 0..image.sizes.chains {
-        if !chain_fits(image, t, i) {
-            return false;
-        }
-    }
-    true
+    (0..image.sizes.chains).all(|i| chain_fits(image, t, i))
 }
 
 // Whether each step of each chain has its operands in that chain.
@@ -91,26 +88,31 @@ pub fn operands_right(image: &[u32], scratch: &mut [u32]) -> bool
         (Sized image scratch.old → ChainsLie image → result ≡ test.operands_right image) }
 {
     let image = Image::of(image);
-    put_needs(&image, scratch);
-    build(scratch, image.sizes.steps as usize);
-    chains_fit(&image, scratch)
+    let n = 2 * (image.sizes.steps as usize);
+    if scratch.len() < n {
+        return false;
+    }
+    let t = &mut scratch[..n];
+    put_needs(&image, t);
+    build(t);
+    chains_fit(&image, t)
 }
 
 // The targets of the first `n` rows of a pool, from `at` on.
-fn put_targets(image: &[u32], scratch: &mut [u32], pool: Rows, at: usize, n: u32)
-    ensures { at + n ≤ length scratch.old → Put image.now (kind_of pool) at n scratch.old scratch.new }
+fn put_targets(image: &Image, t: &mut [u32], pool: Rows, at: usize, n: u32)
+    ensures { at + n ≤ length t.old → Put image.now.words.now (kind_of pool) at n t.old t.new }
 {
     let n = n as usize;
-    if scratch.len() < n {
+    if t.len() < n {
         return;
     }
-    if scratch.len() - n < at {
+    if t.len() - n < at {
         return;
     }
     let next = pool.apart();
     let mut from = pool.targets_at(image);
     for j in 0..n {
-        scratch[at + j] = u32::MAX - word_of(image, from);
+        t[at + j] = u32::MAX - word_of(image.words, from);
         from += next;
     }
 }
@@ -136,11 +138,10 @@ fn table_aims(image: &Image, t: &[u32], p: u32, i: u32) -> bool
         return false;
     }
     let cases = image.sizes.cases;
-    let size = cases as usize + image.sizes.ranges as usize;
-    let before = rows_before(Rows::of(image.table_word(i, 0)), cases) as usize;
+    let before = rows_before(Rows::from(image.table_word(i, 0)), cases) as usize;
     let first = before + image.table_word(i, 1) as usize;
     let end = first + image.table_word(i, 2) as usize;
-    (p < image.table_word(i, 3)) & all_at_most(t, size, first, end, u32::MAX - 1 - p)
+    (p < image.table_word(i, 3)) & all_at_most(t, first, end, u32::MAX - 1 - p)
 }
 
 // Whether the targets of the instruction at `p` go forward, and not past the code.
@@ -157,16 +158,12 @@ fn aims(image: &Image, t: &[u32], p: u32) -> bool
     }
 }
 
+// Whether those of all instructions do.
 fn code_aims(image: &Image, t: &[u32]) -> bool
     ensures { let image = image.now.words.now in
         (TargetTree image t.now → result ≡ test.targets_right image) }
 {
-    for p in 0..image.sizes.places {
-        if !aims(image, t, p) {
-            return false;
-        }
-    }
-    true
+    (0..image.sizes.places).all(|p| aims(image, t, p))
 }
 
 // Whether all targets go forward, a table's from each Switch naming it, and those of instructions not past the code.
@@ -178,8 +175,12 @@ pub fn targets_right(image: &[u32], scratch: &mut [u32]) -> bool
     let n = image.sizes.cases;
     let m = image.sizes.ranges;
     let size = n as usize + m as usize;
-    put_targets(image.words, scratch, Rows::Cases, size, n);
-    put_targets(image.words, scratch, Rows::Ranges, size + n as usize, m);
-    build(scratch, size);
-    code_aims(&image, scratch)
+    if scratch.len() < 2 * size {
+        return false;
+    }
+    let t = &mut scratch[..2 * size];
+    put_targets(&image, t, Rows::Cases, size, n);
+    put_targets(&image, t, Rows::Ranges, size + n as usize, m);
+    build(t);
+    code_aims(&image, t)
 }

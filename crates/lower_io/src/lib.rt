@@ -8,6 +8,8 @@ use refusals::Refusal;
 use std::io;
 use to_image::lower;
 
+// The words, parted by blanks.
+// Kept: printed one by one. Display would need a type of its own around the slice, for this one line.
 fn print_words(rt: &impl Print, words: &[u32]) -> io::Result<()> {
     for (i, word) in words.iter().enumerate() {
         let between = if i == 0 { "" } else { " " };
@@ -17,6 +19,7 @@ fn print_words(rt: &impl Print, words: &[u32]) -> io::Result<()> {
 }
 
 // Lowers `sheet` and prints the answer.
+// Kept: a `Result` of std has no Display, and its two cases print different types.
 fn answer(rt: &impl Print, sheet: &[u8], image: &mut [u32], scratch: &mut [u32]) -> io::Result<()> {
     match lower(sheet, image, scratch) {
         Ok(words) => print_words(rt, &image[..words]),
@@ -25,6 +28,7 @@ fn answer(rt: &impl Print, sheet: &[u8], image: &mut [u32], scratch: &mut [u32])
 }
 
 // What the program does, with the runtime that it is given.
+// Kept: image and scratch are two buffers, as the C interface has them.
 pub fn run(rt: &(impl Input + Print)) -> io::Result<()> {
     let mut reader = rt.reader();
     let mut sheet = [0u8; 65536];

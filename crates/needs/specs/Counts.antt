@@ -10,6 +10,10 @@ use Rattle.switch_count.specs.Total.{total, switch_total}
 use Rattle.switch_tables.specs.Planned.{Tables, Placed}
 use Rattle.checks.specs.Checked.{Verdict}
 
+-- locals beside which each receiver's name is looked up for a count
+abbrev pub few_locals : ℕ
+few_locals = 64
+
 -- t has what the sheet emits, and whether it reaches an `eval`
 pub record Counts (s : List ℕ) (t : Tally) : Type 0 where
   pub is : taken_back t ≡ capped (taken_back (total s))

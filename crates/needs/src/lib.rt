@@ -1,7 +1,7 @@
 // What a sheet needs before buffers are lent: its counts, the refusals by counts, and the words of scratch that its lowering asks for.
 #![tactic(auto)]
 
-ghost use Rattle.std.specs.Prelude.{◌+◌, ◌*◌, ◌≤◌, ◌≡◌, ◌↔◌, IsTrue, length};
+ghost use Rattle.std.specs.Prelude.{◌+◌, ◌*◌, ◌≤◌, ◌≡◌, ◌↔◌, IsTrue};
 ghost use Rattle.checks.specs.Checked as Checked;
 ghost use Rattle.sheet.specs.Limits.{max_depth};
 ghost use Rattle.sheet.specs.Sections.{local_count};
@@ -9,22 +9,22 @@ ghost use Rattle.sheet.specs.Node as nodes;
 ghost use Rattle.lowering.specs.Kinds.{switch_kind};
 ghost use Rattle.lowering.specs.Limits.{scratch_per_emitted, scratch_per_node, scratch_besides};
 ghost use Rattle.expr_count.specs.Locals.{answer};
-ghost use Rattle.expr_count.specs.Count.{tally_by, tally};
-ghost use Rattle.switch_tables.specs.Columns as columns;
+ghost use Rattle.expr_count.specs.Tally.{capped};
+ghost use Rattle.expr_count.specs.Count.{tally_by};
 ghost use Rattle.switch_places.specs.Counted.{Counted};
-ghost use Rattle.needs.specs.Counts.{Counts, Decides, Exact, over, early};
+ghost use Rattle.needs.specs.Counts.{Counts, Decides, Exact, few_locals, over, early};
 ghost use Rattle.needs.specs.Needed.{needed};
 
 use checks::check;
+use expr_count::locals::{Count, Locals};
 use expr_count::tallies::Tally;
-use expr_count::{exact, greatest, least};
 use lowering::MAX_EMITTED;
 use refusals::Refusal;
 use sheet::kinds::SWITCH;
 use sheet::limits::MAX_DEPTH;
 use sheet::{kind, local_count, node_count};
 use switch_places::{count, read};
-use switch_tables::SIZE;
+use switch_tables::Table;
 
 // Words of scratch for each emitted instruction, for each node, and besides, as lowering/specs/Limits has them.
 pub const PER_EMITTED: u64 = 16;
@@ -33,14 +33,14 @@ pub const PER_NODE: u64 = 16;
 
 pub const BESIDES: u64 = 4096;
 
-// Locals beside which each receiver's name is looked up for a count.
+// Locals beside which each receiver's name is looked up for a count, as specs/Counts has them.
 const FEW_LOCALS: u32 = 64;
 
 // The words of scratch that number 11 asks for.
 fn scratch_words(emitted: u32, nodes: u32) -> u64
     ensures { result ≡ scratch_per_emitted * emitted + scratch_per_node * nodes + scratch_besides }
 {
-    PER_EMITTED * (emitted as u64) + PER_NODE * (nodes as u64) + BESIDES
+    PER_EMITTED * u64::from(emitted) + PER_NODE * u64::from(nodes) + BESIDES
 }
 
 // Refusal 9 or 10 by counts alone.
@@ -74,32 +74,23 @@ fn alike(a: Tally, b: Tally, scratch: usize, nodes: u32) -> bool
     refusal(a, scratch, nodes) == refusal(b, scratch, nodes)
 }
 
-// The counts of an accepted expression.
-fn count_plain(sheet: &[u8]) -> Tally
-    ensures { let sheet = sheet.now in ((nodes.kind sheet 0 ≡ switch_kind → ⊥) → Counts sheet result) }
+// The counts of an accepted expression, by the locals that are told.
+fn counted(sheet: &[u8], told: Locals) -> Tally
+    ensures { let sheet = sheet.now in result ≡ capped (tally_by (answer told.entry sheet) max_depth sheet 0) }
 {
-    exact(MAX_DEPTH, sheet, 0)
+    Count { sheet, told }.tally(MAX_DEPTH, 0)
 }
 
-// An accepted Switch read into the flat table and counted, with the locals that are told.
-fn planned(sheet: &[u8], told: &[u32], flat: &mut [u32; SIZE]) -> Tally
-    ensures fact { let sheet = sheet.now in let t = tally_by (answer told.now sheet) max_depth sheet in (length flat.old ≡ columns.size → Checked.verdict_number (Checked.checked sheet) ≡ 0 → nodes.kind sheet 0 ≡ switch_kind
-        → Counted sheet t flat.new result) }
-    ensures flat_len_unchanged { length flat.new ≡ length flat.old }
+// An accepted Switch read into its table and counted, by the locals that are told.
+fn planned(sheet: &[u8], told: Locals, table: &mut Table) -> Tally
+    ensures { let sheet = sheet.now in
+        let t = tally_by (answer told.entry sheet) max_depth sheet in
+        (Checked.verdict_number (Checked.checked sheet) ≡ 0
+        → nodes.kind sheet 0 ≡ switch_kind → Counted sheet t table.new.cells result) }
 {
-    read(sheet, told, &mut flat[..]);
-    count(sheet, told, &mut flat[..])
-}
-
-// The counts of an accepted Switch, read into the flat table.
-fn count_switch(sheet: &[u8], flat: &mut [u32; SIZE]) -> Tally
-    ensures fact { let sheet = sheet.now in (length flat.old ≡ columns.size
-        → Checked.verdict_number (Checked.checked sheet) ≡ 0 → nodes.kind sheet 0 ≡ switch_kind
-        → Counted sheet (tally max_depth sheet) flat.new result) }
-    ensures flat_len_unchanged { length flat.new ≡ length flat.old }
-{
-    let none = [0u32; 0];
-    planned(sheet, &none[..], flat)
+    let by = Count { sheet, told };
+    read(&by, table);
+    count(&by, table)
 }
 
 // The counts of an accepted sheet.
@@ -107,10 +98,10 @@ fn counts(sheet: &[u8]) -> Tally
     ensures { let sheet = sheet.now in (Checked.verdict_number (Checked.checked sheet) ≡ 0 → Counts sheet result) }
 {
     if kind(sheet, 0) == SWITCH {
-        let mut w = [0u32; SIZE];
-        return count_switch(sheet, &mut w);
+        let mut table = Table::empty();
+        return planned(sheet, Locals::Sought, &mut table);
     }
-    count_plain(sheet)
+    counted(sheet, Locals::Sought)
 }
 
 // The words of scratch that an accepted sheet needs, or why it is refused.
@@ -136,44 +127,49 @@ pub fn plain_counts(sheet: &[u8], scratch: usize) -> Tally
     ensures { (nodes.kind sheet.now 0 ≡ switch_kind → ⊥) → Decides sheet.now scratch result }
 {
     if local_count(sheet) <= FEW_LOCALS {
-        return count_plain(sheet);
+        return counted(sheet, Locals::Sought);
     }
-    let n = node_count(sheet);
-    let most = greatest(MAX_DEPTH, sheet, 0);
-    if alike(least(MAX_DEPTH, sheet, 0), most, scratch, n) {
+    let most = counted(sheet, Locals::Nobody);
+    if alike(
+        counted(sheet, Locals::All),
+        most,
+        scratch,
+        node_count(sheet),
+    ) {
         return most;
     }
-    count_plain(sheet)
+    counted(sheet, Locals::Sought)
 }
 
 // The counts by which a Switch is refused or built, as plain_counts has them. Beside few locals its table is counted by them.
-pub fn switch_counts(sheet: &[u8], scratch: usize, flat: &mut [u32; SIZE]) -> Tally
-    ensures fact { let sheet = sheet.now in (length flat.old ≡ columns.size → Checked.verdict_number (Checked.checked sheet) ≡ 0 → nodes.kind sheet 0 ≡ switch_kind
-        → Decides sheet scratch result × (local_count sheet ≤ 64 → Exact sheet flat.new)) }
-    ensures flat_len_unchanged { length flat.new ≡ length flat.old }
+// Kept: not one function with plain_counts over a closure that counts. What each of the calls leaves in the table is promised here, so the
+// closure's contract would name the table, and be longer than these lines.
+pub fn switch_counts(sheet: &[u8], scratch: usize, table: &mut Table) -> Tally
+    ensures { let sheet = sheet.now in (Checked.verdict_number (Checked.checked sheet) ≡ 0 → nodes.kind sheet 0 ≡ switch_kind
+        → Decides sheet scratch result × (local_count sheet ≤ few_locals → Exact sheet table.new.cells)) }
 {
     if local_count(sheet) <= FEW_LOCALS {
-        return count_switch(sheet, flat);
+        return planned(sheet, Locals::Sought, table);
     }
-    let n = node_count(sheet);
-    let none = [0u32; 1];
-    let high = planned(sheet, &none[..], flat);
-    let all = [1u32; 1];
-    let low = planned(sheet, &all[..], flat);
-    if alike(low, high, scratch, n) {
-        return high;
+    let most = planned(sheet, Locals::Nobody, table);
+    if alike(
+        planned(sheet, Locals::All, table),
+        most,
+        scratch,
+        node_count(sheet),
+    ) {
+        return most;
     }
-    count_switch(sheet, flat)
+    planned(sheet, Locals::Sought, table)
 }
 
 // The table of a Switch that is not refused, counted by its own locals.
-pub fn settle(sheet: &[u8], flat: &mut [u32; SIZE])
-    ensures fact { let sheet = sheet.now in (length flat.old ≡ columns.size → Checked.verdict_number (Checked.checked sheet) ≡ 0 → nodes.kind sheet 0 ≡ switch_kind
-        → (local_count sheet ≤ 64 → Exact sheet flat.old) → Exact sheet flat.new) }
-    ensures flat_len_unchanged { length flat.new ≡ length flat.old }
+pub fn settle(sheet: &[u8], table: &mut Table)
+    ensures { let sheet = sheet.now in (Checked.verdict_number (Checked.checked sheet) ≡ 0 → nodes.kind sheet 0 ≡ switch_kind
+        → (local_count sheet ≤ few_locals → Exact sheet table.old.cells) → Exact sheet table.new.cells) }
 {
     if local_count(sheet) <= FEW_LOCALS {
         return;
     }
-    count_switch(sheet, flat);
+    planned(sheet, Locals::Sought, table);
 }

@@ -43,6 +43,7 @@ impl fmt::Display for Refusal {
 impl Error for Refusal {}
 
 // The number of an answer: 0, or that of its refusal.
+// Kept: a number, and 0 for no refusal: the C interface has no Result.
 pub fn number<T>(answer: &Result<T, Refusal>) -> u32
     ensures { result ≡ number_of answer.now }
 {

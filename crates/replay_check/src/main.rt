@@ -2,54 +2,32 @@
 // bytes, and the sheet padded with zeros to a word. Prints how many answers were the same, and how many were not.
 #![tactic(auto)]
 
-ghost use Rattle.std.specs.Prelude.{◌≤◌, IfOk};
-
-use replay_records::{fill, print_result};
+use replay_records::{agreeing, fill, print_result};
 use std::io;
 use std::io::Read;
 
-// The answer for the first `len` bytes of `buf` is `expected`.
-fn agrees(buf: &[u8], len: usize, expected: u32) -> bool {
-    if len <= buf.len() {
-        return refusals::number(&checks::check(&buf[..len])) == expected;
-    }
-    false
-}
-
-// Reads a record into `buf` and compares. A record that is cut off, or too long for `buf`, does not agree.
+// Reads a record by way of `buf` and compares. A record that is cut off, or too long for `buf`, does not agree.
+// Kept: the head has a buffer of its own. How long the sheet is stands in it.
 fn compare_one<R: Read>(reader: &mut R, buf: &mut [u8]) -> io::Result<bool> {
-    if fill(reader, buf, 8)? {
-        let expected = words::word_at(buf, 0);
-        let len = words::word_at(buf, 1) as usize;
-        if fill(reader, buf, (len + 3) / 4 * 4)? {
-            return Ok(agrees(buf, len, expected));
-        }
-    }
-    Ok(false)
-}
-
-// How many of `most` records agree.
-fn agreeing<R: Read>(reader: &mut R, buf: &mut [u8], most: u32) -> io::Result<u32>
-    ensures { IfOk result (λ same. same ≤ most) }
-{
-    let mut same: u32 = 0;
-    let mut i: u32 = 0;
-    while i < most {
-        if compare_one(reader, buf)? {
-            same += 1;
-        }
-        i += 1;
-    }
-    Ok(same)
+    let mut head = [0u8; 8];
+    let Some(head) = fill(reader, &mut head, 8)? else {
+        return Ok(false);
+    };
+    let expected = words::word_at(head, 0);
+    let len = words::word_at(head, 1) as usize;
+    let Some(padded) = fill(reader, buf, len.next_multiple_of(4))? else {
+        return Ok(false);
+    };
+    Ok(refusals::number(&checks::check(&padded[..len])) == expected)
 }
 
 fn main(rt: HostRuntime) -> io::Result<()> {
     let mut reader = rt.reader();
     let mut buf = [0u8; 65536];
-    let head: &mut [u8] = &mut buf;
-    if fill(&mut reader, head, 4)? {
+    let mut head = [0u8; 4];
+    if let Some(head) = fill(&mut reader, &mut head, 4)? {
         let most = words::word_at(head, 0);
-        let same = agreeing(&mut reader, head, most)?;
+        let same = agreeing(most, || compare_one(&mut reader, &mut buf))?;
         print_result(&rt, same as u64, most as u64)?;
     }
     Ok(())

@@ -3,31 +3,26 @@
 // number, and the image. Compares the number and every word of the scratch. Prints how many records were the same, and how many were not.
 #![tactic(auto)]
 
-ghost use Rattle.std.specs.Prelude.{◌≤◌, length, ◌≡◌, IfOk};
+ghost use Rattle.std.specs.Prelude.{◌≤◌, IfOk, IfSome};
 
 use image_check::check_image;
 use refusals::Refusal;
-use replay_records::{fill, left_as, print_result, put_noise};
+use replay_records::{agreeing, fill, left_as, print_result, put_noise};
 use std::io;
 use std::io::Read;
 
-// Room for the image or the scratch of a record.
-fn room() -> [u32; 8192]
-    ensures { 8192 ≡ length result }
-{
-    [0; 8192]
-}
+// Words of room for the image or the scratch of a record.
+const ROOM: usize = 8192;
 
 // The words that `bytes` hold, and zeros behind them.
 fn put_words(image: &mut [u32], bytes: &[u8]) {
-    let mut i = 0;
-    while i < image.len() {
-        image[i] = words::word_at(bytes, i);
-        i += 1;
+    for (i, word) in image.iter_mut().enumerate() {
+        *word = words::word_at(bytes, i);
     }
 }
 
 // The check of `image` beside `sheet` answers and leaves what it must.
+// Kept: the number that is expected is a word of the record, 0 where there is no refusal.
 fn checks_as(sheet: &[u8], image: &[u32], scratch: &mut [u32], number: u32) -> bool {
     put_noise(scratch);
     let answer = refusals::number(&check_image(sheet, image, scratch)) == number;
@@ -38,99 +33,78 @@ fn checks_as(sheet: &[u8], image: &[u32], scratch: &mut [u32], number: u32) -> b
     answer & rest
 }
 
-// The same of the first `n` words of `image`, with `y` words of scratch, where there is room for them.
-fn agrees(sheet: &[u8], image: &[u32], n: usize, y: usize, number: u32) -> bool {
-    let mut scratch = room();
-    if n <= image.len() {
-        if y <= scratch.len() {
-            return checks_as(sheet, &image[..n], &mut scratch[..y], number);
-        }
-    }
-    false
+// The same of the image whose words `bytes` hold, with `y` words of scratch, where there is room for them.
+// Kept: image and scratch are two buffers, as the C interface has them.
+fn agrees(sheet: &[u8], bytes: &[u8], y: usize, number: u32) -> bool {
+    let mut image = [0u32; ROOM];
+    let mut scratch = [0u32; ROOM];
+    let Some(image) = image.get_mut(..bytes.len() / 4) else {
+        return false;
+    };
+    let Some(scratch) = scratch.get_mut(..y) else {
+        return false;
+    };
+    put_words(image, bytes);
+    checks_as(sheet, image, scratch, number)
 }
 
 // Reads a record of `sheet` and compares. A record that is cut off, or too long, does not agree.
+// Kept: the head and the image are read into two buffers. How long the second part is stands in the first.
 fn compare_one<R: Read>(reader: &mut R, sheet: &[u8]) -> io::Result<bool> {
     let mut head = [0u8; 12];
     let mut bytes = [0u8; 65536];
-    if fill(reader, &mut head, 12)? {
-        let n = words::word_at(&head, 0) as usize;
-        let y = words::word_at(&head, 1) as usize;
-        if fill(reader, &mut bytes, 4 * n)? {
-            let mut image = room();
-            put_words(&mut image, &bytes);
-            return Ok(agrees(sheet, &image, n, y, words::word_at(&head, 2)));
-        }
-    }
-    Ok(false)
+    let Some(head) = fill(reader, &mut head, 12)? else {
+        return Ok(false);
+    };
+    let n = words::word_at(head, 0) as usize;
+    let y = words::word_at(head, 1) as usize;
+    let Some(bytes) = fill(reader, &mut bytes, 4 * n)? else {
+        return Ok(false);
+    };
+    Ok(agrees(sheet, bytes, y, words::word_at(head, 2)))
 }
 
-// How many of `most` records of `sheet` agree.
-fn agreeing<R: Read>(reader: &mut R, sheet: &[u8], most: u32) -> io::Result<u32>
-    ensures { IfOk result (λ same. same ≤ most) }
-{
-    let mut same: u32 = 0;
-    let mut i: u32 = 0;
-    while i < most {
-        if compare_one(reader, sheet)? {
-            same += 1;
-        }
-        i += 1;
-    }
-    Ok(same)
-}
-
-// How many records of the next sheet there are, and how many agree.
+// How many records of a sheet there are, and how many agree.
 #[derive(Clone, Copy)]
 struct Counted {
     same: u32,
     most: u32,
 }
 
-// How many of `most` records agree, of the sheet in the first `n` bytes of `buf`; none where it is longer.
-fn of_part<R: Read>(reader: &mut R, buf: &[u8], n: usize, most: u32) -> io::Result<u32>
-    ensures { IfOk result (λ same. same ≤ most) }
-{
-    if n <= buf.len() {
-        return agreeing(reader, &buf[..n], most);
-    }
-    Ok(0)
-}
-
-// The same of the next sheet, of `size` bytes; none where it is not there whole.
+// How many of `most` records agree, of the next sheet, of `size` bytes; none where it is not there whole.
 fn of_sheet<R: Read>(reader: &mut R, size: u32, most: u32) -> io::Result<u32>
     ensures { IfOk result (λ same. same ≤ most) }
 {
     let mut sheet = [0u8; 65536];
     let n = size as usize;
-    if fill(reader, &mut sheet, (n + 3) / 4 * 4)? {
-        return of_part(reader, &sheet, n, most);
-    }
-    Ok(0)
+    let Some(padded) = fill(reader, &mut sheet, n.next_multiple_of(4))? else {
+        return Ok(0);
+    };
+    let sheet = &padded[..n];
+    agreeing(most, || compare_one(reader, sheet))
 }
 
-fn next_sheet<R: Read>(reader: &mut R) -> io::Result<Counted>
-    ensures { IfOk result (λ c. c.same ≤ c.most) }
+// What of the next sheet agrees, where there is one.
+fn next_sheet<R: Read>(reader: &mut R) -> io::Result<Option<Counted>>
+    ensures { IfOk result (λ next. IfSome next (λ c. c.same ≤ c.most)) }
 {
     let mut head = [0u8; 8];
-    if fill(reader, &mut head, 8)? {
-        let most = words::word_at(&head, 1);
-        let same = of_sheet(reader, words::word_at(&head, 0), most)?;
-        return Ok(Counted { same, most });
-    }
-    Ok(Counted { same: 0, most: 1 })
+    let Some(head) = fill(reader, &mut head, 8)? else {
+        return Ok(None);
+    };
+    let most = words::word_at(head, 1);
+    let same = of_sheet(reader, words::word_at(head, 0), most)?;
+    Ok(Some(Counted { same, most }))
 }
 
-// The records of all sheets.
+// The records of all sheets. A sheet that is missing counts as one record that does not agree.
 fn replay<R: Read>(rt: &impl Print, reader: &mut R, sheets: u32) -> io::Result<()> {
     let mut same: u64 = 0;
     let mut most: u64 = 0;
-    let mut i: u32 = 0;
-    while i < sheets {
-        let c = next_sheet(reader)?;
+    for _ in 0..sheets {
+        let c = next_sheet(reader)?.unwrap_or(Counted { same: 0, most: 1 });
         same += c.same as u64;
         most += c.most as u64;
-        i += 1;
     }
     print_result(rt, same, most)
 }
@@ -138,8 +112,8 @@ fn replay<R: Read>(rt: &impl Print, reader: &mut R, sheets: u32) -> io::Result<(
 fn main(rt: HostRuntime) -> io::Result<()> {
     let mut reader = rt.reader();
     let mut head = [0u8; 4];
-    if fill(&mut reader, &mut head, 4)? {
-        replay(&rt, &mut reader, words::word_at(&head, 0))?;
+    if let Some(head) = fill(&mut reader, &mut head, 4)? {
+        replay(&rt, &mut reader, words::word_at(head, 0))?;
     }
     Ok(())
 }

@@ -4,7 +4,7 @@
 // records were the same, and how many were not.
 #![tactic(auto)]
 
-ghost use Rattle.std.specs.Prelude.{length, get_or, eqb, ◌≡◌};
+ghost use Rattle.std.specs.Prelude.{length, get_or, eqb, ◌/◌, ◌≡◌};
 ghost use Rattle.words.specs.Count.{all_below};
 ghost use Rattle.replay_lower.specs.Left as left;
 
@@ -36,10 +36,11 @@ fn foretold(need: Result<u64, Refusal>, room: usize, expected: u32) -> bool
     }
 }
 
-// Word `i` of the image's room after a lowering: one of the `count` wanted words, or what was there.
-fn image_word(wanted: &[u8], count: usize, i: usize) -> u32
-    ensures { result ≡ left.image_word wanted.now count i }
+// Word `i` of the image's room after a lowering: one of the wanted words, or what was there.
+fn image_word(wanted: &[u8], i: usize) -> u32
+    ensures { result ≡ left.image_word wanted.now (length wanted.now / 4) i }
 {
+    let count = wanted.len() / 4;
     if i < count {
         return words::word_at(wanted, i);
     }
@@ -47,106 +48,92 @@ fn image_word(wanted: &[u8], count: usize, i: usize) -> u32
 }
 
 // Each word of the image's room is as it must be.
-fn image_same(image: &[u32], wanted: &[u8], count: usize) -> bool
+// Kept: `left_as` has this line too; what differs is the closure, and that is all that a generic one would be handed.
+fn image_same(image: &[u32], wanted: &[u8]) -> bool
     ensures { result ≡ all_below (length image.now)
-        (λ i. eqb (get_or image.now i 0) (left.image_word wanted.now count i)) }
+        (λ i. eqb (get_or image.now i 0) (left.image_word wanted.now (length wanted.now / 4) i)) }
 {
-    (0..image.len()).all(|i| word(image, i) == image_word(wanted, count, i))
+    (0..image.len()).all(|i| word(image, i) == image_word(wanted, i))
+}
+
+// What a record wants: words of room for the image and for the scratch, the number of the answer, and the words of the image in bytes.
+#[derive(Clone, Copy)]
+struct Wanted<'a> {
+    image: usize,
+    scratch: usize,
+    number: u32,
+    words: &'a [u8],
 }
 
 // The lowering of `sheet` answers and leaves what it must, and the need of `sheet` foretells the number.
-fn lowers(
-    sheet: &[u8],
-    image: &mut [u32],
-    scratch: &mut [u32],
-    wanted: &[u8],
-    expected: u32,
-    count: usize,
-) -> bool {
+fn lowers(sheet: &[u8], image: &mut [u32], scratch: &mut [u32], wanted: Wanted) -> bool {
     put_noise(image);
     put_noise(scratch);
-    let answer = answered(lower(sheet, image, scratch), expected, count);
-    let words = image_same(&image[..], wanted, count);
+    let number = wanted.number;
+    let count = wanted.words.len() / 4;
+    let answer = answered(lower(sheet, image, scratch), number, count);
+    let words = image_same(&image[..], wanted.words);
     let rest = left_as(
         &scratch[..],
-        (expected == 0) | (expected == u32::from(Refusal::ImageLong)),
+        (number == 0) | (number == u32::from(Refusal::ImageLong)),
     );
-    let need = foretold(needs(sheet), scratch.len(), expected);
+    let need = foretold(needs(sheet), scratch.len(), number);
     answer & words & rest & need
 }
 
-// The same of the first `n` bytes of `sheet`, with `x` words for the image and `y` for the scratch, where there is room for them.
-fn agrees(
-    sheet: &[u8],
-    n: usize,
-    x: usize,
-    y: usize,
-    wanted: &[u8],
-    expected: u32,
-    count: usize,
-) -> bool {
+// The same in buffers of the size that is wanted, where there is room for them.
+// Kept: image and scratch are two buffers, as the C interface has them.
+fn agrees(sheet: &[u8], wanted: Wanted) -> bool {
     let mut image = [0u32; 20480];
     let mut scratch = [0u32; 20480];
-    let Some(sheet) = sheet.get(..n) else {
+    let Some(image) = image.get_mut(..wanted.image) else {
         return false;
     };
-    let Some(image) = image.get_mut(..x) else {
+    let Some(scratch) = scratch.get_mut(..wanted.scratch) else {
         return false;
     };
-    let Some(scratch) = scratch.get_mut(..y) else {
-        return false;
-    };
-    lowers(sheet, image, scratch, wanted, expected, count)
+    lowers(sheet, image, scratch, wanted)
 }
 
-// Reads the rest of a record, behind its first four words, and compares. A record that is cut off, or too long, does not agree.
-fn compare_rest<R: Read>(
-    reader: &mut R,
-    x: u32,
-    y: u32,
-    expected: u32,
-    count: u32,
-) -> io::Result<bool> {
-    let mut wanted = [0u8; 65536];
+// Reads the sheet of a record, behind what is wanted, and compares.
+// Kept: here and below a head and what is behind it are read into two buffers. How long the second part is stands in the first.
+fn compare_sheet<R: Read>(reader: &mut R, wanted: Wanted) -> io::Result<bool> {
     let mut size = [0u8; 4];
     let mut sheet = [0u8; 65536];
-    if fill(reader, &mut wanted, 4 * count as usize)? {
-        if fill(reader, &mut size, 4)? {
-            let n = words::word_at(&size, 0) as usize;
-            if fill(reader, &mut sheet, (n + 3) / 4 * 4)? {
-                let same = agrees(
-                    &sheet,
-                    n,
-                    x as usize,
-                    y as usize,
-                    &wanted,
-                    expected,
-                    count as usize,
-                );
-                return Ok(same);
-            }
-        }
-    }
-    Ok(false)
+    let Some(size) = fill(reader, &mut size, 4)? else {
+        return Ok(false);
+    };
+    let n = words::word_at(size, 0) as usize;
+    let Some(padded) = fill(reader, &mut sheet, n.next_multiple_of(4))? else {
+        return Ok(false);
+    };
+    Ok(agrees(&padded[..n], wanted))
 }
 
-// Reads a record and compares.
+// Reads a record and compares. A record that is cut off, or too long, does not agree.
 fn compare_one<R: Read>(reader: &mut R) -> io::Result<bool> {
     let mut head = [0u8; 16];
-    if fill(reader, &mut head, 16)? {
-        let x = words::word_at(&head, 0);
-        let y = words::word_at(&head, 1);
-        let expected = words::word_at(&head, 2);
-        return compare_rest(reader, x, y, expected, words::word_at(&head, 3));
-    }
-    Ok(false)
+    let mut words = [0u8; 65536];
+    let Some(head) = fill(reader, &mut head, 16)? else {
+        return Ok(false);
+    };
+    let Some(words) = fill(reader, &mut words, 4 * words::word_at(head, 3) as usize)? else {
+        return Ok(false);
+    };
+    let wanted = Wanted {
+        image: words::word_at(head, 0) as usize,
+        scratch: words::word_at(head, 1) as usize,
+        number: words::word_at(head, 2),
+        words,
+    };
+    compare_sheet(reader, wanted)
 }
 
 fn main(rt: HostRuntime) -> io::Result<()> {
     let mut reader = rt.reader();
     let mut head = [0u8; 4];
-    if fill(&mut reader, &mut head, 4)? {
-        let most = words::word_at(&head, 0);
+    if let Some(head) = fill(&mut reader, &mut head, 4)? {
+        let most = words::word_at(head, 0);
         let same = agreeing(most, || compare_one(&mut reader))?;
         print_result(&rt, same as u64, most as u64)?;
     }

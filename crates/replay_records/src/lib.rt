@@ -2,7 +2,7 @@
 // the result.
 #![tactic(auto)]
 
-ghost use Rattle.std.specs.Prelude.{◌-◌, ◌≤◌, length, get_or, eqb, ◌≡◌, true, IfOk};
+ghost use Rattle.std.specs.Prelude.{◌-◌, ◌≤◌, length, get_or, eqb, ◌≡◌, IfOk, IfSome};
 ghost use Rattle.words.specs.Count.{all_below};
 ghost use Rattle.replay_records.specs.Left as left;
 
@@ -10,15 +10,23 @@ use input::read_full;
 use std::io;
 use std::io::Read;
 
-// Reads `n` bytes to the start of `buf`, and answers whether they were there.
-pub fn fill<R: Read>(reader: &mut R, buf: &mut [u8], n: usize) -> io::Result<bool>
-    ensures { IfOk result (λ there. there ≡ true → n ≤ length buf.old) }
+// Reads `n` bytes to the start of `buf`: none where they are not there, or `buf` has no room for them.
+pub fn fill<'a, R: Read>(
+    reader: &mut R,
+    buf: &'a mut [u8],
+    n: usize,
+) -> io::Result<Option<&'a [u8]>>
+    ensures room { IfOk result (λ part. IfSome part (λ bytes. n ≤ length buf.old)) }
+    ensures size { IfOk result (λ part. IfSome part (λ bytes. length bytes.now ≡ n)) }
 {
-    if n <= buf.len() {
-        let got = read_full(reader, &mut buf[..n])?;
-        return Ok(got == n);
+    let Some(part) = buf.get_mut(..n) else {
+        return Ok(None);
+    };
+    let got = read_full(reader, part)?;
+    if got == n {
+        return Ok(Some(part));
     }
-    Ok(false)
+    Ok(None)
 }
 
 // How many of `most` records agree, where `compare` reads one and says whether it does.
@@ -42,11 +50,12 @@ pub fn noise(i: usize) -> u32
     2863311530 - (i % 65536) as u32
 }
 
+// Fills a buffer that is to be lent.
 pub fn put_noise(buf: &mut [u32])
     ensures { left.Noisy (length buf.old) buf.new }
 {
-    for i in 0..buf.len() {
-        buf[i] = noise(i);
+    for (i, word) in buf.iter_mut().enumerate() {
+        *word = noise(i);
     }
 }
 
@@ -58,6 +67,7 @@ fn word_left(zeroed: bool, i: usize) -> u32
 }
 
 // Word `i`, 0 past the end.
+// Kept: a call of std's. image_read and scratch have the like; to import one of them for it would be no plainer.
 pub fn word(words: &[u32], i: usize) -> u32
     ensures { result ≡ get_or words.now i 0 }
 {
@@ -72,6 +82,7 @@ pub fn left_as(buf: &[u32], zeroed: bool) -> bool
 }
 
 // Prints how many records were the same, and how many of `most` were not.
+// Kept: two lines of numbers; a type with Display around them would be used here alone.
 pub fn print_result(rt: &impl Print, same: u64, most: u64) -> io::Result<()> {
     let different = most.saturating_sub(same);
     println!(rt; "same {same}")?;

@@ -27,6 +27,10 @@ memo_words = 1024
 abbrev pub beside_words : ℕ
 beside_words = 2048
 
+-- behind all words for instructions and n words for each node
+abbrev pub behind : ℕ → Layout → ℕ
+behind n l = per_emitted * l.most + n * l.nodes
+
 abbrev pub positions_at : Layout → ℕ
 positions_at l = op_width * l.most
 

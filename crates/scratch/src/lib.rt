@@ -2,7 +2,7 @@
 // contracts). Places of an index are words, so their sums never wrap; within the format's limits none is cut off.
 #![tactic(auto)]
 
-ghost use Rattle.std.specs.Prelude.{◌≡◌, ◌+◌, ◌<◌, ◌%◌, set, get_or};
+ghost use Rattle.std.specs.Prelude.{◌≡◌, ◌+◌, ◌<◌, ◌≤◌, ◌%◌, min, set, get_or};
 ghost use Rattle.scratch.specs.Clear.{cleared};
 ghost use Rattle.scratch.specs.Places as places;
 
@@ -30,6 +30,9 @@ const PER_EMITTED: usize = 6;
 // Words for each node: the keys of a constant, a token, a chain and three names.
 const PER_NODE: usize = 6;
 
+// And two links.
+const WITH_LINKS: usize = 8;
+
 // The memos for names: so many pairs, and their words.
 pub const MEMO_PAIRS: u32 = 512;
 
@@ -49,6 +52,7 @@ pub fn get(scratch: &[u32], i: usize) -> u32
 pub fn put(scratch: &mut [u32], i: usize, v: u32)
     ensures { scratch.new ≡ set scratch.old i v }
 {
+    // Kept: tried, `if let Some(w) = scratch.get_mut(i)`; in either arm it stays open what the slice is behind the reference.
     if i < scratch.len() {
         scratch[i] = v;
     }
@@ -64,6 +68,7 @@ fn clear(scratch: &mut [u32], at: u32, n: u32)
 }
 
 // A number as a word.
+// Kept: an `as` may lose no bits here, and `u32::try_from` would ask what to do with the rest, which `%` says.
 fn word(n: usize) -> u32
     ensures { result ≡ n % 4294967296 }
 {
@@ -71,6 +76,14 @@ fn word(n: usize) -> u32
 }
 
 impl Layout {
+    // The place behind all words for instructions and `n` words for each node.
+    fn behind(self, n: usize) -> usize
+        requires { n ≤ 8 }
+        ensures { result ≡ places.behind n self }
+    {
+        PER_EMITTED * (self.most as usize) + n * (self.nodes as usize)
+    }
+
     // Where the positions start, behind the code.
     pub fn positions_at(self) -> usize
         ensures { result ≡ places.positions_at self }
@@ -89,60 +102,56 @@ impl Layout {
     pub fn consts_at(self) -> usize
         ensures { result ≡ places.consts_at self }
     {
-        PER_EMITTED * (self.most as usize)
+        self.behind(0)
     }
 
     // The keys of the tokens.
     pub fn tokens_at(self) -> usize
         ensures { result ≡ places.tokens_at self }
     {
-        PER_EMITTED * (self.most as usize) + (self.nodes as usize)
+        self.behind(1)
     }
 
     // The keys of the chains.
     pub fn chains_at(self) -> usize
         ensures { result ≡ places.chains_at self }
     {
-        PER_EMITTED * (self.most as usize) + 2 * (self.nodes as usize)
+        self.behind(2)
     }
 
     // The keys of the names.
     pub fn names_at(self) -> usize
         ensures { result ≡ places.names_at self }
     {
-        PER_EMITTED * (self.most as usize) + 3 * (self.nodes as usize)
+        self.behind(3)
     }
 
     // The words of all lists; the links of the indexes lie behind them.
     pub fn links_at(self) -> usize
         ensures { result ≡ places.links_at self }
     {
-        PER_EMITTED * (self.most as usize) + PER_NODE * (self.nodes as usize)
+        self.behind(PER_NODE)
     }
 
     // The memos.
     pub fn memos_at(self) -> u32
         ensures { result ≡ places.memos_from self }
     {
-        word(PER_EMITTED * (self.most as usize) + (PER_NODE + 2) * (self.nodes as usize))
+        word(self.behind(WITH_LINKS))
     }
 
     // The folds that are kept for long texts.
     pub fn sums_at(self) -> u32
         ensures { result ≡ places.sums_from self }
     {
-        word(
-            PER_EMITTED * (self.most as usize)
-                + (PER_NODE + 2) * (self.nodes as usize)
-                + (MEMO_WORDS as usize),
-        )
+        word(self.behind(WITH_LINKS) + (MEMO_WORDS as usize))
     }
 
     // The heads of all indexes.
     fn heads_at(self) -> usize
         ensures { result ≡ places.heads_at self }
     {
-        PER_EMITTED * (self.most as usize) + (PER_NODE + 2) * (self.nodes as usize) + BESIDE_WORDS
+        self.behind(WITH_LINKS) + BESIDE_WORDS
     }
 
     // How many heads the names have.
@@ -152,18 +161,25 @@ impl Layout {
         ((self.most as usize) + 1024).min(2 * (self.nodes as usize) + 64)
     }
 
+    // How many a pool of about `n` entries has, at most one for each node.
+    fn heads_for(self, n: u32) -> usize
+        ensures { (result ≡ min (n + 256) (self.nodes + 64)) × (result < 10000000000) }
+    {
+        ((n as usize) + 256).min((self.nodes as usize) + 64)
+    }
+
     // How many the constants have.
     fn const_heads(self) -> usize
         ensures { (result ≡ places.const_heads self) × (result < 10000000000) }
     {
-        ((self.most as usize) / 2 + 256).min((self.nodes as usize) + 64)
+        self.heads_for(self.most / 2)
     }
 
     // How many the tokens have, and the chains as many.
     fn token_heads(self) -> usize
         ensures { (result ≡ places.token_heads self) × (result < 10000000000) }
     {
-        ((self.most as usize) / 4 + 256).min((self.nodes as usize) + 64)
+        self.heads_for(self.most / 4)
     }
 
     // An index with these heads, so many of them, and these keys.
@@ -219,131 +235,4 @@ impl Layout {
         clear(scratch, self.memos_at(), MEMO_WORDS);
         clear(scratch, word(heads), word(count));
     }
-
-    // Where position `n` stands.
-    pub fn position_place(self, n: u32) -> usize
-        ensures { result ≡ places.positions_at self + n }
-    {
-        self.positions_at() + (n as usize)
-    }
-
-    // Where residual `n` stands.
-    pub fn residual_place(self, n: u32) -> usize
-        ensures { result ≡ places.residuals_at self + n }
-    {
-        self.residuals_at() + (n as usize)
-    }
-
-    // Where the key of constant `n` stands.
-    pub fn const_place(self, n: u32) -> usize
-        ensures { result ≡ places.consts_at self + n }
-    {
-        self.consts_at() + (n as usize)
-    }
-
-    // Where the key of token `n` stands.
-    pub fn token_place(self, n: u32) -> usize
-        ensures { result ≡ places.tokens_at self + n }
-    {
-        self.tokens_at() + (n as usize)
-    }
-
-    // Where the key of chain `n` stands.
-    pub fn chain_place(self, n: u32) -> usize
-        ensures { result ≡ places.chains_at self + n }
-    {
-        self.chains_at() + (n as usize)
-    }
-
-    // Where the key of name `n` stands.
-    pub fn name_place(self, n: u32) -> usize
-        ensures { result ≡ places.names_at self + n }
-    {
-        self.names_at() + (n as usize)
-    }
-}
-
-// The same as functions, for callers that name them so.
-// The words of all lists.
-pub fn words_of(layout: Layout) -> usize
-    ensures { result ≡ places.words_of layout }
-{
-    layout.links_at()
-}
-
-// The memos.
-pub fn memos_at(layout: Layout) -> u32
-    ensures { result ≡ places.memos_from layout }
-{
-    layout.memos_at()
-}
-
-// The index of the names.
-pub fn name_index(layout: Layout) -> Index
-    ensures { result ≡ places.name_index layout }
-{
-    layout.name_index()
-}
-
-// The index of the constants.
-pub fn const_index(layout: Layout) -> Index
-    ensures { result ≡ places.const_index layout }
-{
-    layout.const_index()
-}
-
-// The index of the tokens.
-pub fn token_index(layout: Layout) -> Index
-    ensures { result ≡ places.token_index layout }
-{
-    layout.token_index()
-}
-
-// The index of the chains.
-pub fn chain_index(layout: Layout) -> Index
-    ensures { result ≡ places.chain_index layout }
-{
-    layout.chain_index()
-}
-
-// Where position `n` stands.
-pub fn position_place(layout: Layout, n: u32) -> usize
-    ensures { result ≡ places.positions_at layout + n }
-{
-    layout.position_place(n)
-}
-
-// Where residual `n` stands.
-pub fn residual_place(layout: Layout, n: u32) -> usize
-    ensures { result ≡ places.residuals_at layout + n }
-{
-    layout.residual_place(n)
-}
-
-// Where the key of constant `n` stands.
-pub fn const_place(layout: Layout, n: u32) -> usize
-    ensures { result ≡ places.consts_at layout + n }
-{
-    layout.const_place(n)
-}
-
-// Where the key of token `n` stands.
-pub fn token_place(layout: Layout, n: u32) -> usize
-    ensures { result ≡ places.tokens_at layout + n }
-{
-    layout.token_place(n)
-}
-
-// Where the key of chain `n` stands.
-pub fn chain_place(layout: Layout, n: u32) -> usize
-    ensures { result ≡ places.chains_at layout + n }
-{
-    layout.chain_place(n)
-}
-
-// Where the key of name `n` stands.
-pub fn name_place(layout: Layout, n: u32) -> usize
-    ensures { result ≡ places.names_at layout + n }
-{
-    layout.name_place(n)
 }

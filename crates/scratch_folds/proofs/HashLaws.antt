@@ -1,12 +1,14 @@
 -- The hash of bytes: it is a word, bytes put behind are more steps, four bytes at once are four steps, and each step of the code's loop.
-use Prim.Native.Nat.{ℕ, ◌+◌, ◌*◌, ◌/◌, ◌%◌, ◌≤◌, ◌<◌}
+use Prim.Native.Nat.{ℕ, zero, suc, ◌+◌, ◌*◌, ◌/◌, ◌%◌, ◌≤◌, ◌<◌}
 use mathlib.Core.Path.{◌≡◌, refl, sym, ap, ◌∙◌, subst}
 use mathlib.Core.List.{List, [], ◌∷◌, ◌++◌}
 use native.Mathlib.Omega.{arith}
 use native.Mathlib.Numerals.{add-one}
-use native.Mathlib.Nat.{add-mul-mod_self_left}
-use lib.ListN.{length, get_or, drop}
-use lib.Seq.{drop-cons, drop-length}
+use native.Mathlib.Nat.{add-zero, add-mul-mod_self_left}
+use lib.ListN.{length, get_or, take, drop}
+use lib.Seq.{drop-cons, drop-length, get_or-take, get_or-drop}
+use Rattle.std.proofs.lemmas.List.{drop-drop}
+use Rattle.std.specs.Simd.{first_chunks}
 use Rattle.scratch_folds.specs.Hash.{byte_step, fold_hash, four_steps, bytes_hash, mix}
 
 pub bytes_word : (bs : List ℕ) → bytes_hash bs < 4294967296
@@ -79,10 +81,18 @@ four-steps h a b c d =
     (h * 1345077009 + (a + 1) * 1055306571 + (b + 1) * 637696617 + (c + 1) * 16777619 + d + 1)
     ((h * 16777619 + a + 1) / 4294967296 * 1055306571) (4122390 * h) (omega arith)
 
+-- the chunks of four, each by its index, and their elements
+four_at : (k : ℕ) (xs : List ℕ) (j : ℕ) → j < k → get_or (first_chunks 4 k xs) j [] ≡ take 4 (drop (4 * j) xs)
+four_at zero xs j l = absurd (omega arith)
+four_at (suc k) xs zero l = refl
+four_at (suc k) xs (suc j) l =
+    let e : 4 + 4 * j ≡ 4 * suc j = omega arith in
+    four_at k (drop 4 xs) j (omega arith) ∙ ap (take 4) (drop-drop (4 * j) 4 xs ∙ ap (λ (n : ℕ). drop n xs) e)
+
 module _ (bs : List ℕ) (t : ℕ) where
-  pub folding-four :
+  folding-four :
       (i h g : ℕ) → Folding bs t i h → i + 4 ≤ length bs
-      → g ≡ four_steps h (get_or bs i 0) (get_or bs (i + 1) 0) (get_or bs (i + 2) 0) (get_or bs (i + 3) 0) → Folding bs t (i + 4) g
+      → g ≡ four_steps h (get_or bs (i + 0) 0) (get_or bs (i + 1) 0) (get_or bs (i + 2) 0) (get_or bs (i + 3) 0) → Folding bs t (i + 4) g
   folding-four i h g f l e =
       let a = byte_step h (get_or bs i 0) in
       let b = byte_step a (get_or bs (i + 1) 0) in
@@ -95,4 +105,20 @@ module _ (bs : List ℕ) (t : ℕ) where
       let three = subst (λ (n : ℕ). Folding bs t n c) q (folding-goes bs t (i + 2) b c two (omega arith) refl) in
       subst (λ (n : ℕ). Folding bs t n g) r
       (folding-goes bs t (i + 3) c g three (omega arith)
-      (e ∙ sym (four-steps h (get_or bs i 0) (get_or bs (i + 1) 0) (get_or bs (i + 2) 0) (get_or bs (i + 3) 0))))
+      (e
+      ∙ ap (λ (n : ℕ). four_steps h (get_or bs n 0) (get_or bs (i + 1) 0) (get_or bs (i + 2) 0) (get_or bs (i + 3) 0)) (add-zero i)
+      ∙ sym (four-steps h (get_or bs i 0) (get_or bs (i + 1) 0) (get_or bs (i + 2) 0) (get_or bs (i + 3) 0))))
+
+  -- j of k chunks are passed
+  pub folding-chunk :
+      (j k h g : ℕ) (c : List ℕ) → Folding bs t (4 * j) h → j < k → 4 * k ≤ length bs → c ≡ get_or (first_chunks 4 k bs) j []
+      → g ≡ four_steps h (get_or c 0 0) (get_or c 1 0) (get_or c 2 0) (get_or c 3 0) → Folding bs t (4 * (j + 1)) g
+  folding-chunk j k h g c f l room is e =
+      let q : 4 * j + 4 ≡ 4 * (j + 1) = omega arith in
+      let item : (n : ℕ) → n < 4 → get_or c n 0 ≡ get_or bs (4 * j + n) 0 = λ n m.
+      ap (λ (x : List ℕ). get_or x n 0) (is ∙ four_at k bs j l) ∙ get_or-take 4 (drop (4 * j) bs) n 0 m ∙ get_or-drop (4 * j) bs n 0 in
+      let a = item 0 (omega arith) in
+      let b = item 1 (omega arith) in
+      let d = item 2 (omega arith) in
+      let u = item 3 (omega arith) in
+      subst (λ (n : ℕ). Folding bs t n g) q (folding-four (4 * j) h g f (omega arith) (rw (← a, ← b, ← d, ← u) e))

@@ -2,7 +2,7 @@
 // lent words (`fill`); then no text costs more than two blocks (`fold_text`).
 #![tactic(auto)]
 
-ghost use Rattle.std.specs.Prelude.{◌≡◌, ◌+◌, ◌/◌, ◌%◌, ◌≤◌, min, length, take, drop};
+ghost use Rattle.std.specs.Prelude.{◌≡◌, ◌+◌, ◌/◌, ◌%◌, ◌≤◌, min, length, take, drop, get_or};
 ghost use Rattle.sheet.specs.Limits.{max_bytes};
 ghost use Rattle.sheet.specs.Sections.{byte_count};
 ghost use Rattle.sheet.specs.Text as texts;
@@ -29,25 +29,26 @@ const LONG: u32 = 1152;
 pub fn more(h: u32, v: u32) -> u32
     ensures { result ≡ step h v }
 {
-    (((h as u64) * 16777619 + (v as u64)) % 4294967296) as u32
+    h.wrapping_mul(FACTOR).wrapping_add(v)
 }
 
 // One byte more.
 pub fn byte_step(h: u32, b: u8) -> u32
     ensures { result ≡ byte_step h b }
 {
-    (((h as u64) * 16777619 + (b as u64) + 1) % 4294967296) as u32
+    more(h, u32::from(b) + 1)
 }
 
 // Four bytes more at once.
-fn four_steps(h: u32, a: u8, b: u8, c: u8, d: u8) -> u32
-    ensures { result ≡ four_steps h a b c d }
+fn four_steps(h: u32, four: [u8; 4]) -> u32
+    ensures { result ≡ four_steps h (get_or four 0 0) (get_or four 1 0) (get_or four 2 0) (get_or four 3 0) }
 {
-    let w = (h as u64) * 1345077009
-        + ((a as u64) + 1) * 1055306571
-        + ((b as u64) + 1) * 637696617
-        + ((c as u64) + 1) * 16777619;
-    ((w + (d as u64) + 1) % 4294967296) as u32
+    let [a, b, c, d] = four;
+    let w = h.wrapping_mul(1345077009);
+    let x = w.wrapping_add(((a as u32) + 1).wrapping_mul(1055306571));
+    let y = x.wrapping_add(((b as u32) + 1).wrapping_mul(637696617));
+    let z = y.wrapping_add(((c as u32) + 1).wrapping_mul(FACTOR));
+    z.wrapping_add((d as u32) + 1)
 }
 
 // All bytes more, one by one.
@@ -65,15 +66,12 @@ fn fold_rest(x: &[u8], start: u32) -> u32
 fn fold_on(x: &[u8], start: u32) -> u32
     ensures { result ≡ fold_hash start x.now }
 {
-    let n = x.len();
+    let (fours, rest) = x.as_chunks::<4>();
     let mut h = start;
-    let mut i = 0;
-    // Kept: the library cuts a slice into slices, not into arrays of four, so a chain over them would index each part again: no plainer.
-    while i + 4 <= n {
-        h = four_steps(h, x[i], x[i + 1], x[i + 2], x[i + 3]);
-        i += 4;
+    for four in fours {
+        h = four_steps(h, *four);
     }
-    fold_rest(&x[i..], h)
+    fold_rest(rest, h)
 }
 
 // The fold over bytes, before it is spread.
@@ -87,14 +85,7 @@ fn fold_bytes(x: &[u8]) -> u32
 pub fn spread_out(h: u32) -> u32
     ensures { result ≡ spread h }
 {
-    (((h as u64) * 2654435761) % 4294967296) as u32
-}
-
-// The product of two words, as a word.
-fn times(a: u32, b: u32) -> u32
-    ensures { result ≡ sums.times a b }
-{
-    (((a as u64) * (b as u64)) % 4294967296) as u32
+    h.wrapping_mul(2654435761)
 }
 
 // The fold's factor to the power `n`, by squares.
@@ -108,8 +99,7 @@ fn power(n: u32) -> u32
 fn behind(e: u32, p: u32, w: u32) -> u32
     ensures { result ≡ sums.behind e p w }
 {
-    let a = times(p, w);
-    (((e as u64) + 4294967296 - (a as u64)) % 4294967296) as u32
+    e.wrapping_sub(p.wrapping_mul(w))
 }
 
 // How many text bytes a sheet has, or the most that the format allows.
@@ -160,16 +150,18 @@ pub fn fill(sheet: &[u8], scratch: &mut [u32], at: u32)
     fill_blocks(b, scratch, at);
 }
 
+// Kept: the scratch and the place of the kept folds apart, here and below. Callers hold sheet and scratch in structs of their own (`Names`,
+// `Store`), and would make one more for each text.
 // The fold over the first `i` bytes: from the end of the block before.
 fn fold_to(b: &[u8], scratch: &[u32], at: u32, i: usize) -> u32
     ensures { FoldsTo b.now at scratch.now i result }
 {
-    let k = i / BLOCK;
-    if k == 0 {
+    let passed = i / BLOCK;
+    if passed == 0 {
         return fold_bytes(part(b, 0, i));
     }
-    let h = get(scratch, (at as usize) + (k - 1));
-    fold_on(part(b, k * BLOCK, i % BLOCK), h)
+    let h = get(scratch, (at as usize) + (passed - 1));
+    fold_on(part(b, passed * BLOCK, i % BLOCK), h)
 }
 
 // The fold over the `n` bytes of `b` from `i` on, where they are there.

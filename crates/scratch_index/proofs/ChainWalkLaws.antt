@@ -1,28 +1,24 @@
 -- The hash of a chain as the code makes it: one law for each answer, where n names stand (`ByNames`), and the walk along the links.
-use Rattle.std.proofs.Common.{◌≡◌, ℕ, ◌-◌, ◌<◌, ◌≤◌, Bool, true, false, List, sym, refl, ap, ◌∙◌, subst, ap₂, arith}
+use Rattle.std.proofs.Common.{◌≡◌, ℕ, Bool, true, false, List, [], sym, refl, ap, ◌∙◌, subst, ap₂, arith}
 use Rattle.expr_chains.proofs.RootLaws.{kind-variable, kind-this, kind-other}
-use Rattle.lowering.proofs.ChainNodesLaws.{links-more, links-last, links-none}
 use Rattle.sheet.specs.Limits.{max_depth}
 use Rattle.sheet.specs.Node.{kind, count, field_a, field_b, field_c, position, child}
 use Rattle.lowering.specs.Kinds.{variable_kind, this_kind}
 use Rattle.lowering.specs.Pools.{Name, name}
-use Rattle.lowering.specs.Flatten.{negated, StepRule, step_rule, rest_of, goes_on, links}
+use Rattle.lowering.specs.Flatten.{negated, StepRule, step_rule, links}
+use Rattle.expr_rules.specs.declared.chains.Read.{Read}
+use Rattle.expr_rules.specs.declared.chains.Links.{Links}
+use Rattle.expr_rules.specs.Links.{nodes_left}
+use Rattle.expr_rules.proofs.LinksLaws.{Left, Begun, Turn}
 use Rattle.expr_chains.specs.Steps.{name_in}
 use Rattle.expr_chains.specs.Same.{root_kind, RootLocal}
 use Rattle.scratch.specs.declared.Layout.{Layout}
-use Rattle.scratch.specs.declared.Index.{Index}
 use Rattle.scratch_folds.specs.Hash.{step, spread}
 use Rattle.scratch_index.specs.Held.{NamesHold, FindsName, names_held}
 use Rattle.scratch_index.specs.Chains.{property_hash, method_hash, step_hash, link_hash, links_hash, variable_hash, root_hash_by, root_hash}
 use Rattle.scratch_index.specs.Chains.{chain_hash}
-use Rattle.scratch_index.specs.Chains.{ByNames, FindsChain}
+use Rattle.scratch_index.specs.Chains.{ByNames}
 use Rattle.scratch_index.proofs.ChainHashLaws.{by-variable, by-this, by-other}
-
--- the index as the code made it
-pub chain-at :
-    {s : List ℕ} {j : ℕ} {local : Bool} {ix iy : Index} {n h : ℕ} {xs : List ℕ} {r : ℕ} → ix ≡ iy → FindsChain s j local ix n h xs r
-    → FindsChain s j local iy n h xs r
-chain-at {s} {j} {local} {ix} {iy} {n} {h} {xs} {r} e f = subst (λ (i : Index). FindsChain s j local i n h xs r) e f
 
 -- the root as the code read it
 pub root-at : {s : List ℕ} {u v : ℕ} {local : Bool} → u ≡ v → RootLocal s v local → RootLocal s u local
@@ -76,41 +72,29 @@ module _ (s : List ℕ) (l : Layout) (n : ℕ) (xs : List ℕ) where
   pub by-same : {u v r : ℕ} → u ≡ v → ByNames s l n xs u r → ByNames s l n xs v r
   by-same e b = record { is = λ w. b.is w ∙ e }
 
-  -- the walk has come to link c, with h of the links before
-  pub record Walking (j left h c : ℕ) : Type 0 where
-    pub few : left ≤ max_depth
-    pub rest : NamesHold s l n xs → links_hash s held h (links left s c) ≡ links_hash s held 1 (links max_depth s j)
+  -- the walk: those left, from the hash h of those passed on, give the hash of all
+  pub record Walking (j h : ℕ) (it : Links) : Type 0 where
+    pub left : Left s it
+    pub rest : NamesHold s l n xs → links_hash s held h (nodes_left it) ≡ links_hash s held 1 (links max_depth s j)
 
-  pub walk-starts : (j : ℕ) → Walking j max_depth 1 j
-  walk-starts j = record { few = omega arith; rest = λ w. refl }
+  pub walk-starts : {j : ℕ} {it : Links} → Begun s it (links max_depth s j) → Walking j 1 it
+  walk-starts b = record { left = b.left; rest = λ w. ap (links_hash s held 1) b.nodes }
 
-  module _
-      (j left h c : ℕ) {f : ℕ} {g : Bool} (k : Walking j left h c) (on : 0 < left)
-      (b : ByNames s l n xs (link_hash s (names_held s l n xs) h c) f) (goes : g ≡ goes_on s c)
-    where
-      pub walk-goes : {d : ℕ} → g ≡ true → d ≡ rest_of s c → Walking j (left - 1) f d
-      unfolding links_hash
-      walk-goes {d} t e =
-          let few = k.few in
-          record {
-            few = omega arith;
-            rest = λ w.
-                ap₂ (λ (i m : ℕ). links_hash s held i (links (left - 1) s m)) (b.is w) e
-                ∙ sym (ap (links_hash s held h) (links-more s left c on (sym goes ∙ t)))
-                ∙ k.rest w;
-          }
+  module _ {j h : ℕ} {it : Links} (k : Walking j h it) where
+    pub walk-goes : {p : Read} {t : Links} {f : ℕ} → Turn s it p t → ByNames s l n xs (link_hash s (names_held s l n xs) h p.link) f
+        → Walking j f t
+    unfolding links_hash
+    walk-goes {p} {t} u b = record {
+      left = u.left;
+      rest = λ w.
+          ap (λ (i : ℕ). links_hash s held i (nodes_left t)) (b.is w)
+          ∙ sym (ap (links_hash s held h) u.nodes)
+          ∙ k.rest w;
+    }
 
-      pub walk-stops : g ≡ false → ByNames s l n xs (links_hash s (names_held s l n xs) 1 (links max_depth s j)) f
-      unfolding links_hash
-      walk-stops t = record {
-        is = λ w. b.is w ∙ sym (ap (links_hash s held h) (links-last s left c on (sym goes ∙ t))) ∙ k.rest w;
-      }
-
-  pub walk_ends :
-      (j left h c : ℕ) → Walking j left h c → left ≤ 0
-      → ByNames s l n xs (links_hash s (names_held s l n xs) 1 (links max_depth s j)) h
-  unfolding links_hash
-  walk_ends j left h c k z = record { is = λ w. sym (ap (links_hash s held h) (links-none s left c z)) ∙ k.rest w }
+    pub walk_ends : nodes_left it ≡ [] → ByNames s l n xs (links_hash s (names_held s l n xs) 1 (links max_depth s j)) h
+    unfolding links_hash
+    walk_ends z = record { is = λ w. sym (ap (links_hash s held h) z) ∙ k.rest w }
 
   -- a root by its kind k
   module _ (h v : ℕ) {k : ℕ} (kinds : k ≡ kind s v) where

@@ -5,6 +5,7 @@ use Rattle.std.proofs.Common.{eq-eqb, ne_eqb, eqb-true}
 use mathlib.Core.Bool.{and-eq-true_iff}
 use borrow.Author.Tests.{eqb-false}
 use Rattle.text.specs.Same.{same}
+use Rattle.expr_chains.specs.Same.{same_text}
 use Rattle.text.proofs.SameLaws.{same_refl, same_true}
 use Rattle.sheet.specs.Node.{kind, field_a, field_b, field_c}
 use Rattle.sheet.specs.Text.{text}
@@ -192,13 +193,9 @@ module _ (s : List ℕ) (i c : ℕ) {k l : ℕ} (e : k ≡ kind s i) (g : l ≡ 
     alike-kinds : kind s i ≡ kind s c
     alike-kinds = sym e ∙ kinds ∙ g
 
-    pub told-bytes :
-        {x y : List ℕ} {r : Bool} → k ≡ string_kind → x ≡ text s a → y ≡ text s d → r ≡ same x y → r ≡ same_const_of s i c
-    told-bytes z t u q = q ∙ ap₂ same (t ∙ ap (text s) f) (u ∙ ap (text s) h) ∙ sym (same-string s i c alike-kinds (sym e ∙ z))
-
-    pub told_text : k ≡ string_kind → a ≡ d → true ≡ same_const_of s i c
-    told_text z q =
-        told-bytes z refl refl (sym (subst (λ (v : ℕ). same (text s a) (text s v) ≡ true) q (same_refl (text s a))))
+    pub told-bytes : {r : Bool} → k ≡ string_kind → r ≡ same_text s a d → r ≡ same_const_of s i c
+    unfolding same_text
+    told-bytes z q = q ∙ ap₂ (λ x y. same (text s x) (text s y)) f h ∙ sym (same-string s i c alike-kinds (sym e ∙ z))
 
     pub told-number :
         {b m : ℕ} → (k ≡ string_kind → ⊥) → b ≡ field_b s i → m ≡ field_b s c → (eqb a d && eqb b m) ≡ same_const_of s i c

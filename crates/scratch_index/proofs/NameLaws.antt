@@ -1,11 +1,12 @@
 -- Names: the same names have the same hash (`names-alike`), and one law for each answer of the code.
-use Rattle.std.proofs.Common.{◌≡◌, ℕ, ◌/◌, ◌%◌, ◌<◌, Bool, true, false, not, List, [], ◌∷◌, sym, refl, ap, ◌∙◌, subst, ap₂}
+use Rattle.std.proofs.Common.{◌≡◌, ℕ, ◌/◌, ◌%◌, ◌<◌, Bool, true, false, List, [], ◌∷◌, sym, refl, ap, ◌∙◌, subst, ap₂}
+use mathlib.Core.Bool.{beq}
 use Rattle.text.specs.Same.{same}
 use Rattle.text.proofs.SameLaws.{same_refl, same_true}
 use Rattle.sheet.specs.Text.{text}
 use Rattle.lowering.specs.Pools.{Name, name, same_name, name_bytes, bang}
 use Rattle.scratch_keys.specs.Keys.{key_node, key_field, name_of, is_marked, mark_of, marked, mark_by}
-use Rattle.scratch_keys.proofs.BangLaws.{texts-same-on, texts-same-off}
+use Rattle.scratch_keys.proofs.BangLaws.{texts_same}
 use Rattle.scratch_index.specs.Pool.{Alike}
 use Rattle.scratch_folds.specs.Hash.{byte_step, spread, fold_hash, bytes_hash}
 use Rattle.scratch_folds.specs.Sums.{BySums}
@@ -123,11 +124,8 @@ module _ (s : List ℕ) where
 
     -- where both have one text, the marks tell
     module _ (one : t ≡ d) {b : Bool} (mark : b ≡ is_marked s (c / 3) (c % 3)) where
-      texts : (k : Bool) → m ≡ k → is_name s (name_with s t m) c ≡ same (marked (text s t) k) (marked (text s t) b)
-      texts k e = compared ∙ ap₂ same (ap (marked (text s t)) e) (ap₂ (λ (i : ℕ) (u : Bool). marked (text s i) u) (sym one) (sym mark))
+      texts : is_name s (name_with s t m) c ≡ same (marked (text s t) m) (marked (text s t) b)
+      texts = compared ∙ ap₂ (λ (i : ℕ) (u : Bool). same (marked (text s t) m) (marked (text s i) u)) (sym one) (sym mark)
 
-      pub name-marked : m ≡ true → b ≡ is_name s (name_with s t m) c
-      name-marked e = sym (texts true e ∙ texts-same-on (text s t) (text s t) b (same_refl (text s t)))
-
-      pub name-plain : m ≡ false → not b ≡ is_name s (name_with s t m) c
-      name-plain e = sym (texts false e ∙ texts-same-off (text s t) (text s t) b (same_refl (text s t)))
+      pub name-alone : beq b m ≡ is_name s (name_with s t m) c
+      name-alone = sym (texts ∙ texts_same (text s t) (text s t) m b (same_refl (text s t)))

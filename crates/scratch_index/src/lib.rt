@@ -2,7 +2,7 @@
 // at every place; what a search answers is known where the index holds (`Finds`, `FindsName`).
 #![tactic(auto)]
 
-ghost use Rattle.std.specs.Prelude.{◌≡◌, ◌+◌, ℕ, ◌/◌, ◌==◌, Bool, slice_index};
+ghost use Rattle.std.specs.Prelude.{◌≡◌, ◌+◌, ℕ, ◌/◌, ◌<◌, ◌==◌, Bool};
 ghost use Rattle.sheet.specs.Limits.{max_depth};
 ghost use Rattle.sheet.specs.Node as nodes;
 ghost use Rattle.lowering.specs.Pools.{name};
@@ -18,28 +18,22 @@ ghost use Rattle.scratch_index.specs.Consts.{const_slot, same_const_of, const_ha
 ghost use Rattle.scratch_index.specs.Names.{is_name, name_with, name_hash_of, name_hash, name_slot};
 ghost use Rattle.scratch_index.specs.Memo.{memo_at, remembered, recalled};
 ghost use Rattle.scratch_index.specs.Held.{FindsName, names_held};
-ghost use Rattle.scratch_index.specs.Chains.{ByNames, FindsChain};
+ghost use Rattle.scratch_index.specs.Chains.{ByNames};
 ghost use Rattle.scratch_index.specs.Chains as chains;
 
-use expr_chains::same_chain;
-use expr_rules::chains::{Read, StepRule, read_link};
+use expr_chains::{same_chain, same_text};
+use expr_rules::chains::{Read, StepRule, links_of};
 use lowering::NAMES_PER_NODE;
 use scratch::{Index, Layout, MEMO_PAIRS, get, put};
 use scratch_folds::{byte_step, fold_text, hash_text, more, spread_out};
 use scratch_keys::{is_marked, same_marked, text_of};
 use sheet::kinds::{STRING, THIS, VARIABLE};
-use sheet::limits::MAX_DEPTH;
 use sheet::{child, count, field_a, field_b, field_c, kind, position, start_of, text};
-use std::num::wrapping_add_u32;
-use text::same_bytes;
 
 // A link has the entry before in its low 19 bits, and 13 bits of its own entry's hash above them.
 pub const RANKS: u32 = 524288;
 
 pub const TAGS: u32 = 8192;
-
-// `!`
-const BANG: u8 = 33;
 
 // The place of the head for hash `h`.
 pub fn head(ix: Index, h: u32) -> usize
@@ -71,7 +65,7 @@ pub fn note(scratch: &mut [u32], ix: Index, at: usize, h: u32, e: u32)
     let front = head(ix, h);
     let c = get(&scratch[..], front);
     put(scratch, at, c % RANKS + RANKS * (h % TAGS));
-    put(scratch, front, wrapping_add_u32(e, 1));
+    put(scratch, front, e.wrapping_add(1));
 }
 
 // The hash of a constant with kind `k` and fields `a`, `b`.
@@ -81,27 +75,22 @@ fn number_hash(k: u32, a: u32, b: u32) -> u32
     more(more(more(more(0, a), b), k), 1)
 }
 
-// The memos from place `ms` on know text `t`.
-pub fn knows(scratch: &[u32], ms: u32, t: u32) -> bool
-    ensures { result ≡ (slice_index scratch.now (memo_at ms t) == t + 1) }
+// Where the memo of text `t` stands, of those from place `ms` on.
+fn memo_at(ms: u32, t: u32) -> usize
+    ensures { (result ≡ memo_at ms t) × (result < 10000000000) }
 {
-    let w = get(scratch, (ms as usize) + 2 * ((t % MEMO_PAIRS) as usize));
-    (w as u64) == (t as u64) + 1
+    (ms as usize) + 2 * ((t % MEMO_PAIRS) as usize)
 }
 
-// What they say of it.
-pub fn recall(scratch: &[u32], ms: u32, t: u32) -> u32
-    ensures { result ≡ slice_index scratch.now (memo_at ms t + 1) }
-{
-    get(scratch, (ms as usize) + 2 * ((t % MEMO_PAIRS) as usize) + 1)
-}
-
-// What they say of it, if they know it.
+// What the memos from place `ms` on say of text `t`, if they know it.
+#[tactic(auto, unfolding(crate::specs::Memo::recalled))]
 pub fn recalled(scratch: &[u32], ms: u32, t: u32) -> Option<u32>
     ensures { result ≡ recalled ms t scratch.now }
 {
-    if knows(scratch, ms, t) {
-        return Some(recall(scratch, ms, t));
+    let at = memo_at(ms, t);
+    let known = get(scratch, at);
+    if (known as u64) == (t as u64) + 1 {
+        return Some(get(scratch, at + 1));
     }
     None
 }
@@ -110,8 +99,8 @@ pub fn recalled(scratch: &[u32], ms: u32, t: u32) -> Option<u32>
 pub fn remember(scratch: &mut [u32], ms: u32, t: u32, p: u32)
     ensures { scratch.new ≡ remembered ms t p scratch.old }
 {
-    let at = (ms as usize) + 2 * ((t % MEMO_PAIRS) as usize);
-    put(scratch, at, wrapping_add_u32(t, 1));
+    let at = memo_at(ms, t);
+    put(scratch, at, t.wrapping_add(1));
     put(scratch, at + 1, p);
 }
 
@@ -137,10 +126,7 @@ fn same_const(sheet: &[u8], i: u32, c: u32) -> bool
         let a = field_a(sheet, i);
         let d = field_a(sheet, c);
         if k == STRING {
-            if a == d {
-                return true;
-            }
-            return same_bytes(text(sheet, a), text(sheet, d));
+            return same_text(sheet, a, d);
         }
         return (a == d) & (field_b(sheet, i) == field_b(sheet, c));
     }
@@ -152,7 +138,7 @@ pub fn token_hash(sheet: &[u8], j: u32) -> u32
     ensures { result ≡ token_hash sheet.now j }
 {
     let t = field_c(sheet, j);
-    spread_out(((t as u64 + 1) % 4294967296) as u32)
+    spread_out(t.wrapping_add(1))
 }
 
 // The hash of the name with text `t`, and `!` where `m` says: one byte more. By the kept folds.
@@ -162,7 +148,7 @@ pub fn name_hash(sheet: &[u8], scratch: &[u32], layout: Layout, t: u32, m: bool)
 {
     let f = fold_text(sheet, scratch, layout.sums_at(), t);
     if m {
-        return spread_out(byte_step(f, BANG));
+        return spread_out(byte_step(f, b'!'));
     }
     spread_out(f)
 }
@@ -173,11 +159,7 @@ fn same_name(sheet: &[u8], t: u32, m: bool, c: u32) -> bool
 {
     let d = text_of(sheet, c);
     if t == d {
-        let b = is_marked(sheet, c);
-        if m {
-            return b;
-        }
-        return !b;
+        return is_marked(sheet, c) == m;
     }
     same_marked(sheet, c, text(sheet, t), m, text(sheet, d))
 }
@@ -326,35 +308,6 @@ pub fn seek<W: Wanted>(wanted: &W, scratch: &[u32], ix: Index, h: u32) -> Option
     None
 }
 
-// Where the constant of node `j`, with hash `h`, stands among the first `n`; `n` where it does not.
-pub fn seek_const(sheet: &[u8], scratch: &[u32], ix: Index, n: u32, j: u32, h: u32) -> u32
-    ensures { Finds (same_const_of sheet.now j) (const_hash sheet.now) const_slot ix n h scratch.now result }
-{
-    let wanted = ConstOf { sheet, node: j };
-    seek(&wanted, scratch, ix, h).unwrap_or(n)
-}
-
-// Where the name with text `t` and mark `m`, with hash `h`, stands among the first `n`; `n` where it does not.
-pub fn seek_name(sheet: &[u8], scratch: &[u32], ix: Index, n: u32, t: u32, m: bool, h: u32) -> u32
-    ensures { let sheet = sheet.now in Finds (is_name sheet (name_with sheet t m)) (name_hash sheet) name_slot ix n h scratch.now result }
-{
-    let wanted = NameWith {
-        sheet,
-        text: t,
-        marked: m,
-    };
-    seek(&wanted, scratch, ix, h).unwrap_or(n)
-}
-
-// Where the token of node `j`, with hash `h`, stands among the `n` that the scratch holds; `n` where it does not.
-pub fn find_token(sheet: &[u8], scratch: &[u32], layout: Layout, n: u32, j: u32, h: u32) -> u32
-    ensures { let sheet = sheet.now in
-        Finds (same_token_of sheet j) (token_hash sheet) const_slot (places.token_index layout) n h scratch.now result }
-{
-    let wanted = TokenOf { sheet, node: j };
-    seek(&wanted, scratch, layout.token_index(), h).unwrap_or(n)
-}
-
 // One link more of a hash: link `c`, an index, which is taken with `v`.
 fn index_hash(sheet: &[u8], h: u32, c: u32, v: u32) -> u32
     ensures { v ≡ operand_of sheet.now c → result ≡ chains.index_hash sheet.now h c }
@@ -380,15 +333,13 @@ impl<'a> Names<'a> {
             return at;
         }
         let h = name_hash(self.sheet, self.scratch, self.layout, t, false);
-        seek_name(
-            self.sheet,
-            self.scratch,
-            self.layout.name_index(),
-            self.count,
-            t,
-            false,
-            h,
-        )
+        let wanted = NameWith {
+            sheet: self.sheet,
+            text: t,
+            marked: false,
+        };
+        // Kept: `count` where it is not there, which is the place that the definition gives it then.
+        seek(&wanted, self.scratch, self.layout.name_index(), h).unwrap_or(self.count)
     }
 
     // Property `v`, by the places of its three names.
@@ -420,16 +371,16 @@ impl<'a> Names<'a> {
         )
     }
 
-    // Link `c`, which says `p`.
-    fn link_hash(&self, h: u32, c: u32, p: Read) -> u32
-        ensures { let it = self.now in let sheet = it.sheet.now in let words = it.scratch.now in (Reads sheet c p
-            → ByNames sheet it.layout it.count words (chains.link_hash sheet (names_held sheet it.layout it.count words) h c) result) }
+    // A link, which says `p`.
+    fn link_hash(&self, h: u32, p: Read) -> u32
+        ensures { let it = self.now in let sheet = it.sheet.now in let words = it.scratch.now in (Reads sheet p.link p
+            → ByNames sheet it.layout it.count words (chains.link_hash sheet (names_held sheet it.layout it.count words) h p.link) result) }
     {
-        let r = p.rule;
         let v = p.with;
         let g = more(h, p.flag);
-        match r {
-            StepRule::Index => index_hash(self.sheet, g, c, v),
+        // Kept: each kind of step is hashed in its own way, and a closure for each would be called in this one place: no plainer.
+        match p.rule {
+            StepRule::Index => index_hash(self.sheet, g, p.link, v),
             StepRule::Property => self.property_hash(g, v),
             StepRule::Method => self.method_hash(g, v),
             StepRule::Nothing => g,
@@ -442,15 +393,8 @@ impl<'a> Names<'a> {
             (chains.links_hash sheet (names_held sheet it.layout it.count words) 1 (links max_depth sheet j)) result }
     {
         let mut h: u32 = 1;
-        let mut c = j;
-        for _passed in 0..MAX_DEPTH {
-            let p = read_link(self.sheet, c);
-            h = self.link_hash(h, c, p);
-            if p.on {
-                c = p.rest;
-            } else {
-                return h;
-            }
+        for p in links_of(self.sheet, j) {
+            h = self.link_hash(h, p);
         }
         h
     }
@@ -482,38 +426,4 @@ impl<'a> Names<'a> {
         let h = self.links_hash(j);
         spread_out(self.root_hash(h, child(j), local))
     }
-}
-
-// The same over the first `n` names.
-pub fn chain_hash(sheet: &[u8], scratch: &[u32], layout: Layout, n: u32, j: u32, local: bool) -> u32
-    ensures { let sheet = sheet.now in let words = scratch.now in (RootLocal sheet (nodes.child j) local
-        → ByNames sheet layout n words (chains.chain_hash sheet (names_held sheet layout n words) j) result) }
-{
-    let names = Names {
-        sheet,
-        scratch,
-        layout,
-        count: n,
-    };
-    names.chain_hash(j, local)
-}
-
-// Where the chain of node `j`, with hash `h`, stands among the `n` that the scratch holds; `n` where it does not.
-pub fn find_chain(
-    sheet: &[u8],
-    scratch: &[u32],
-    layout: Layout,
-    n: u32,
-    j: u32,
-    h: u32,
-    local: bool,
-) -> u32
-    ensures { FindsChain sheet.now j local (places.chain_index layout) n h scratch.now result }
-{
-    let wanted = ChainOf {
-        sheet,
-        node: j,
-        local,
-    };
-    seek(&wanted, scratch, layout.chain_index(), h).unwrap_or(n)
 }

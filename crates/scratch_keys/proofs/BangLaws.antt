@@ -1,7 +1,7 @@
 -- Laws of bytes with `!` added or not, in the shapes of the code.
 use Prim.Native.Nat.{ℕ, suc, ◌+◌, ◌-◌, ◌<◌}
 use mathlib.Core.Path.{◌≡◌, refl, sym, ap, ◌∙◌}
-use mathlib.Core.Bool.{Bool, true, false, not, false≢true}
+use mathlib.Core.Bool.{Bool, true, false, not, beq, false≢true}
 use mathlib.Core.List.{List, [], ◌∷◌, ◌++◌, append-nil}
 use native.Mathlib.Omega.{arith}
 use lib.ListN.{length, get_or, take, length-append}
@@ -92,15 +92,13 @@ module _ (x y : List ℕ) where
       same_false (marked x m) (marked y n)
       (λ e. apart x y h (sym (take-append_seam x _) ∙ ap (take (length x)) e ∙ take_at y _ (length x) (sym l)))
 
-  pub texts-same-on : (n : Bool) → same x y ≡ true → same (marked x true) (marked y n) ≡ n
-  texts-same-on true h = ap (λ (z : List ℕ). same (marked z true) (marked y true)) (same_true x y h) ∙ same_refl (marked y true)
-  texts-same-on false h =
+  pub texts_same : (m n : Bool) → same x y ≡ true → same (marked x m) (marked y n) ≡ beq n m
+  texts_same true true h = ap (λ (z : List ℕ). same (marked z true) (marked y true)) (same_true x y h) ∙ same_refl (marked y true)
+  texts_same true false h =
       same-lengths (marked x true) (marked y false)
       (λ e. omega (arith, ap length (marked-on x), ap length (marked-off y), long x, ap length (same_true x y h)))
-
-  pub texts-same-off : (n : Bool) → same x y ≡ true → same (marked x false) (marked y n) ≡ not n
-  texts-same-off false h = ap (λ (z : List ℕ). same (marked z false) (marked y false)) (same_true x y h) ∙ same_refl (marked y false)
-  texts-same-off true h =
+  texts_same false false h = ap (λ (z : List ℕ). same (marked z false) (marked y false)) (same_true x y h) ∙ same_refl (marked y false)
+  texts_same false true h =
       same-lengths (marked x false) (marked y true)
       (λ e. omega (arith, ap length (marked-on y), ap length (marked-off x), long y, ap length (same_true x y h)))
 

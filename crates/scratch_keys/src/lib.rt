@@ -13,18 +13,15 @@ use sheet::kinds::FN_CALL;
 use sheet::{field, field_b, field_c, kind};
 use text::same_bytes;
 
-// `!`
-const BANG: u8 = 33;
-
 // The text of the name with key `k`.
 pub fn text_of(sheet: &[u8], k: u32) -> u32
     ensures { result ≡ (name_of sheet.now k).text }
 {
     let j = k / NAMES_PER_NODE;
-    if k % NAMES_PER_NODE == 2 {
-        return field_c(sheet, operand_of(sheet, j));
+    match k % NAMES_PER_NODE {
+        2 => field_c(sheet, operand_of(sheet, j)),
+        f => field(sheet, j, 3 + f),
     }
-    field(sheet, j, 3 + k % NAMES_PER_NODE)
 }
 
 // `!` is added to the name with key `k`.
@@ -32,10 +29,8 @@ pub fn is_marked(sheet: &[u8], k: u32) -> bool
     ensures { result ≡ is_marked sheet.now (key_node k) (key_field k) }
 {
     let j = k / NAMES_PER_NODE;
-    if (k % NAMES_PER_NODE == 0) & (kind(sheet, j) == FN_CALL) {
-        return !stores_token(sheet, j) & (field_b(sheet, j) == 1);
-    }
-    false
+    let call = (k % NAMES_PER_NODE == 0) & (kind(sheet, j) == FN_CALL);
+    call && !stores_token(sheet, j) & (field_b(sheet, j) == 1)
 }
 
 // The mark of the name with key `k`: 1 if `!` is added.
@@ -49,13 +44,10 @@ pub fn mark_of(sheet: &[u8], k: u32) -> u32
 fn same_with_bang(x: &[u8], y: &[u8]) -> bool
     ensures { result ≡ same (with_bang x.now) y.now }
 {
-    let Some((last, front)) = y.split_last() else {
-        return false; // There is no last byte.
-    };
-    if *last == BANG {
-        return same_bytes(x, front);
+    match y.split_last() {
+        Some((last, front)) => *last == b'!' && same_bytes(x, front),
+        None => false,
     }
-    false
 }
 
 // Text `y`, with `!` where the name with key `k` has it, is `x`, with `!` where `m` says.
@@ -63,22 +55,10 @@ pub fn same_marked(sheet: &[u8], k: u32, x: &[u8], m: bool, y: &[u8]) -> bool
     ensures { result ≡ same (marked x.now m) (marked y.now (is_marked sheet.now (key_node k) (key_field k))) }
 {
     if x.len() == y.len() {
-        if same_bytes(x, y) {
-            if m {
-                return is_marked(sheet, k);
-            }
-            return !is_marked(sheet, k);
-        }
-        return false;
+        return same_bytes(x, y) && is_marked(sheet, k) == m;
     }
     if m {
-        if same_with_bang(x, y) {
-            return !is_marked(sheet, k);
-        }
-        return false;
+        return same_with_bang(x, y) && !is_marked(sheet, k);
     }
-    if same_with_bang(y, x) {
-        return is_marked(sheet, k);
-    }
-    false
+    same_with_bang(y, x) && is_marked(sheet, k)
 }

@@ -42,10 +42,6 @@ module _ (s : List ℕ) where
       (λ k. refl)
       text-word
 
-  -- one text number needs no bytes
-  pub text-one : (t k : ℕ) {d : ℕ} → d ≡ field_a s k → t ≡ d → true ≡ has_text s t k
-  text-one t k e q = sym (has-text t k (ap (text s) (q ∙ e)))
-
 module _ {s : List ℕ} {l : Layout} (small : Small l) (nodes : l.nodes ≡ node_count s) where
   pub text-lodged : Lodged l (VariableKey s) const_slot (name_index l) l.nodes
   text-lodged =

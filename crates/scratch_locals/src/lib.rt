@@ -2,7 +2,7 @@
 // at each use.
 #![tactic(auto)]
 
-ghost use Rattle.std.specs.Prelude.{◌≡◌, ◌+◌, ◌/◌};
+ghost use Rattle.std.specs.Prelude.{◌≡◌, ℕ, ◌+◌, ◌/◌};
 ghost use Rattle.sheet.specs.Sections.{local_count};
 ghost use Rattle.sheet.specs.Node as nodes;
 ghost use Rattle.sheet.specs.Text as texts;
@@ -15,14 +15,13 @@ ghost use Rattle.scratch_index.specs.Locals.{Slots};
 ghost use Rattle.scratch_locals.specs.Pass as passes;
 ghost use Rattle.scratch_locals.specs.Pass.{has_text, Met, Meets, Telling, Tells, Settling, Settles, Prepares, Begins};
 
+use expr_chains::same_text;
 use expr_slots::resolve;
 use scratch::{Index, Layout, get, put};
 use scratch_folds::{fill, hash_text};
 use scratch_index::{Wanted, link, note, seek};
 use sheet::kinds::VARIABLE;
-use sheet::{child, field_a, kind, local_count, local_text, text};
-use std::num::wrapping_add_u32;
-use text::same_bytes;
+use sheet::{child, field_a, kind, local_count, local_text};
 
 // So many locals or fewer are gone through at each use.
 pub const FEW: u32 = 32;
@@ -32,17 +31,6 @@ fn slot_place(layout: Layout, j: u32) -> usize
     ensures { result ≡ places.links_at layout + const_slot j }
 {
     layout.links_at() + 2 * (j as usize)
-}
-
-// Node `k` has text `t`. One text number needs no bytes.
-fn has_text(sheet: &[u8], t: u32, k: u32) -> bool
-    ensures { result ≡ has_text sheet.now t k }
-{
-    let d = field_a(sheet, k);
-    if t == d {
-        return true;
-    }
-    same_bytes(text(sheet, t), text(sheet, d))
 }
 
 // The Variable with a text.
@@ -59,8 +47,9 @@ impl<'a> Wanted for TextOf<'a> {
 
     ghost slot = { const_slot };
 
+    #[tactic(auto, unfolding(expr_chains::specs::Same::same_text))]
     fn same(&self, k: u32) -> bool {
-        has_text(self.sheet, self.text, k)
+        same_text(self.sheet, self.text, field_a(self.sheet, k))
     }
 
     fn link(&self, ix: Index, k: u32) -> usize {
@@ -68,96 +57,124 @@ impl<'a> Wanted for TextOf<'a> {
     }
 }
 
-// Node `j` behind `n` different names: the rank of a Variable's name goes into its word, and a new name behind the others. Answers how
-// many there are then.
-fn meet(sheet: &[u8], scratch: &mut [u32], layout: Layout, n: u32, j: u32) -> u32
-    ensures { Meets sheet.now layout j n scratch.old scratch.new result }
-{
-    if kind(sheet, j) != VARIABLE {
-        return n;
-    }
-    let ix = layout.name_index();
-    let t = field_a(sheet, j);
-    let h = hash_text(sheet, &scratch[..], layout.sums_at(), t);
-    let wanted = TextOf { sheet, text: t };
-    // Kept: `n` is the rank of a new name, and is written as such: it stands for no missing answer.
-    let r = seek(&wanted, &scratch[..], ix, h).unwrap_or(n);
-    put(scratch, layout.chain_place(j), r);
-    if r < n {
-        return n;
-    }
-    put(scratch, layout.token_place(n), 0);
-    put(scratch, layout.name_place(n), j);
-    note(scratch, ix, link(ix, j), h, n);
-    wrapping_add_u32(n, 1)
+// The pass that finds the local of each Variable: its sheet, and the layout of the scratch that each step is lent.
+// Kept: the scratch is no field. Behind `&mut self` each step would have to promise that sheet and layout stay;
+// by value nothing need be said.
+#[derive(Clone, Copy)]
+struct Pass<'a> {
+    sheet: &'a [u8],
+    layout: Layout,
 }
 
-// All nodes, and how many different names they have.
-fn meet_all(sheet: &[u8], scratch: &mut [u32], layout: Layout) -> u32
-    ensures { Met sheet.now layout 0 0 scratch.old
-        → Met sheet.now layout layout.nodes result scratch.new }
-{
-    let mut n: u32 = 0;
-    for j in 0..layout.nodes {
-        n = meet(sheet, scratch, layout, n, j);
+impl<'a> Pass<'a> {
+    // Node `j` behind `n` different names: the rank of a Variable's name goes into its word, and a new name behind the others. Answers how
+    // many there are then.
+    fn meet(self, scratch: &mut [u32], n: u32, j: u32) -> u32
+        ensures { let it = self.entry in Meets it.sheet.now it.layout j n scratch.old scratch.new result }
+    {
+        if kind(self.sheet, j) != VARIABLE {
+            return n;
+        }
+        let layout = self.layout;
+        let ix = layout.name_index();
+        let t = field_a(self.sheet, j);
+        let h = hash_text(self.sheet, &scratch[..], layout.sums_at(), t);
+        let wanted = TextOf {
+            sheet: self.sheet,
+            text: t,
+        };
+        // Kept: `n` is the rank of a new name, and is written as such: it stands for no missing answer.
+        let r = seek(&wanted, &scratch[..], ix, h).unwrap_or(n);
+        put(scratch, layout.chains_at() + (j as usize), r);
+        if r < n {
+            return n;
+        }
+        put(scratch, layout.tokens_at() + (n as usize), 0);
+        put(scratch, layout.names_at() + (n as usize), j);
+        note(scratch, ix, link(ix, j), h, n);
+        n.wrapping_add(1)
     }
-    n
-}
 
-// Local `k`: where a Variable has its name, it is the last one so far.
-fn tell(sheet: &[u8], scratch: &mut [u32], layout: Layout, n: u32, k: u32)
-    ensures { Tells sheet.now layout n k scratch.old scratch.new }
-{
-    let t = local_text(sheet, k);
-    let h = hash_text(sheet, &scratch[..], layout.sums_at(), t);
-    let wanted = TextOf { sheet, text: t };
-    if let Some(r) = seek(&wanted, &scratch[..], layout.name_index(), h) {
-        put(scratch, layout.token_place(r), wrapping_add_u32(k, 1));
+    // All nodes, and how many different names they have.
+    fn meet_all(self, scratch: &mut [u32]) -> u32
+        ensures { let it = self.entry in (Met it.sheet.now it.layout 0 0 scratch.old
+            → Met it.sheet.now it.layout it.layout.nodes result scratch.new) }
+    {
+        let mut n: u32 = 0;
+        for j in 0..self.layout.nodes {
+            n = self.meet(scratch, n, j);
+        }
+        n
+    }
+
+    // Local `k`: where a Variable has its name, it is the last one so far.
+    fn tell(self, scratch: &mut [u32], k: u32)
+        ensures { let it = self.entry in (n : ℕ) → Tells it.sheet.now it.layout n k scratch.old scratch.new }
+    {
+        let layout = self.layout;
+        let t = local_text(self.sheet, k);
+        let h = hash_text(self.sheet, &scratch[..], layout.sums_at(), t);
+        let wanted = TextOf {
+            sheet: self.sheet,
+            text: t,
+        };
+        if let Some(r) = seek(&wanted, &scratch[..], layout.name_index(), h) {
+            put(
+                scratch,
+                layout.tokens_at() + (r as usize),
+                k.wrapping_add(1),
+            );
+        }
+    }
+
+    // All locals, from the first on.
+    fn tell_all(self, scratch: &mut [u32], n: u32)
+        ensures { let it = self.entry in
+            let sheet = it.sheet.now in
+            (Telling sheet it.layout n 0 scratch.old → Telling sheet it.layout n (local_count sheet) scratch.new) }
+    {
+        let m = local_count(self.sheet);
+        for k in 0..m {
+            self.tell(scratch, k);
+        }
+    }
+
+    // Node `j`: a Variable gets the local of its rank.
+    fn settle(self, scratch: &mut [u32], j: u32)
+        ensures { let it = self.entry in Settles it.sheet.now it.layout j scratch.old scratch.new }
+    {
+        if kind(self.sheet, j) != VARIABLE {
+            return;
+        }
+        let layout = self.layout;
+        let r = get(&scratch[..], layout.chains_at() + (j as usize));
+        let a = get(&scratch[..], layout.tokens_at() + (r as usize));
+        put(scratch, slot_place(layout, j), a);
+    }
+
+    // All nodes.
+    fn settle_all(self, scratch: &mut [u32])
+        ensures { let it = self.entry in (Settling it.sheet.now it.layout 0 scratch.old
+            → Settling it.sheet.now it.layout it.layout.nodes scratch.new) }
+    {
+        for j in 0..self.layout.nodes {
+            self.settle(scratch, j);
+        }
+    }
+
+    // The local of every Variable.
+    fn prepare(self, scratch: &mut [u32])
+        ensures { let it = self.entry in Prepares it.sheet.now it.layout scratch.old scratch.new }
+    {
+        self.layout.clear_index(scratch);
+        let n = self.meet_all(scratch);
+        self.tell_all(scratch, n);
+        self.settle_all(scratch);
     }
 }
 
-// All locals, from the first on.
-fn tell_all(sheet: &[u8], scratch: &mut [u32], layout: Layout, n: u32)
-    ensures { let sheet = sheet.now in (Telling sheet layout n 0 scratch.old → Telling sheet layout n (local_count sheet) scratch.new) }
-{
-    let m = local_count(sheet);
-    for k in 0..m {
-        tell(sheet, scratch, layout, n, k);
-    }
-}
-
-// Node `j`: a Variable gets the local of its rank.
-fn settle(sheet: &[u8], scratch: &mut [u32], layout: Layout, j: u32)
-    ensures { Settles sheet.now layout j scratch.old scratch.new }
-{
-    if kind(sheet, j) != VARIABLE {
-        return;
-    }
-    let r = get(&scratch[..], layout.chain_place(j));
-    let a = get(&scratch[..], layout.token_place(r));
-    put(scratch, slot_place(layout, j), a);
-}
-
-// All nodes.
-fn settle_all(sheet: &[u8], scratch: &mut [u32], layout: Layout)
-    ensures { Settling sheet.now layout 0 scratch.old
-        → Settling sheet.now layout layout.nodes scratch.new }
-{
-    for j in 0..layout.nodes {
-        settle(sheet, scratch, layout, j);
-    }
-}
-
-// The local of every Variable.
-fn prepare(sheet: &[u8], scratch: &mut [u32], layout: Layout)
-    ensures { Prepares sheet.now layout scratch.old scratch.new }
-{
-    layout.clear_index(scratch);
-    let n = meet_all(sheet, scratch, layout);
-    tell_all(sheet, scratch, layout, n);
-    settle_all(sheet, scratch, layout);
-}
-
+// Kept: `begin`, `local_of` and `root_local` take sheet, scratch and layout apart. Their callers hold them in structs of their own
+// (`Store`, `Names`), and would make one more for each call.
 // The scratch before the lowering: what is kept for long texts is written, no entry stands in any index, and the local of every Variable is
 // told where there are many.
 pub fn begin(sheet: &[u8], scratch: &mut [u32], layout: Layout)
@@ -168,7 +185,8 @@ pub fn begin(sheet: &[u8], scratch: &mut [u32], layout: Layout)
         layout.clear_index(scratch);
         return;
     }
-    prepare(sheet, scratch, layout);
+    let pass = Pass { sheet, layout };
+    pass.prepare(scratch);
     layout.clear_index(scratch);
 }
 

@@ -59,6 +59,13 @@ module _ {s : List ℕ} {l : Layout} {xs : List ℕ} {st : State} {a : Made} (op
   unfolding emit emits
   room = let z = h.counts.emitted in omega arith
 
+  words-room : op_width * st.code + op_width ≤ length xs
+  words-room =
+      let c = h.counts in
+      let g = room in
+      let space = h.fit.space in
+      omega arith
+
   emit-fit : Fit s l (written l st w pos xs)
   emit-fit =
       fit_same (length-set (sets xs (op_width * st.code) w) (positions_at l + st.code) pos ∙ length-sets xs (op_width * st.code) w) h.fit
@@ -157,12 +164,15 @@ module _ {s : List ℕ} {l : Layout} {xs : List ℕ} {st : State} {a : Made} (op
     index = emit-index;
   }
 
--- as the code does it
+-- as the code does it, which writes the words where they have room
 pub emit-does :
     {s : List ℕ} (l : Layout) (xs : List ℕ) (c : State) (op : Op) (pos n : ℕ) (w mid ys : List ℕ) (d p : ℕ) (r : State)
     → w ≡ op_words op → d ≡ after_words w n c.depth → p ≡ positions_at l + c.code
-    → mid ≡ sets xs (op_width * c.code) w
+    → (op_width * c.code + op_width ≤ length xs → mid ≡ sets xs (op_width * c.code) w)
     → ys ≡ set mid p pos → r ≡ counted c d → Does s l xs c ys r (emit op pos n)
 emit-does l xs c op pos n w mid ys d p r e g z m y q = record {
-  holds = λ a h f. rw (q, g, y, z, m) (emit-holds op pos n w e (ap length e ∙ op-width op) h f);
+  holds = λ a h f.
+      let k = ap length e ∙ op-width op in
+      let words = m (words-room op pos n w e k h f) in
+      rw (q, g, y, z, words) (emit-holds op pos n w e k h f);
 }

@@ -1,5 +1,6 @@
 -- Memos of names: a name that a memo knows stands already, and one that has been found or added may be remembered.
-use Rattle.std.proofs.Common.{◌≡◌, ℕ, ◌+◌, ◌<◌, ◌≤◌, Bool, true, false, eqb, List, map, length, get_or, sym, ap, ◌∙◌, subst, arith, length-set, eqb-true}
+use Rattle.std.proofs.Common.{◌≡◌, ℕ, ◌+◌, ◌<◌, ◌≤◌, Bool, true, false, eqb, List, map, length, get_or, sym, refl, ap, ◌∙◌, subst, arith, length-set, eqb-true}
+use Rattle.std.specs.Prelude.{Option, Some, None}
 use Rattle.expr_chains.proofs.NameLaws.{name-self}
 use Rattle.lowering.specs.Pools.{Name, first_where, same_name, name_at, push_name}
 use Rattle.expr_chains.proofs.FindLaws.{added-same, added-within}
@@ -10,11 +11,11 @@ use Rattle.scratch.specs.declared.Layout.{Layout}
 use Rattle.scratch.specs.Places.{links_at, memos_at, memos_from, names_at, region}
 use Rattle.scratch.proofs.PlaceLaws.{memos-lie}
 use Rattle.scratch.proofs.RegionLaws.{region-behind}
-use Rattle.scratch_index.specs.Memo.{memo_at, remembered, NameAt}
+use Rattle.scratch_index.specs.Memo.{memo_at, recalled, remembered, NameAt}
 use Rattle.scratch_index.specs.Held.{names_held}
 use Rattle.scratch_index.proofs.NameLaws.{name-read-off}
-use Rattle.scratch_index.proofs.MemoLaws.{told-hit}
-use Rattle.scratch_index.proofs.HeldLaws.{name-recalled, name-same, held-length}
+use Rattle.scratch_index.proofs.MemoLaws.{told-hit, recalled-known, recalled-unknown}
+use Rattle.scratch_index.proofs.HeldLaws.{name-told, name-same, held-length}
 use Rattle.scratch_index.proofs.IndexesLaws.{name-found, indexes-names, indexes-remember}
 use Rattle.expr_model.specs.Made.{Made, add_name}
 use Rattle.scratch_store.specs.declared.State.{State}
@@ -22,18 +23,30 @@ use Rattle.scratch_store.specs.Holds.{Holds}
 use Rattle.scratch_store.specs.Does.{Adds}
 use Rattle.scratch_store.proofs.AddLaws.{lists-same, lists_of, holds_by, small_of, name-place, name-old}
 
+-- what a memo tells, if it knows the text
+module _ (ms t p : ℕ) (xs : List ℕ) (o : Option ℕ) (asked : o ≡ recalled ms t xs) (told : o ≡ Some p) where
+  recalled-by : (b : Bool) → eqb (get_or xs (memo_at ms t) 0) (t + 1) ≡ b
+      → (get_or xs (memo_at ms t) 0 ≡ t + 1) × (p ≡ get_or xs (memo_at ms t + 1) 0)
+  recalled-by true k =
+      let q : Some p ≡ Some (get_or xs (memo_at ms t + 1) 0) = sym told ∙ asked ∙ sym (recalled-known ms t xs _ k refl) in
+      (eqb-true (get_or xs (memo_at ms t) 0) (t + 1) k, cc)
+  recalled-by false k = let q : Some p ≡ None = sym told ∙ asked ∙ sym (recalled-unknown ms t xs k) in cc
+
+  recalled-hit : (get_or xs (memo_at ms t) 0 ≡ t + 1) × (p ≡ get_or xs (memo_at ms t + 1) 0)
+  recalled-hit = recalled-by (eqb (get_or xs (memo_at ms t) 0) (t + 1)) refl
+
 -- a memo knows it
 module _
-    (s : List ℕ) (l : Layout) (xs : List ℕ) (st : State) (v t r ms : ℕ) (b m : Bool) (text : t ≡ (name_of s v).text)
+    (s : List ℕ) (l : Layout) (xs : List ℕ) (st : State) (v t r ms : ℕ) (o : Option ℕ) (m : Bool) (text : t ≡ (name_of s v).text)
     (mark : m ≡ is_marked s (key_node v) (key_field v)) (plain : m ≡ false) (at : ms ≡ memos_from l)
-    (asked : b ≡ eqb (get_or xs (memo_at ms t) 0) (t + 1)) (knows : b ≡ true) (told : r ≡ get_or xs (memo_at ms t + 1) 0)
+    (asked : o ≡ recalled ms t xs) (told : o ≡ Some r)
   where
     told-fits :
         (a : Made) → Holds s l xs st a
         → r ≡ first_where (same_name s (name_of s v)) (map (name_of s) (region (names_at l) st.names xs))
     told-fits a q =
         name-found q.index v r
-        (name-same s l st.names xs (name-read-off s v text mark plain) (name-recalled s l st.names xs t r ms b at asked knows told))
+        (name-same s l st.names xs (name-read-off s v text mark plain) (name-told s l st.names xs t r ms o at asked told))
         ∙ sym (first-map (same_name s (name_of s v)) (name_of s) (region (names_at l) st.names xs))
 
     -- it stands
@@ -41,9 +54,10 @@ module _
     told-low a q =
         let held = indexes-names q.index in
         let is = at ∙ memos-lie held.small in
-        let hit = ap (λ (i : ℕ). get_or xs (memo_at i t) 0) (sym is) ∙ eqb-true (get_or xs (memo_at ms t) 0) (t + 1) (sym asked ∙ knows) in
+        let known = recalled-hit ms t r xs o asked told in
+        let hit = ap (λ (i : ℕ). get_or xs (memo_at i t) 0) (sym is) ∙ known.0 in
         let stands = (told-hit held.memos t hit).found in
-        let e = told ∙ ap (λ (i : ℕ). get_or xs (memo_at i t + 1) 0) is in
+        let e = known.1 ∙ ap (λ (i : ℕ). get_or xs (memo_at i t + 1) 0) is in
         let n = held-length held in
         omega arith
 

@@ -9,137 +9,38 @@ layout_of st = record { most = st.most; nodes = st.nodes }
 
 -- an instruction more, and the depth behind it
 abbrev pub counted : State → ℕ → State
-counted st d = record {
+counted st d = record st {
   code = (st.code + 1) % 4294967296;
-  consts = st.consts;
-  names = st.names;
-  tokens = st.tokens;
-  residuals = st.residuals;
-  chains = st.chains;
   emitted = (st.emitted + 1) % 4294967296;
   depth = d % 4294967296;
   deepest = max st.deepest st.depth;
-  most = st.most;
-  nodes = st.nodes;
-  steps = st.steps;
 }
 
 -- a residual more
 abbrev pub with_residual : State → State
-with_residual st = record {
-  code = st.code;
-  consts = st.consts;
-  names = st.names;
-  tokens = st.tokens;
-  residuals = (st.residuals + 1) % 4294967296;
-  chains = st.chains;
-  emitted = st.emitted;
-  depth = st.depth;
-  deepest = st.deepest;
-  most = st.most;
-  nodes = st.nodes;
-  steps = st.steps;
-}
+with_residual st = record st { residuals = (st.residuals + 1) % 4294967296 }
 
 -- the key of a constant, a name, a token more
 abbrev pub with_const : State → State
-with_const st = record {
-  code = st.code;
-  consts = (st.consts + 1) % 4294967296;
-  names = st.names;
-  tokens = st.tokens;
-  residuals = st.residuals;
-  chains = st.chains;
-  emitted = st.emitted;
-  depth = st.depth;
-  deepest = st.deepest;
-  most = st.most;
-  nodes = st.nodes;
-  steps = st.steps;
-}
+with_const st = record st { consts = (st.consts + 1) % 4294967296 }
 
 abbrev pub with_name : State → State
-with_name st = record {
-  code = st.code;
-  consts = st.consts;
-  names = (st.names + 1) % 4294967296;
-  tokens = st.tokens;
-  residuals = st.residuals;
-  chains = st.chains;
-  emitted = st.emitted;
-  depth = st.depth;
-  deepest = st.deepest;
-  most = st.most;
-  nodes = st.nodes;
-  steps = st.steps;
-}
+with_name st = record st { names = (st.names + 1) % 4294967296 }
 
 abbrev pub with_token : State → State
-with_token st = record {
-  code = st.code;
-  consts = st.consts;
-  names = st.names;
-  tokens = (st.tokens + 1) % 4294967296;
-  residuals = st.residuals;
-  chains = st.chains;
-  emitted = st.emitted;
-  depth = st.depth;
-  deepest = st.deepest;
-  most = st.most;
-  nodes = st.nodes;
-  steps = st.steps;
-}
+with_token st = record st { tokens = (st.tokens + 1) % 4294967296 }
 
 -- the key of a chain more, and its n steps
 abbrev pub with_chain : State → ℕ → State
-with_chain st n = record {
-  code = st.code;
-  consts = st.consts;
-  names = st.names;
-  tokens = st.tokens;
-  residuals = st.residuals;
-  chains = (st.chains + 1) % 4294967296;
-  emitted = st.emitted;
-  depth = st.depth;
-  deepest = st.deepest;
-  most = st.most;
-  nodes = st.nodes;
-  steps = (st.steps + n) % 4294967296;
-}
+with_chain st n = record st { chains = (st.chains + 1) % 4294967296; steps = (st.steps + n) % 4294967296 }
 
 -- another depth
 abbrev pub at_depth : State → ℕ → State
-at_depth st d = record {
-  code = st.code;
-  consts = st.consts;
-  names = st.names;
-  tokens = st.tokens;
-  residuals = st.residuals;
-  chains = st.chains;
-  emitted = st.emitted;
-  depth = d;
-  deepest = st.deepest;
-  most = st.most;
-  nodes = st.nodes;
-  steps = st.steps;
-}
+at_depth st d = record st { depth = d }
 
 -- the code and the depth as they were
 abbrev pub taken_back : State → State → State
-taken_back st saved = record {
-  code = saved.code;
-  consts = st.consts;
-  names = st.names;
-  tokens = st.tokens;
-  residuals = st.residuals;
-  chains = st.chains;
-  emitted = st.emitted;
-  depth = saved.depth;
-  deepest = saved.deepest;
-  most = st.most;
-  nodes = st.nodes;
-  steps = st.steps;
-}
+taken_back st saved = record st { code = saved.code; depth = saved.depth; deepest = saved.deepest }
 
 -- nothing yet
 abbrev pub start : Layout → State

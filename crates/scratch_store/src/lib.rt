@@ -2,7 +2,7 @@
 // what it does is known where the scratch held something before (`Holds`), and what is emitted has its room (`Does`).
 #![tactic(auto)]
 
-ghost use Rattle.std.specs.Prelude.{◌≡◌, ℕ, ◌*◌, ◌/◌, ◌%◌, List, map, length};
+ghost use Rattle.std.specs.Prelude.{◌≡◌, ℕ, ◌+◌, ◌*◌, ◌≤◌, List, length};
 ghost use Rattle.std.proofs.lemmas.List.Edits.{sets};
 ghost use Rattle.sheet.specs.Node as nodes;
 ghost use Rattle.lowering.specs.Limits.{op_width};
@@ -13,38 +13,31 @@ ghost use Rattle.bytecode.specs.Op.{op_words};
 ghost use Rattle.scratch_keys.specs.Keys.{key_node, key_field, is_marked, name_of};
 ghost use Rattle.scratch_keys.specs.Used.{ConstKey, NameKey, TokenKey};
 ghost use Rattle.scratch.specs.declared.Layout.{Layout};
-ghost use Rattle.scratch.specs.Places as places;
 ghost use Rattle.expr_model.specs.Made as made;
 ghost use Rattle.scratch_store.specs.Effects.{Narrow};
-ghost use Rattle.scratch_store.specs.Holds.{Holds};
-ghost use Rattle.scratch_store.specs.Does.{Does, Adds, AddsChain};
+ghost use Rattle.scratch_store.specs.Stands.{Stands};
+ghost use Rattle.scratch_store.specs.Stores.{Done, Added, AddedChain};
 ghost use Rattle.scratch_store.specs.States as states;
 
 use bytecode::Op;
 use expr_chains::link_count;
 use lowering::OP_WIDTH;
 use ops::{after, op_words};
-use scratch::{
-    chain_index, chain_place, const_index, const_place, memos_at, name_index, name_place,
-    position_place, put, residual_place, token_index, token_place,
-};
+use scratch::{Index, Layout, put};
 use scratch_index::{
-    chain_hash, const_hash, find_chain, find_token, knows, link, name_hash, name_link, note,
-    recall, remember, seek_const, seek_name, token_hash,
+    ChainOf, ConstOf, NameWith, Names, TokenOf, Wanted, const_hash, name_hash, note, recalled,
+    remember, seek, token_hash,
 };
 use scratch_keys::{is_marked, text_of};
 use scratch_locals::root_local;
-use std::num::wrapping_add_u32;
 
 mod ops;
-pub mod states;
-
-// A memo has a text's number plus 1, so this one has none.
-const NO_TEXT: u32 = 4294967295;
+mod states;
 
 // What the scratch holds: how many instructions stand, how many entries each pool has, how many instructions were emitted, the depth at the
 // next instruction, the greatest depth before an instruction that stands (1 where none does), the layout, and how many steps the chains
 // have.
+// Kept: lists in one lent slice with their counts here. The C interface lends one slice, and there is no heap.
 #[derive(Clone, Copy)]
 pub struct State {
     pub code: u32,
@@ -61,9 +54,18 @@ pub struct State {
     pub steps: u32,
 }
 
-// The words of an instruction at its place: one test where all of them have room.
+// The lent scratch, and what it holds.
+// Kept: premises and no ghost facts. Each function answers for every sheet and scratch, so where it makes a value the fact is not known.
+#[derive(Drop)]
+pub struct Store<'a> {
+    pub state: State,
+    pub scratch: &'a mut [u32],
+}
+
+// The words of an instruction at its place, where all of them have room.
+// Kept: four writes by index, known one by one where `emit` is drawn in; `copy_from_slice` would name memmove.
 fn put_op(scratch: &mut [u32], code: u32, w: [u32; OP_WIDTH])
-    ensures { length w ≡ op_width → scratch.new ≡ sets scratch.old (op_width * code) w }
+    ensures { op_width * code + op_width ≤ length scratch.old → length w ≡ op_width → scratch.new ≡ sets scratch.old (op_width * code) w }
 {
     let at = OP_WIDTH * (code as usize);
     if at + 3 < scratch.len() {
@@ -71,154 +73,196 @@ fn put_op(scratch: &mut [u32], code: u32, w: [u32; OP_WIDTH])
         scratch[at + 1] = w[1];
         scratch[at + 2] = w[2];
         scratch[at + 3] = w[3];
-        return;
     }
-    put(scratch, at, w[0]);
-    put(scratch, at + 1, w[1]);
-    put(scratch, at + 2, w[2]);
-    put(scratch, at + 3, w[3]);
 }
 
-// The instruction with words `w` behind the code, where `n` is what a chain takes.
-fn push(state: &mut State, scratch: &mut [u32], w: [u32; OP_WIDTH], pos: u32, n: u32)
-    ensures { (l : Layout) → (s : List ℕ) (op : Op) → w ≡ op_words op
-        → Does s l scratch.old state.old scratch.new state.new
-        (made.emit op pos n) }
+// Where what is wanted, with hash `h`, stands in a pool; where it does not, key `k` goes behind the others, and counts.
+fn stand<W: Wanted>(
+    scratch: &mut [u32],
+    count: &mut u32,
+    wanted: &W,
+    ix: Index,
+    k: u32,
+    h: u32,
+) -> u32
+    ensures { (hash : ℕ → ℕ) → W.told wanted.now
+        → Stands (W.same wanted.now) hash W.slot ix k h scratch.old count.old scratch.new count.new result }
 {
-    let code = state.code;
-    let d = after(w, n, state.depth);
-    let at = position_place(state.layout(), code);
-    put_op(scratch, code, w);
-    put(scratch, at, pos);
-    state.count_one(d);
-}
-
-// An instruction behind the code. Its words are known where its kind is, so this is small where it is called.
-pub fn emit(state: &mut State, scratch: &mut [u32], op: Op, pos: u32, n: u32)
-    ensures { (l : Layout) → (s : List ℕ) → Narrow op
-        → Does s l scratch.old state.old scratch.new state.new
-        (made.emit op pos n) }
-{
-    push(state, scratch, op_words(op), pos, n);
-}
-
-// Node `j` kept as it is.
-pub fn residual(state: &mut State, scratch: &mut [u32], j: u32)
-    ensures { (l : Layout) → (s : List ℕ)
-        → Does s l scratch.old state.old scratch.new state.new
-        (made.residual j) }
-{
-    let e = state.residuals;
-    emit(state, scratch, Op::EvalAst(e), 0, 0);
-    let r = state.residuals;
-    let at = residual_place(state.layout(), r);
-    put(scratch, at, j);
-    state.residuals = wrapping_add_u32(r, 1);
-}
-
-// The constant of node `j`, and its place.
-pub fn add_const(sheet: &[u8], state: &mut State, scratch: &mut [u32], j: u32) -> u32
-    ensures { let sheet = sheet.now in ((l : Layout)
-        → Adds sheet l scratch.old state.old scratch.new
-        state.new result
-        (ConstKey sheet j) (made.add_const sheet (pools.const_of sheet j)) (λ a. pools.const_at sheet (pools.const_of sheet j)
-        a.pools)) }
-{
-    let l = state.layout();
-    let n = state.consts;
-    let h = const_hash(sheet, &scratch[..], l, j);
-    let ix = const_index(l);
-    let i = seek_const(sheet, &scratch[..], ix, n, j, h);
-    if i < n {
-        return i;
+    if let Some(e) = seek(wanted, &scratch[..], ix, h) {
+        return e;
     }
-    put(scratch, const_place(l, n), j);
-    note(scratch, ix, link(ix, j), h, n);
-    state.consts = wrapping_add_u32(n, 1);
+    let n = *count;
+    put(scratch, (ix.at as usize) + (n as usize), k);
+    note(scratch, ix, wanted.link(ix, k), h, n);
+    *count = n.wrapping_add(1);
     n
 }
 
-// The token of node `j`, and its place.
-pub fn add_token(sheet: &[u8], state: &mut State, scratch: &mut [u32], j: u32) -> u32
-    ensures { let sheet = sheet.now in ((l : Layout)
-        → Adds sheet l scratch.old state.old scratch.new
-        state.new result
-        (TokenKey sheet j) (made.add_token (nodes.field_c sheet j)) (λ a. pools.token_at (nodes.field_c sheet j) a.pools)) }
-{
-    let l = state.layout();
-    let n = state.tokens;
-    let h = token_hash(sheet, j);
-    let i = find_token(sheet, &scratch[..], l, n, j, h);
-    if i < n {
-        return i;
+impl<'a> Store<'a> {
+    // Nothing is made yet.
+    pub fn start(scratch: &'a mut [u32], layout: Layout) -> Store<'a>
+        ensures state { result.state ≡ states.start layout }
+        ensures words { result.scratch.now ≡ scratch.old }
+        ensures same { result.scratch.ghost_name ≡ scratch.entry.ghost_name }
+    {
+        Store {
+            state: State::start(layout),
+            scratch,
+        }
     }
-    put(scratch, token_place(l, n), j);
-    let ix = token_index(l);
-    note(scratch, ix, link(ix, j), h, n);
-    state.tokens = wrapping_add_u32(n, 1);
-    n
-}
 
-// The name with key `k`, which has text `t` and `!` where `m` says, sought by its bytes, and its place.
-fn push_name(sheet: &[u8], state: &mut State, scratch: &mut [u32], k: u32, t: u32, m: bool) -> u32
-    ensures { let sheet = sheet.now in ((l : Layout) → t ≡ (name_of sheet k).text → m ≡ is_marked sheet (key_node k) (key_field k)
-        → Adds sheet l scratch.old state.old scratch.new
-        state.new result
-        (NameKey sheet k) (made.add_name sheet (name_of sheet k)) (λ a. pools.name_at sheet (name_of sheet k) a.pools)) }
-{
-    let l = state.layout();
-    let n = state.names;
-    let h = name_hash(sheet, &scratch[..], l, t, m);
-    let ix = name_index(l);
-    let i = seek_name(sheet, &scratch[..], ix, n, t, m, h);
-    if i < n {
-        return i;
+    // The words, to be read: a reference to the field, taken where it stands, would not be known to leave them as they are.
+    pub fn words(&self) -> &[u32]
+        ensures { result.now ≡ self.now.scratch.now }
+    {
+        &self.scratch[..]
     }
-    put(scratch, name_place(l, n), k);
-    note(scratch, ix, name_link(ix, k), h, n);
-    state.names = wrapping_add_u32(n, 1);
-    n
-}
 
-// The name with key `k` (3 · node + field), and its place. What is known of its text number is asked first.
-pub fn add_name(sheet: &[u8], state: &mut State, scratch: &mut [u32], k: u32) -> u32
-    ensures { let sheet = sheet.now in ((l : Layout)
-        → Adds sheet l scratch.old state.old scratch.new
-        state.new result
-        (NameKey sheet k) (made.add_name sheet (name_of sheet k)) (λ a. pools.name_at sheet (name_of sheet k) a.pools)) }
-{
-    let t = text_of(sheet, k);
-    if is_marked(sheet, k) {
-        return push_name(sheet, state, scratch, k, t, true);
+    // The instruction with words `w` behind the code, where `n` is what a chain takes.
+    fn push(&mut self, w: [u32; OP_WIDTH], pos: u32, n: u32)
+        ensures { (l : Layout) → (s : List ℕ) (op : Op) → w ≡ op_words op → Done s l self.old self.new (made.emit op pos n) }
+    {
+        let code = self.state.code;
+        let d = after(w, n, self.state.depth);
+        let at = self.state.layout().positions_at() + (code as usize);
+        put_op(self.scratch, code, w);
+        put(self.scratch, at, pos);
+        self.state.count_one(d);
     }
-    let ms = memos_at(state.layout());
-    if knows(&scratch[..], ms, t) {
-        return recall(&scratch[..], ms, t);
-    }
-    let at = push_name(sheet, state, scratch, k, t, false);
-    if t < NO_TEXT {
-        remember(scratch, ms, t, at);
-    }
-    at
-}
 
-// The chain of node `j`, whose names are pooled, and its place.
-pub fn add_chain(sheet: &[u8], state: &mut State, scratch: &mut [u32], j: u32) -> u32
-    ensures { (l : Layout) → AddsChain sheet.now l scratch.old state.old scratch.new
-        state.new result j }
-{
-    let l = state.layout();
-    let n = state.chains;
-    let local = root_local(sheet, &scratch[..], l, j);
-    let h = chain_hash(sheet, &scratch[..], l, state.names, j, local);
-    let i = find_chain(sheet, &scratch[..], l, n, j, h, local);
-    if i < n {
-        return i;
+    // An instruction behind the code. Its words are known where its kind is, so this is small where it is called.
+    pub fn emit(&mut self, op: Op, pos: u32, n: u32)
+        ensures { (l : Layout) → (s : List ℕ) → Narrow op → Done s l self.old self.new (made.emit op pos n) }
+    {
+        self.push(op_words(op), pos, n);
     }
-    put(scratch, chain_place(l, n), j);
-    let ix = chain_index(l);
-    note(scratch, ix, link(ix, j), h, n);
-    state.chains = wrapping_add_u32(n, 1);
-    state.steps = wrapping_add_u32(state.steps, link_count(sheet, j));
-    n
+
+    // Node `j` kept as it is.
+    pub fn residual(&mut self, j: u32)
+        ensures { (l : Layout) → (s : List ℕ) → Done s l self.old self.new (made.residual j) }
+    {
+        let r = self.state.residuals;
+        self.emit(Op::EvalAst(r), 0, 0);
+        let e = self.state.residuals;
+        let at = self.state.layout().residuals_at() + (e as usize);
+        put(self.scratch, at, j);
+        self.state.residuals = e.wrapping_add(1);
+    }
+
+    // The constant of node `j`, and its place.
+    pub fn add_const(&mut self, sheet: &[u8], j: u32) -> u32
+        ensures { let sheet = sheet.now in ((l : Layout)
+            → Added sheet l self.old self.new result (ConstKey sheet j) (made.add_const sheet (pools.const_of sheet j))
+            (λ a. pools.const_at sheet (pools.const_of sheet j) a.pools)) }
+    {
+        let l = self.state.layout();
+        let h = const_hash(sheet, self.words(), l, j);
+        let wanted = ConstOf { sheet, node: j };
+        stand(
+            self.scratch,
+            &mut self.state.consts,
+            &wanted,
+            l.const_index(),
+            j,
+            h,
+        )
+    }
+
+    // The token of node `j`, and its place.
+    pub fn add_token(&mut self, sheet: &[u8], j: u32) -> u32
+        ensures { let sheet = sheet.now in ((l : Layout)
+            → Added sheet l self.old self.new result (TokenKey sheet j) (made.add_token (nodes.field_c sheet j))
+            (λ a. pools.token_at (nodes.field_c sheet j) a.pools)) }
+    {
+        let l = self.state.layout();
+        let h = token_hash(sheet, j);
+        let wanted = TokenOf { sheet, node: j };
+        stand(
+            self.scratch,
+            &mut self.state.tokens,
+            &wanted,
+            l.token_index(),
+            j,
+            h,
+        )
+    }
+
+    // The name with key `k`, which has text `t` and `!` where `m` says, sought by its bytes, and its place.
+    fn push_name(&mut self, sheet: &[u8], k: u32, t: u32, m: bool) -> u32
+        ensures { let sheet = sheet.now in ((l : Layout) → t ≡ (name_of sheet k).text → m ≡ is_marked sheet (key_node k) (key_field k)
+            → Added sheet l self.old self.new result (NameKey sheet k) (made.add_name sheet (name_of sheet k))
+            (λ a. pools.name_at sheet (name_of sheet k) a.pools)) }
+    {
+        let l = self.state.layout();
+        let h = name_hash(sheet, self.words(), l, t, m);
+        let wanted = NameWith {
+            sheet,
+            text: t,
+            marked: m,
+        };
+        stand(
+            self.scratch,
+            &mut self.state.names,
+            &wanted,
+            l.name_index(),
+            k,
+            h,
+        )
+    }
+
+    // The name with key `k` (3 · node + field), and its place. What is known of its text number is asked first; a memo has that number
+    // plus 1, so the last one has none.
+    pub fn add_name(&mut self, sheet: &[u8], k: u32) -> u32
+        ensures { let sheet = sheet.now in ((l : Layout)
+            → Added sheet l self.old self.new result (NameKey sheet k) (made.add_name sheet (name_of sheet k))
+            (λ a. pools.name_at sheet (name_of sheet k) a.pools)) }
+    {
+        let t = text_of(sheet, k);
+        if is_marked(sheet, k) {
+            return self.push_name(sheet, k, t, true);
+        }
+        let ms = self.state.layout().memos_at();
+        if let Some(at) = recalled(self.words(), ms, t) {
+            return at;
+        }
+        let at = self.push_name(sheet, k, t, false);
+        if t < u32::MAX {
+            remember(self.scratch, ms, t, at);
+        }
+        at
+    }
+
+    // The chain of node `j`, whose names are pooled, and its place.
+    pub fn add_chain(&mut self, sheet: &[u8], j: u32) -> u32
+        ensures { (l : Layout) → AddedChain sheet.now l self.old self.new result j }
+    {
+        let l = self.state.layout();
+        let n = self.state.chains;
+        let count = self.state.names;
+        let local = root_local(sheet, self.words(), l, j);
+        let names = Names {
+            sheet,
+            scratch: self.words(),
+            layout: l,
+            count,
+        };
+        let h = names.chain_hash(j, local);
+        let wanted = ChainOf {
+            sheet,
+            node: j,
+            local,
+        };
+        let e = stand(
+            self.scratch,
+            &mut self.state.chains,
+            &wanted,
+            l.chain_index(),
+            j,
+            h,
+        );
+        if n < self.state.chains {
+            self.state.steps = self.state.steps.wrapping_add(link_count(sheet, j));
+        }
+        e
+    }
 }

@@ -1,14 +1,14 @@
 // Instructions: their words, and what they do to the depth.
 ghost use Rattle.std.specs.Prelude.{◌≡◌};
 ghost use Rattle.bytecode.specs.Op.{op_words};
-ghost use Rattle.bytecode.specs.Coded.{count_of};
-ghost use Rattle.bytecode.specs.Effect as kinds;
 ghost use Rattle.scratch_store.specs.Effects as effects;
 
-use bytecode::{Effect, Op, Receiver, effect_of};
+use bytecode::{Op, Receiver, effect_of};
 use lowering::OP_WIDTH;
 
 // A receiver's number, and the word that names it.
+// Kept: no `From`, as `op_words`. The numbers of the kinds stand once, each beside its variant, here and there.
+#[tactic(auto, unfolding(crate::specs::Effects::receiver_words, bytecode::specs::Op::receiver_kind, bytecode::specs::Op::receiver_word))]
 fn receiver_words(r: Receiver) -> [u32; 2]
     ensures { result ≡ effects.receiver_words r }
 {
@@ -20,6 +20,7 @@ fn receiver_words(r: Receiver) -> [u32; 2]
 }
 
 // argc and a small number in one word.
+#[tactic(auto, unfolding(crate::specs::Effects::joined))]
 fn joined(argc: u32, n: u32) -> u32
     ensures { result ≡ effects.joined argc n }
 {
@@ -27,6 +28,9 @@ fn joined(argc: u32, n: u32) -> u32
 }
 
 // The words of an instruction, where argc is below 256 and a capture below 2.
+// Kept: no `From`. It would have to stand beside the type in crate bytecode, below `lowering`, whose OP_WIDTH it would write as a number,
+// and below `Narrow`, its premise.
+#[tactic(auto, unfolding(bytecode::specs::Op::op_words))]
 pub fn op_words(op: Op) -> [u32; OP_WIDTH]
     ensures { effects.Narrow op → result ≡ op_words op }
 {
@@ -75,46 +79,11 @@ fn call_ref(name: u32, argc: u32, r: Receiver) -> [u32; OP_WIDTH]
     [13, name, joined(argc, w[0]), w[1]]
 }
 
-// What an instruction of this kind does. Each kind stands by itself, so that its numbers are constants where it is known, as in `emit`.
-fn effect(kind: u32) -> Effect
-    ensures pops { result.pops ≡ (kinds.effect kind).pops }
-    ensures pushes { result.pushes ≡ (kinds.effect kind).pushes }
-    ensures top { count_of result.top ≡ (kinds.effect kind).count }
-{
-    match kind {
-        1 => effect_of(1),
-        2 => effect_of(2),
-        3 => effect_of(3),
-        4 => effect_of(4),
-        5 => effect_of(5),
-        6 => effect_of(6),
-        7 => effect_of(7),
-        8 => effect_of(8),
-        9 => effect_of(9),
-        10 => effect_of(10),
-        11 => effect_of(11),
-        12 => effect_of(12),
-        13 => effect_of(13),
-        14 => effect_of(14),
-        15 => effect_of(15),
-        16 => effect_of(16),
-        17 => effect_of(17),
-        18 => effect_of(18),
-        19 => effect_of(19),
-        20 => effect_of(20),
-        21 => effect_of(21),
-        22 => effect_of(22),
-        23 => effect_of(23),
-        24 => effect_of(24),
-        _ => effect_of(kind),
-    }
-}
-
 // The depth after an instruction with these words at depth `d`; `n` is what a chain takes.
 pub fn after(w: [u32; OP_WIDTH], n: u32, d: u32) -> u64
     ensures { result ≡ effects.after_words w n d }
 {
-    let e = effect(w[0]);
+    let e = effect_of(w[0]);
     let pops = u64::from(e.pops) + e.top.popped(w[1], w[2], u64::from(n));
     u64::from(d).saturating_sub(pops) + u64::from(e.pushes)
 }

@@ -4,7 +4,6 @@ ghost use Rattle.scratch_store.specs.States as states;
 
 use crate::State;
 use scratch::Layout;
-use std::num::wrapping_add_u32;
 
 impl State {
     // Nothing is made yet.
@@ -41,8 +40,8 @@ impl State {
     pub(crate) fn count_one(&mut self, depth: u64)
         ensures { self.new ≡ states.counted self.old depth }
     {
-        self.code = wrapping_add_u32(self.code, 1);
-        self.emitted = wrapping_add_u32(self.emitted, 1);
+        self.code = self.code.wrapping_add(1);
+        self.emitted = self.emitted.wrapping_add(1);
         self.deepest = self.deepest.max(self.depth);
         self.depth = (depth % 4294967296) as u32;
     }

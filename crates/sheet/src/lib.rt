@@ -45,6 +45,8 @@ pub fn local_count(sheet: &[u8]) -> u32
 }
 
 // Where the sections start, in words.
+// Kept: a function for each. It is one sum under the name that its definition has; a struct of all the places would be summed whole where
+// one of them is asked for.
 fn positions_at(sheet: &[u8]) -> usize
     ensures { (result ≡ positions_at sheet.now) × (result < 30000000000) }
 {
@@ -76,6 +78,8 @@ pub fn locals_at(sheet: &[u8]) -> usize
 }
 
 // Which word of a node is which.
+// Kept: numbers and no enum. `field` answers for every word, as its definition does, so an enum would be turned back into its number at
+// its one use.
 const KIND_AT: u32 = 0;
 
 const SPAN_AT: u32 = 1;
@@ -98,6 +102,8 @@ pub fn field(sheet: &[u8], n: u32, f: u32) -> u32
     )
 }
 
+// The words of node `n`.
+// Kept: a function for each. It is one read under the name that its definition has; `field` with a number at each call would say less.
 pub fn kind(sheet: &[u8], n: u32) -> u32
     ensures { result ≡ nodes.kind sheet.now n }
 {
@@ -166,6 +172,10 @@ impl Node {
     }
 }
 
+// The numbers of the sections behind the nodes.
+// Kept: a function for each. It is one read under the name that its definition has; one function of the section would say at each call
+// what the names say now.
+
 // The position of node `n`.
 pub fn position(sheet: &[u8], n: u32) -> u32
     ensures { result ≡ nodes.position sheet.now n }
@@ -194,7 +204,7 @@ pub fn next(sheet: &[u8], n: u32) -> u32
     n.wrapping_add(span(sheet, n))
 }
 
-// Where text `t` starts among the text bytes, and its length.
+// Where text `t` starts among the text bytes, and its length: functions of their own, as `position` and `local_text`.
 pub fn text_start(sheet: &[u8], t: u32) -> u32
     ensures { result ≡ texts.text_start sheet.now t }
 {

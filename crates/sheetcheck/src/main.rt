@@ -6,6 +6,8 @@ use input::{more, read_full};
 use refusals::Refusal;
 use std::io;
 
+// Prints the answer.
+// Kept: a `Result` of std has no Display; the refusal has one.
 fn answer(rt: &impl Print, verdict: Result<(), Refusal>) -> io::Result<()> {
     match verdict {
         Ok(()) => println!(rt; "accepted"),

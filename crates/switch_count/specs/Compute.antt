@@ -1,4 +1,4 @@
--- The total opened for computation: whoever says `unfolding totalNumbers` has everything below it unfolded.
+-- The total opened for computation: whoever says `unfolding node_tally` or `unfolding switch_numbers` has everything below it unfolded.
 use Rattle.std.specs.Prelude.{ℕ, List}
 use Rattle.lowering.specs.Compute.{checked_number, expression_out, switch_program}
 use Rattle.switch_split.specs.Split as Split

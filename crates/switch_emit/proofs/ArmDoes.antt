@@ -1,5 +1,5 @@
 -- The chains of lists of blocks: of one list, block by block; of the lists of a table's heads, one after another.
-use Rattle.std.proofs.Common.{◌≡◌, ℕ, ◌+◌, ◌<◌, ◌≤◌, Bool, true, false, ◌&&◌, leb, List, [], map, length, get_or, drop, sym, ap, ◌∙◌, arith}
+use Rattle.std.proofs.Common.{◌≡◌, ℕ, ◌+◌, ◌<◌, ◌≤◌, Bool, true, false, ◌&&◌, leb, List, [], length, get_or, drop, sym, ap, ◌∙◌, arith}
 use Rattle.sheet.specs.Limits.{max_depth}
 use Rattle.lowering.specs.Nodes.{Right, Valid}
 use Rattle.lowering.proofs.NodesLaws.{guard-valid}
@@ -22,14 +22,20 @@ use Rattle.switch_model.proofs.SameLaws.{AllIn}
 use Rattle.switch_count.specs.Total as total
 use Rattle.expr_emit.proofs.Doing.{does_at}
 use Rattle.expr_count.specs.Count.{tally}
-use Rattle.switch_tables.specs.Columns.{cell, column, guard_node_at, case_heads_at, head_node_at, band_heads_at, band_head_at, guard_at as kindsAt}
+use Rattle.switch_tables.specs.Columns.{cell, guard_node_at, case_heads_at, head_node_at, band_heads_at, band_head_at, guard_at as kindsAt}
 use Rattle.switch_tables.specs.Heads.{case_key}
+use Rattle.switch_tables.specs.declared.kinds.Guard as Word
+use Rattle.switch_tables.specs.declared.kinds.Guard.TheVariants.{Never, Always, Tried}
+use Rattle.switch_tables.specs.Kinds.{said_guard}
+use Rattle.switch_tables.proofs.KindLaws.{rule_by}
+use Rattle.std.specs.Prelude.{Option}
 use Rattle.switch_tables.specs.Table.{Known, Guards, piece_in}
 use Rattle.switch_tables.specs.Planned.{Tables, Placed, entries}
 use Rattle.switch_tables.proofs.ColumnLaws.{keys_length, key-at}
 use Rattle.switch_emit.specs.Ready.{Ready, Named}
-use Rattle.switch_emit.specs.Parts.{place_in, chain_in, try_one, end_arm}
-use Rattle.switch_emit.proofs.TableLaws.{guard_by, guard-is, guard-tried, left-next, last-chain}
+use Rattle.switch_emit.specs.Heads.{Heads}
+use Rattle.switch_emit.specs.Parts.{place_in, chain_in, LastBelow, none_behind, try_one, end_arm}
+use Rattle.switch_emit.proofs.TableLaws.{guard-is, left-next, last-chain, behind-is}
 
 -- ---- one chain
 
@@ -64,15 +70,16 @@ arm-begins {s} t fallback drops ks = record {
 
 module _ {s : List ℕ} {l : Layout} {ws xs : List ℕ} {st q : State} {t : List ℕ} {fallback : ℕ} {drops : Bool} {ks : List ℕ}
     {any : Bool} {i : ℕ} (L : ArmLeft s l ws st t fallback drops ks xs q any i) where
-  module _ (k v : ℕ) (C : Ready s) (T : Guards s t (block_count s)) (N : Named s ks) (lt : i < length ks) (k-is : k ≡ get_or ks i 0)
-      (v-is : v ≡ cell t (kindsAt + k)) where
+  module _ (k : ℕ) (v : Word.Guard) (C : Ready s) (T : Guards s t (block_count s)) (N : Named s ks) (lt : i < length ks)
+      (k-is : k ≡ get_or ks i 0) (v-is : v ≡ said_guard (cell t (kindsAt + k))) where
     below : k < block_count s
     below = rw k-is (all-place (λ k. k < block_count s) ks N.each i lt)
 
-    guard : guard_at s ks i ≡ guard_by v
-    guard = guard-is s (tally max_depth s) (guard_of s (get_or ks i 0)) v (v-is ∙ ap (λ (x : Known). x.kind) (T.known k below) ∙ rw k-is)
+    guard : guard_at s ks i ≡ rule_by v
+    guard = guard-is s (tally max_depth s) (guard_of s (get_or ks i 0)) v
+        (v-is ∙ ap (λ (x : Known). said_guard x.kind) (T.known k below) ∙ rw k-is)
 
-    pub arm-pass : v ≡ 0 → ArmLeft s l ws st t fallback drops ks xs q any (i + 1)
+    pub arm-pass : v ≡ Never → ArmLeft s l ws st t fallback drops ks xs q any (i + 1)
     arm-pass h = record {
       rest = left-next (rest_by s t fallback drops ks any (i + 1)) L.rest
           (λ b. arm-at-never s (lowered max_depth s) (place_in t) fallback drops ks i b any lt (rw h at guard));
@@ -82,11 +89,11 @@ module _ {s : List ℕ} {l : Layout} {ws xs : List ℕ} {st q : State} {t : List
       target : to ≡ place_in t (get_or ks i 0)
       target = to_is ∙ ap (place_in t) k-is
 
-      pub arm-on : {ys : List ℕ} {r : State} (g : ℕ) → (v ≡ 0 → ⊥) → (v ≡ 1 → ⊥) → g ≡ cell t (guard_node_at + k)
+      pub arm-on : {ys : List ℕ} {r : State} (g : ℕ) (f : Bool) → v ≡ Tried f → g ≡ cell t (guard_node_at + k)
           → (Right s → Valid s g → Does s l xs q ys r (try_one s (lowered max_depth s) to g))
           → ArmLeft s l ws st t fallback drops ks ys r true (i + 1)
       unfolding try_one try_to
-      arm-on g h0 h1 g-is d =
+      arm-on g f h g-is d =
           let low = lowered max_depth s in
           let node = g-is ∙ T.node k below in
           let up = from-rises s low (place_in t) fallback drops (lowered-rises max_depth s) true (drop (i + 1) ks) in
@@ -95,11 +102,11 @@ module _ {s : List ℕ} {l : Layout} {ws xs : List ℕ} {st q : State} {t : List
                 (does_at (λ n. try_one s low n (guard_of s (get_or ks i 0))) target
                 (does_at (try_one s low to) (node ∙ ap (guard_of s) k-is)
                 (d C.right (rw node (guard-valid s C.right C.switch k below)))))
-                (λ b m. arm-at-tried s low (place_in t) fallback drops ks i b any lt (guard ∙ guard-tried v h0 h1))
+                (λ b m. arm-at-tried s low (place_in t) fallback drops ks i b any lt (rw h at guard))
                 (record { each = λ b. (up b).emitted });
           }
 
-      pub arm-stop : {ys : List ℕ} {r : State} → v ≡ 1 → Does s l xs q ys r (end_arm any false to)
+      pub arm-stop : {ys : List ℕ} {r : State} → v ≡ Always → Does s l xs q ys r (end_arm any false to)
           → Does s l ws st ys r (arm_by s t fallback drops ks)
       arm-stop h d =
           left-done L.rest
@@ -116,19 +123,17 @@ module _ {s : List ℕ} {l : Layout} {ws xs : List ℕ} {st q : State} {t : List
 abbrev arms_by : List ℕ → List ℕ → ℕ → Bool → List (List ℕ) → Made → Made
 arms_by s t fallback falls ls = arms_to s (lowered max_depth s) (place_in t) fallback falls ls
 
--- they are those of a column of m heads, and name blocks
-pub record Heads (s w : List ℕ) (key : ℕ → List ℕ) (at m : ℕ) (ls : List (List ℕ)) : Type 0 where
-  pub are : map key (column w at m) ≡ ls
-  pub named : AllIn (λ k. k < block_count s) ls
+names : {s : List ℕ} (ls : List (List ℕ)) → AllIn (λ k. k < block_count s) ls → (i : ℕ) → i < length ls → Named s (get_or ls i [])
+names {s} ls all i lt = record { each = lists-place (λ k. k < block_count s) ls all i lt }
 
 module _ {s w : List ℕ} (C : Ready s) (T : Tables s w) where
   pub case_heads : Heads s w (case_key s) head_node_at (cell w case_heads_at) (case_lists s)
   unfolding total.case_lists
-  case_heads = record { are = T.case_heads; named = case-lists s C.right C.numbers C.switch }
+  case_heads = record { are = T.case_heads; named = names _ (case-lists s C.right C.numbers C.switch) }
 
   pub band_heads : Heads s w (piece_in w) band_head_at (cell w band_heads_at) (range_lists (entries s))
   unfolding total.split_lists
-  band_heads = record { are = T.band_heads; named = range-lists s C.right C.numbers C.switch }
+  band_heads = record { are = T.band_heads; named = names _ (range-lists s C.right C.numbers C.switch) }
 
 -- what is left of them with i lists passed
 pub record ArmsLeft (s : List ℕ) (l : Layout) (ws : List ℕ) (st : State) (t : List ℕ) (fallback : ℕ) (falls : Bool) (ls : List (List ℕ))
@@ -142,32 +147,38 @@ arms-begin {s} {l} {ws} {st} t fallback falls ls = record { rest = left-start ws
 heads-length : {s w : List ℕ} {key : ℕ → List ℕ} {at m : ℕ} {ls : List (List ℕ)} → Heads s w key at m ls → length ls ≡ m
 heads-length {w = w} {key} {at} {m} H = ap length (sym H.are) ∙ keys_length key w at m
 
-pub case-last : {s w : List ℕ} (n last : ℕ) → Ready s → Tables s w → Placed s w → n ≡ cell w case_heads_at → last ≡ last_of (chain_in w) n
-    → last ≡ last_of (tried_at s (case_lists s)) (length (case_lists s))
-case-last {s} {w} n last C T P all e = e ∙ last-chain s w n P (all ∙ sym (heads-length (case_heads C T)))
+pub case-behind : {s w : List ℕ} (n i : ℕ) (last : Option ℕ) → Ready s → Tables s w → Placed s w → n ≡ cell w case_heads_at
+    → LastBelow (chain_in w) n last → none_behind last i ≡ leb (last_of (tried_at s (case_lists s)) (length (case_lists s))) (i + 1)
+case-behind {s} {w} n i last C T P all h =
+    behind-is (chain_in w) n i last h
+    ∙ ap (λ (v : ℕ). leb v (i + 1)) (last-chain s w n P (all ∙ sym (heads-length (case_heads C T))))
 
 module _ {s : List ℕ} {l : Layout} {ws xs : List ℕ} {st q : State} {w : List ℕ} {to : ℕ} {falls : Bool} {ls : List (List ℕ)} {i : ℕ}
     (L : ArmsLeft s l ws st w to falls ls xs q i) {key : ℕ → List ℕ} {at m : ℕ} (H : Heads s w key at m ls) (n : ℕ) (all : n ≡ m) where
-  pub arms-on : {ys : List ℕ} {r : State} {ks : List ℕ} (g last : ℕ) → i < n → g ≡ cell w (at + i) → ks ≡ key g
-      → last ≡ last_of (tried_at s ls) (length ls) → (Named s ks → Does s l xs q ys r (arm_by s w to (falls && leb last (i + 1)) ks))
+  pub arms-on : {ys : List ℕ} {r : State} {ks : List ℕ} (g : ℕ) (quiet : Bool) → i < n → g ≡ cell w (at + i) → ks ≡ key g
+      → (falls && quiet) ≡ (falls && leb (last_of (tried_at s ls) (length ls)) (i + 1)) → (Named s ks → Does s l xs q ys r (arm_by s w to (falls && quiet) ks))
       → ArmsLeft s l ws st w to falls ls ys r (i + 1)
-  arms-on {ks = ks} g last lt g-is ks-is last-is arm =
+  arms-on {ks = ks} g quiet lt g-is ks-is quiet-is arm =
       let long = heads-length H in
       let here : ks ≡ get_or ls i [] = ks-is ∙ ap key g-is ∙ rw H.are at (sym (key-at key w at [] m i (omega arith))) in
-      let named : Named s ks = record { each = rw here (lists-place (λ k. k < block_count s) ls H.named i (omega arith)) } in
+      let named : Named s ks = rw here (H.named i (omega arith)) in
       let up = arms-rise s (lowered max_depth s) (lowered-rises max_depth s) (place_in w) to falls (drop (i + 1) ls) in
       record {
         rest = left-by (arms_by s w to falls (drop (i + 1) ls)) L.rest
-            (does_at (λ (v : ℕ). arm_by s w to (falls && leb v (i + 1)) (get_or ls i [])) last-is
-            (does_at (arm_by s w to (falls && leb last (i + 1))) here (arm named)))
+            (does_at (λ (v : Bool). arm_by s w to v (get_or ls i [])) quiet-is
+            (does_at (arm_by s w to (falls && quiet)) here (arm named)))
             (λ b m. arms_next s ls (lowered max_depth s) (place_in w) to falls i b (omega arith))
             (record { each = λ b. (up b).emitted });
       }
 
-  pub arms_end : {x : ℕ} → n ≤ i → to ≡ x → Does s l ws st xs q (arms_by s w x falls ls)
-  arms_end h e =
+  pub arms_end : n ≤ i → Does s l ws st xs q (arms_by s w to falls ls)
+  arms_end h =
       let long = heads-length H in
-      does_at (λ (v : ℕ). arms_by s w v falls ls) e
-      (left-done L.rest
+      left-done L.rest
       (does-same (arms_by s w to falls (drop i ls))
-      (λ a m. sym (arms-done s (lowered max_depth s) (place_in w) to falls ls i a (omega arith))) (does-none xs q)))
+      (λ a m. sym (arms-done s (lowered max_depth s) (place_in w) to falls ls i a (omega arith))) (does-none xs q))
+
+-- the same place in other words
+pub arms-as : {s : List ℕ} {l : Layout} {ws xs : List ℕ} {st q : State} (w : List ℕ) {to x : ℕ} (falls : Bool) (ls : List (List ℕ))
+    → to ≡ x → Does s l ws st xs q (arms_by s w to falls ls) → Does s l ws st xs q (arms_by s w x falls ls)
+arms-as {s} w falls ls e d = does_at (λ (v : ℕ). arms_by s w v falls ls) e d

@@ -1,7 +1,10 @@
 -- The bodies, step by step; Unit for a missing default; the end.
-use Rattle.std.proofs.Common.{◌≡◌, ℕ, ◌+◌, ◌-◌, ◌<◌, ◌≤◌, Bool, true, false, ◌&&◌, leb, List, sym, ap, ◌∙◌, arith, eq-eqb, ne_eqb}
+use Rattle.std.proofs.Common.{◌≡◌, ℕ, ◌+◌, ◌-◌, ◌<◌, ◌≤◌, Bool, true, false, ◌&&◌, leb, List, refl, sym, ap, ◌∙◌, arith}
 use borrow.Table.Steps.{cases}
-use Rattle.laws.proofs.Numbers.{positive}
+use mathlib.Core.Bool.{true≢false}
+use Rattle.std.specs.Prelude.{Option, None, Some}
+use Rattle.std.specs.Option.{is_some}
+use Rattle.switch_tables.specs.Kinds.{coded}
 use Rattle.scratch_store.proofs.GrowingLaws.{growing-emit, growing-depth}
 use Rattle.sheet.specs.Node.{next}
 use Rattle.sheet.specs.Limits.{max_depth}
@@ -24,7 +27,7 @@ use Rattle.switch_model.proofs.GrowLaws.{jump-rises, body-lengthens, bodies-leng
 use Rattle.expr_emit.proofs.Doing.{does_at}
 use Rattle.expr_emit.proofs.CycleDoes.{low-grows}
 use Rattle.switch_emit.specs.Ready.{Ready}
-use Rattle.switch_tables.specs.Columns.{cell, guard_node_at, wanted_at, end_at}
+use Rattle.switch_tables.specs.Columns.{cell, guard_node_at, end_at}
 use Rattle.switch_tables.specs.Table.{Guards}
 use Rattle.switch_tables.specs.Planned.{want_in}
 use Rattle.switch_tables.proofs.NodesLaws.{body-at}
@@ -70,24 +73,24 @@ module _ (s w : List ℕ) (drop : Bool) (k : ℕ) where
       (λ h. bodies-skip s (lowered max_depth s) (want_in w) (cell w end_at) falls n k a lt h ∙ rw (body-no a h))
 
 module _ {s : List ℕ} {l : Layout} (w : List ℕ) (drop : Bool) (k : ℕ) where
-  pub body-lowers : {xs ys zs : List ℕ} {p q r : State} (c : State) (v g j e : ℕ) → v ≡ cell w (wanted_at + k) → v ≡ 1
+  pub body-lowers : {xs ys zs : List ℕ} {p q r : State} (c : State) (g j e : ℕ) → want_in w k ≡ true
       → g ≡ cell w (guard_node_at + k) → j ≡ next s g → e ≡ cell w end_at → Ready s → Guards s w (block_count s) → k < block_count s
       → p ≡ states.at_depth c 1
       → (Right s → Valid s j → Does s l xs p ys q (lowered max_depth s j)) → Does s l ys q zs r (jump_to drop e)
       → From s l xs c zs r (body_by s w drop k)
   unfolding body_to
-  body-lowers {xs} {p = p} c v g j e v-is v-one g-is j-is e-is C G lt p-is d f =
+  body-lowers {xs} {p = p} c g j e on g-is j-is e-is C G lt p-is d f =
       let up = jump-growing drop (cell w end_at) in
       let here : j ≡ body_of s k = j-is ∙ ap (next s) (g-is ∙ G.node k lt) ∙ body-at s k in
-      from-same (body_by s w drop k) (λ a. sym (body-yes s w drop k a (eq-eqb (cell w (wanted_at + k)) 1 (sym v-is ∙ v-one))))
+      from-same (body_by s w drop k) (λ a. sym (body-yes s w drop k a on))
       (from-seq (growing-depth 1) (growing-seq (low-grows max_depth s (body_of s k)) up) (depth-from xs c p 1 (omega arith) p-is)
       (does-from (does-seq up
       (does_at (lowered max_depth s) here (d C.right (rw here (body-valid s C.right C.switch k lt))))
       (does_at (jump_to drop) e-is f))))
 
-  pub body-passes : {xs : List ℕ} {st : State} (v : ℕ) → v ≡ cell w (wanted_at + k) → (v ≡ 1 → ⊥) → From s l xs st xs st (body_by s w drop k)
-  body-passes {xs} {st} v v-is h =
-      from-same (body_by s w drop k) (λ a. sym (body-no s w drop k a (ne_eqb (cell w (wanted_at + k)) 1 (λ f. h (v-is ∙ f)))))
+  pub body-passes : {xs : List ℕ} {st : State} → want_in w k ≡ false → From s l xs st xs st (body_by s w drop k)
+  body-passes {xs} {st} h =
+      from-same (body_by s w drop k) (λ a. sym (body-no s w drop k a h))
       (does-from (does-none xs st))
 
 -- ---- the loop
@@ -106,15 +109,15 @@ bodies-begin {s} {l} {ws} {st} t falls n = record {
 
 module _ {s : List ℕ} {l : Layout} {ws xs : List ℕ} {st q : State} {t : List ℕ} {falls : Bool} {n k : ℕ}
     (L : BodiesLeft s l ws st t falls n xs q k) where
-  pub bodies-on : {ys : List ℕ} {r : State} (last : ℕ) → last ≡ last_of (want_in t) n → k < n
-      → From s l xs q ys r (body_by s t (falls && leb last (k + 1)) k) → BodiesLeft s l ws st t falls n ys r (k + 1)
-  bodies-on last e lt d =
-      let b = falls && leb last (k + 1) in
+  pub bodies-on : {ys : List ℕ} {r : State} (quiet : Bool) → quiet ≡ leb (last_of (want_in t) n) (k + 1) → k < n
+      → From s l xs q ys r (body_by s t (falls && quiet) k) → BodiesLeft s l ws st t falls n ys r (k + 1)
+  bodies-on quiet e lt d =
+      let b = falls && quiet in
       let up = bodies-lengthen s (lowered max_depth s) (lowered-rises max_depth s) (cell t end_at) (want_in t) falls (n - (k + 1)) (k + 1) in
       record {
         rest =
             from-by (bodies_by s t falls (n - (k + 1)) (k + 1)) L.rest d
-            (λ a. body-goes s t b k falls n a lt (rw e)) (body-grows s t b k)
+            (λ a. body-goes s t b k falls n a lt (ap (λ (v : Bool). falls && v) e)) (body-grows s t b k)
             (record { each = λ a. (up a).emitted });
       }
 
@@ -125,14 +128,17 @@ module _ {s : List ℕ} {l : Layout} {ws xs : List ℕ} {st q : State} {t : List
 -- ---- the end
 
 module _ {s : List ℕ} {l : Layout} where
-  pub missing-does : {xs ys : List ℕ} {p r : State} (c : State) (def : ℕ) → def ≡ 0 → p ≡ states.at_depth c 1
-      → Does s l xs p ys r (emit Unit no_pos 0) → From s l xs c ys r (missing_to def)
-  missing-does {xs} {ys} {p} c def h p-is d =
-      from-same (missing_to def) (λ a. sym (missing-none def a h))
+  pub missing-does : {xs ys : List ℕ} {p r : State} (c : State) (def : Option ℕ) → is_some def ≡ false → p ≡ states.at_depth c 1
+      → Does s l xs p ys r (emit Unit no_pos 0) → From s l xs c ys r (missing_to (coded def))
+  missing-does {xs} {ys} {p} c (Some k) h p-is d = absurd (true≢false h)
+  missing-does {xs} {ys} {p} c None h p-is d =
+      from-same (missing_to 0) (λ a. sym (missing-none 0 a refl))
       (from-seq (growing-depth 1) (growing-emit Unit no_pos 0) (depth-from xs c p 1 (omega arith) p-is) (does-from d))
 
-  pub missing-not : {xs : List ℕ} {st : State} (def : ℕ) → (def ≡ 0 → ⊥) → From s l xs st xs st (missing_to def)
-  missing-not {xs} {st} def h = from-same (missing_to def) (λ a. sym (missing-some def a (positive h))) (does-from (does-none xs st))
+  pub missing-not : {xs : List ℕ} {st : State} (def : Option ℕ) → is_some def ≡ true → From s l xs st xs st (missing_to (coded def))
+  missing-not {xs} {st} None h = absurd (true≢false (sym h))
+  missing-not {xs} {st} (Some k) h =
+      from-same (missing_to (coded (Some k))) (λ a. sym (missing-some (coded (Some k)) a (omega arith))) (does-from (does-none xs st))
 
   pub close-does : {xs ys zs : List ℕ} {p q r : State} (c : State) → p ≡ states.at_depth c 2
       → Does s l xs p ys q (emit (Rotate 1) no_pos 0) → Does s l ys q zs r (emit Pop no_pos 0) → From s l xs c zs r close_to

@@ -1,5 +1,5 @@
 -- The parts of the Switch, one after another.
-use Rattle.std.proofs.Common.{◌≡◌, ℕ, zero, suc, Bool, true, false, List, length, sym, refl, ap, ◌∙◌, arith}
+use Rattle.std.proofs.Common.{◌≡◌, ℕ, Bool, true, false, List, length, sym, refl, ap, ◌∙◌, arith}
 use lib.ListN.{length-map}
 use Rattle.switch_tables.proofs.BandsLaws.{bands-length}
 use Rattle.laws.proofs.Numbers.{positive}
@@ -26,6 +26,9 @@ use Rattle.switch_model.proofs.LastLaws.{split-none, split-some, ranges-none, ra
 use Rattle.switch_model.proofs.LastLaws.{subject-steps, chains-steps, switch-steps}
 use Rattle.expr_emit.proofs.Doing.{does_at}
 use Rattle.switch_tables.specs.Columns.{cell, bands_at, fallback_at, default_at, end_at}
+use Rattle.std.specs.Prelude.{Option, None, Some}
+use Rattle.std.specs.Option.{is_some}
+use Rattle.switch_tables.specs.Kinds.{coded}
 use Rattle.switch_tables.specs.Bands.{bands_in, entry_of}
 use Rattle.switch_tables.specs.Planned.{Tables, entries, want_in}
 use Rattle.switch_emit.specs.Ready.{Ready}
@@ -35,10 +38,10 @@ use Rattle.switch_emit.proofs.FromLaws.{from-seq}
 
 -- ---- a default block
 
-pub default_is : (def : ℕ) → (def ≡ 0 → ⊥) → true ≡ has_default def
+pub default_is : (def : Option ℕ) → is_some def ≡ has_default (coded def)
 unfolding has_default
-default_is zero h = absurd (h refl)
-default_is (suc k) h = refl
+default_is None = refl
+default_is (Some k) = refl
 
 -- ---- the subject
 

@@ -1,47 +1,35 @@
 -- What the flat table says of guards, of chains and of heads, in the words of the definition.
-use Rattle.std.proofs.Common.{◌≡◌, ℕ, zero, suc, ◌+◌, ◌-◌, ◌<◌, ◌≤◌, min, Bool, true, false, ltb, List, [], ◌∷◌, length, get_or, take, sym, refl, ap, ◌∙◌, arith, le-ltb, lt-ltb, eq-eqb, ne_eqb}
+use Rattle.std.proofs.Common.{◌≡◌, ℕ, zero, suc, ◌+◌, ◌<◌, ◌≤◌, min, Bool, true, false, ltb, List, [], ◌∷◌, length, get_or, sym, refl, ap, ◌∙◌, add-one, arith, le-ltb}
 use borrow.Table.Steps.{cases}
+use borrow.Author.Tests.{le-leb, lt-leb}
+use lib.Dec.{leb}
+use native.Mathlib.Decide.{ℕ_discrete, dec_le}
+use Rattle.std.specs.Prelude.{Option, None, Some}
 use Rattle.sheet.specs.Limits.{max_entries}
 use Rattle.lowering.specs.SwitchSheet.{guard_of}
 use Rattle.lowering.specs.Arms.{End, taken, declined, idle, Guard, never, always, tried, guard_kind}
-use Rattle.expr_count.specs.declared.tallies.Tally.{Tally}
 use Rattle.expr_model.specs.Made.{Made}
 use Rattle.scratch.specs.declared.Layout.{Layout}
 use Rattle.scratch_store.specs.declared.State.{State}
 use Rattle.scratch_store.specs.Does.{Left}
 use Rattle.switch_model.specs.Change as change
 use Rattle.switch_model.specs.Last.{last_of}
-use Rattle.switch_model.proofs.LastLaws.{last-passes, last-fails, tried_at}
+use Rattle.switch_model.proofs.LastLaws.{last_none, last-passes, last-fails, tried_at}
 use Rattle.switch_count.specs.Arms.{has_try, end_of}
 use Rattle.switch_count.specs.Total.{case_lists}
-use Rattle.switch_tables.specs.Columns.{cell, wanted_at, case_exit_at}
-use Rattle.switch_tables.specs.Listed.{Listed}
 use Rattle.expr_count.specs.Count.{Rec}
-use Rattle.switch_tables.specs.Table.{tried_kind, known_by, known_of}
-use Rattle.switch_tables.specs.Planned.{exit_by, want_in, Placed}
-use Rattle.switch_emit.specs.Parts.{chain_in}
+use Rattle.switch_tables.specs.declared.kinds.Guard as Word
+use Rattle.switch_tables.specs.Kinds.{said_guard}
+use Rattle.switch_tables.specs.Table.{known_of}
+use Rattle.switch_tables.proofs.KindLaws.{rule_by, rule-said}
+use Rattle.switch_tables.specs.Planned.{exit_by, Placed}
+use Rattle.switch_emit.specs.Parts.{chain_in, LastBelow, none_behind}
 
--- ---- guards by their numbers
+-- ---- guards
 
-abbrev pub guard_by : ℕ → Guard
-guard_by zero = never
-guard_by (suc zero) = always
-guard_by (suc (suc v)) = tried
-
-kind-says : (w : Guard) (a : Tally) → w ≡ guard_by (known_by w a).kind
-unfolding known_by tried_kind
-kind-says never a = refl
-kind-says always a = refl
-kind-says tried a = cases a.defeated (λ e. rw e) (λ e. rw e)
-
-pub guard-is : (s : List ℕ) (t : Rec) (g v : ℕ) → v ≡ (known_of s t g).kind → guard_kind s g ≡ guard_by v
+pub guard-is : (s : List ℕ) (t : Rec) (g : ℕ) (v : Word.Guard) → v ≡ said_guard (known_of s t g).kind → guard_kind s g ≡ rule_by v
 unfolding known_of
-guard-is s t g v e = rw e (kind-says (guard_kind s g) _)
-
-pub guard-tried : (v : ℕ) → (v ≡ 0 → ⊥) → (v ≡ 1 → ⊥) → guard_by v ≡ tried
-guard-tried zero h g = absurd (h refl)
-guard-tried (suc zero) h g = absurd (g refl)
-guard-tried (suc (suc v)) h g = refl
+guard-is s t g v e = sym (rule-said (guard_kind s g) _) ∙ ap rule_by (sym e)
 
 -- what is left, in other words
 pub left-next : {s : List ℕ} {l : Layout} {xs ys : List ℕ} {st r : State} {F G : Made → Made} (H : Made → Made) → Left s l xs st F ys r G
@@ -89,20 +77,34 @@ last-chain s w n P e =
     ∙ exit-chain (has_try s (get_or ls i [])) (end_of s (get_or ls i []))
     ∙ same-tries s (get_or ls i [])))
 
--- ---- steps of the search for the last
+-- ---- the last, as a search from behind finds it
 
-module _ (w : List ℕ) (i r : ℕ) where
-  pub chain-yes : r ≡ cell w (case_exit_at + i) → r < 2 → i + 1 ≡ last_of (chain_in w) (i + 1)
-  chain-yes e h = sym (last-passes (chain_in w) i (ap (λ (x : ℕ). ltb x 2) (sym e) ∙ lt-ltb r 2 h))
+leb-more : (k i : ℕ) → leb k i ≡ leb (suc k) (i + 1)
+leb-more k i =
+    elim (dec_le k i) [
+      | yes h ↦ le-leb k i h ∙ sym (le-leb (suc k) (i + 1) (omega arith))
+      | no h ↦ lt-leb k i (omega arith) ∙ sym (lt-leb (suc k) (i + 1) (omega arith))
+    ]
 
-  pub chain-no : (last : ℕ) → r ≡ cell w (case_exit_at + i) → 2 ≤ r → last ≡ last_of (chain_in w) i → last ≡ last_of (chain_in w) (i + 1)
-  chain-no last e h q = q ∙ sym (last-fails (chain_in w) i (ap (λ (x : ℕ). ltb x 2) (sym e) ∙ le-ltb r 2 h))
+module _ (test : ℕ → Bool) where
+  last-is : (n i : ℕ) → i < n → test i ≡ true → ((k : ℕ) → i < k → k < n → test k ≡ false) → last_of test n ≡ suc i
+  last-is zero i l t h = absurd (omega arith)
+  last-is (suc n) i l t h =
+      elim (ℕ_discrete i n) [
+        | yes e ↦ ap (last_of test) (sym (add-one n)) ∙ last-passes test n (rw e at t) ∙ omega (arith, e)
+        | no e ↦
+            ap (last_of test) (sym (add-one n)) ∙ last-fails test n (h n (omega arith) (omega arith))
+            ∙ last-is n i (omega arith) t (λ k a b. h k a (omega arith))
+      ]
 
-  pub want-yes : r ≡ cell w (wanted_at + i) → r ≡ 1 → i + 1 ≡ last_of (want_in w) (i + 1)
-  want-yes e h = sym (last-passes (want_in w) i (eq-eqb (cell w (wanted_at + i)) 1 (sym e ∙ h)))
+  none-is : (n : ℕ) → ((k : ℕ) → k < n → test k ≡ false) → last_of test n ≡ 0
+  none-is zero h = last_none test
+  none-is (suc n) h = ap (last_of test) (sym (add-one n)) ∙ last-fails test n (h n (omega arith)) ∙ none-is n (λ k l. h k (omega arith))
 
-  pub want-no : (last : ℕ) → r ≡ cell w (wanted_at + i) → (r ≡ 1 → ⊥) → last ≡ last_of (want_in w) i → last ≡ last_of (want_in w) (i + 1)
-  want-no last e h q = q ∙ sym (last-fails (want_in w) i (ne_eqb (cell w (wanted_at + i)) 1 (λ f. h (e ∙ f))))
+  -- whether one stands behind i
+  pub behind-is : (n i : ℕ) (r : Option ℕ) → LastBelow test n r → none_behind r i ≡ leb (last_of test n) (i + 1)
+  behind-is n i None h = rw (none-is n h) (sym (le-leb 0 (i + 1) (omega arith)))
+  behind-is n i (Some k) h = rw (last-is n k h.0 h.1 h.2) (leb-more k i)
 
 -- ---- counts
 
@@ -112,7 +114,3 @@ capped-all n m b top e h l = omega arith
 
 pub capped-below : (n m b i : ℕ) → n ≡ min m max_entries → m ≡ b → i < n → i < b
 capped-below n m b i e h l = omega arith
-
--- a list at the front of an array, as a part of it
-pub listed-front : {at : List ℕ} {n : ℕ} {xs : List ℕ} → Listed at n xs → take (n - 0) at ≡ xs
-listed-front {at} {n} h = let e : n - 0 ≡ n = omega arith in ap (λ (k : ℕ). take k at) e ∙ h.items

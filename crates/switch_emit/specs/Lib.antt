@@ -1,4 +1,5 @@
 pub mod Ready
 pub mod Parts
+pub mod Heads
 pub mod From
 pub mod Consts

@@ -1,5 +1,5 @@
 -- The parts of a switch as the code has them.
-use Rattle.std.specs.Prelude.{ℕ, ◌+◌, ◌%◌, Bool, true, false, List, nat_lt}
+use Rattle.std.specs.Prelude.{ℕ, ◌+◌, ◌%◌, ◌<◌, ◌≡◌, Bool, true, false, List, Option, None, Some, MatchOption, nat_lt, leb}
 use Rattle.sheet.specs.Node.{position}
 use Rattle.bytecode.specs.declared.Op.TheVariants.{JumpIfTrue}
 use Rattle.expr_model.specs.Made.{Made, emit}
@@ -10,20 +10,7 @@ use Rattle.switch_tables.specs.Columns.{case_exit_at, body_at, default_at, end_a
 
 -- one more emitted, no code
 abbrev pub dropped_in : State → State
-dropped_in st = record {
-  code = st.code;
-  consts = st.consts;
-  names = st.names;
-  tokens = st.tokens;
-  residuals = st.residuals;
-  chains = st.chains;
-  emitted = (st.emitted + 1) % 4294967296;
-  depth = st.depth;
-  deepest = st.deepest;
-  most = st.most;
-  nodes = st.nodes;
-  steps = st.steps;
-}
+dropped_in st = record st { emitted = (st.emitted + 1) % 4294967296 }
 
 -- where the body of block k stands, and the targets of all jumps
 abbrev pub place_in : List ℕ → ℕ → ℕ
@@ -35,6 +22,17 @@ targets_in w = record { body = place_in w; fallback = cell w fallback_at; defaul
 -- head q of the cases has a chain
 abbrev pub chain_in : List ℕ → ℕ → Bool
 chain_in w q = nat_lt (cell w (case_exit_at + q)) 2
+
+-- the last number below n that passes a test, if one does
+abbrev pub LastBelow : (ℕ → Bool) → ℕ → Option ℕ → Type 0
+LastBelow test n r =
+    MatchOption r ((k : ℕ) → k < n → test k ≡ false)
+    (λ i. (i < n) × (test i ≡ true) × ((k : ℕ) → i < k → k < n → test k ≡ false))
+
+-- nothing stands behind i, where `last` is the last of all
+abbrev pub none_behind : Option ℕ → ℕ → Bool
+none_behind None i = true
+none_behind (Some last) i = leb last i
 
 -- the guard at node g, and the jump
 unfoldable pub try_one : List ℕ → Low → ℕ → ℕ → Made → Made

@@ -5,97 +5,83 @@ ghost use Rattle.lowering.specs.SwitchSheet.{block_count};
 ghost use Rattle.scratch.specs.declared.Layout.{Layout};
 ghost use Rattle.expr_model.specs.Made.{lowered};
 ghost use Rattle.switch_model.specs.Change as change;
-ghost use Rattle.switch_model.specs.Last.{last_of};
 ghost use Rattle.switch_tables.specs.Columns.{cell, end_at};
+ghost use Rattle.switch_tables.specs.Kinds.{coded};
 ghost use Rattle.switch_tables.specs.Table.{Guards};
 ghost use Rattle.switch_tables.specs.Planned.{Tables, want_in};
 ghost use Rattle.switch_emit.specs.Ready.{Ready};
 ghost use Rattle.switch_emit.specs.Parts as parts;
-ghost use Rattle.switch_emit.specs.From.{From};
+ghost use Rattle.switch_emit.specs.From.{DoneFrom};
 
-use crate::jumps::jump;
+use crate::jumps::{jump, none_behind};
 use bytecode::Op;
 use expr_emit::expression;
 use scratch::get;
-use scratch_store::{State, emit};
+use scratch_store::Store;
 use sheet::limits::MAX_DEPTH;
 use sheet::{field_a, next};
-use switch_lists::capped;
-use switch_tables::{END, GUARD_NODE, WANTED};
+use switch_tables::{END, ENTRIES, GUARD_NODE, WANTED};
 
 // The body of block `k` over the subject, and the jump to the end, if the body is wanted.
-fn body(sheet: &[u8], state: &mut State, scratch: &mut [u32], flat: &[u32], drop: bool, k: usize)
+fn body(sheet: &[u8], store: &mut Store, flat: &[u32], drop: bool, k: usize)
     requires { k < max_entries }
     ensures { let sheet = sheet.now in
-        let table = flat.now in
         ((l : Layout) → Ready sheet
-        → Guards sheet table (block_count sheet) → k < block_count sheet
-        → From sheet l scratch.old state.old scratch.new state.new
-        (parts.body_if (want_in table) sheet (lowered max_depth sheet)
-        (cell table end_at) drop k)) }
+        → Guards sheet flat.now (block_count sheet) → k < block_count sheet
+        → DoneFrom sheet l store.old store.new
+        (parts.body_if (want_in flat.now) sheet (lowered max_depth sheet)
+        (cell flat.now end_at) drop k)) }
 {
     if get(flat, WANTED + k) == 1 {
-        state.at_depth(1);
-        expression(
-            MAX_DEPTH,
-            sheet,
-            state,
-            scratch,
-            next(sheet, get(flat, GUARD_NODE + k)),
-        );
-        jump(state, scratch, drop, get(flat, END));
+        store.state.at_depth(1);
+        let j = next(sheet, get(flat, GUARD_NODE + k));
+        expression(MAX_DEPTH, sheet, store, j);
+        jump(store, drop, get(flat, END));
     }
 }
 
-// The last block below `n` whose body is wanted, plus 1; 0 where there is none.
-fn last_wanted(flat: &[u32], n: usize) -> usize
+// The last block below `n` whose body is wanted.
+fn last_wanted(flat: &[u32], n: usize) -> Option<usize>
     requires { n ≤ max_entries }
-    ensures { result ≡ last_of (want_in flat.now) n }
+    ensures { parts.LastBelow (want_in flat.now) n result }
 {
-    let mut last = 0;
-    for k in 0..n {
-        if get(flat, WANTED + k) == 1 {
-            last = k + 1;
-        }
-    }
-    last
+    (WANTED..WANTED + n).rposition(|i| get(flat, i) == 1)
 }
 
 // The bodies; `falls` says that the end follows.
-pub fn bodies(sheet: &[u8], state: &mut State, scratch: &mut [u32], flat: &[u32], falls: bool)
+pub fn bodies(sheet: &[u8], store: &mut Store, flat: &[u32], falls: bool)
     ensures { let sheet = sheet.now in
-        let table = flat.now in
-        ((l : Layout) → Ready sheet → Tables sheet table
-        → From sheet l scratch.old state.old scratch.new state.new
-        (change.bodies_to sheet (lowered max_depth sheet) (want_in table) (cell table end_at) falls
+        ((l : Layout) → Ready sheet → Tables sheet flat.now
+        → DoneFrom sheet l store.old store.new
+        (change.bodies_to sheet (lowered max_depth sheet) (want_in flat.now) (cell flat.now end_at) falls
         (block_count sheet) 0)) }
 {
-    let n = capped(field_a(sheet, 0) as usize);
+    let n = (field_a(sheet, 0) as usize).min(ENTRIES);
     let last = last_wanted(flat, n);
     for k in 0..n {
-        body(sheet, state, scratch, flat, falls & (last <= k + 1), k);
+        body(sheet, store, flat, falls & none_behind(last, k), k);
     }
 }
 
 // Unit for a missing default.
-pub fn missing(state: &mut State, scratch: &mut [u32], def: u32)
+pub fn missing(store: &mut Store, def: Option<u32>)
     ensures { (l : Layout) → (s : List ℕ)
-        → From s l scratch.old state.old scratch.new state.new
-        (change.missing_to def) }
+        → DoneFrom s l store.old store.new
+        (change.missing_to (coded def)) }
 {
-    if def == 0 {
-        state.at_depth(1);
-        emit(state, scratch, Op::Unit, 0, 0);
+    if def.is_none() {
+        store.state.at_depth(1);
+        store.emit(Op::Unit, 0, 0);
     }
 }
 
 // The subject goes from below the value.
-pub fn close(state: &mut State, scratch: &mut [u32])
+pub fn close(store: &mut Store)
     ensures { (l : Layout) → (s : List ℕ)
-        → From s l scratch.old state.old scratch.new state.new
+        → DoneFrom s l store.old store.new
         change.close_to }
 {
-    state.at_depth(2);
-    emit(state, scratch, Op::Rotate(1), 0, 0);
-    emit(state, scratch, Op::Pop, 0, 0);
+    store.state.at_depth(2);
+    store.emit(Op::Rotate(1), 0, 0);
+    store.emit(Op::Pop, 0, 0);
 }

@@ -7,8 +7,7 @@ ghost use Rattle.sheet.specs.Limits.{max_depth};
 ghost use Rattle.lowering.specs.SwitchSheet.{cases_of, default_block};
 ghost use Rattle.scratch.specs.declared.Layout.{Layout};
 ghost use Rattle.expr_model.specs.Made.{Made, lowered};
-ghost use Rattle.scratch_store.specs.Holds.{Holds};
-ghost use Rattle.scratch_store.specs.Does.{Does};
+ghost use Rattle.scratch_store.specs.Stores.{Held, Done};
 ghost use Rattle.switch_model.specs.Change as change;
 ghost use Rattle.switch_tables.specs.Columns.{size, case_const_at, Within};
 ghost use Rattle.switch_tables.specs.Planned.{Tables, Placed, entries, want_in};
@@ -25,84 +24,72 @@ use bytecode::Op;
 use check_switches::first_case;
 use expr_emit::expression;
 use scratch::{get, put};
-use scratch_store::{State, add_const, emit};
+use scratch_store::Store;
 use sheet::limits::MAX_DEPTH;
 use sheet::{child, field_b, field_c, next};
-use switch_lists::capped;
-use switch_tables::{BANDS, CASE_CONST};
+use switch_tables::{BANDS, CASE_CONST, ENTRIES};
 
 // The constants of the Cases, and the place of each.
-pub fn case_consts(sheet: &[u8], state: &mut State, scratch: &mut [u32], flat: &mut [u32])
-    ensures fact { let sheet = sheet.now in ((l : Layout) → Ready sheet
-        → Does sheet l scratch.old state.old scratch.new state.new
+pub fn case_consts(sheet: &[u8], store: &mut Store, flat: &mut [u32])
+    ensures does { let sheet = sheet.now in ((l : Layout) → Ready sheet
+        → Done sheet l store.old store.new
         (change.cases_to sheet (cases_of sheet))) }
-    ensures fact_2 { let sheet = sheet.now in ((l : Layout) (a : Made) → Ready sheet → length flat.old ≡ size
-        → Holds sheet l scratch.old state.old a
+    ensures consts { let sheet = sheet.now in ((l : Layout) (a : Made) → Ready sheet
+        → length flat.old ≡ size
+        → Held sheet l store.old a
         → ConstsAt sheet flat.new a) }
-    ensures within { length flat.old ≡ size → Within case_const_at size flat.old flat.new }
+    ensures within { Within case_const_at size flat.old flat.new }
 {
-    let n = capped(field_b(sheet, 0) as usize);
+    let n = (field_b(sheet, 0) as usize).min(ENTRIES);
     let mut j = first_case(sheet);
     for i in 0..n {
-        let p = add_const(sheet, state, scratch, child(j));
+        let p = store.add_const(sheet, child(j));
         put(flat, CASE_CONST + i, p);
         j = next(sheet, j);
     }
 }
 
-// There is a default block; `def` is its number plus 1, or 0.
-fn has_default(def: u32) -> bool
-    ensures { result ≡ change.has_default def }
-{
-    if def == 0 {
-        return false;
-    }
-    true
-}
-
 // The subject, and the first Switch.
-fn subject(sheet: &[u8], state: &mut State, scratch: &mut [u32])
+fn subject(sheet: &[u8], store: &mut Store)
     ensures { let sheet = sheet.now in ((l : Layout) → Ready sheet
-        → Does sheet l scratch.old state.old scratch.new state.new
+        → Done sheet l store.old store.new
         (change.subject_to (lowered max_depth sheet))) }
 {
-    expression(MAX_DEPTH, sheet, state, scratch, child(0));
-    emit(state, scratch, Op::Switch(0), 0, 0);
+    expression(MAX_DEPTH, sheet, store, child(0));
+    store.emit(Op::Switch(0), 0, 0);
 }
 
 // The chains of the cases; the second Switch and the chains of the ranges, if the split has entries.
-fn chains(sheet: &[u8], state: &mut State, scratch: &mut [u32], flat: &[u32])
+fn chains(sheet: &[u8], store: &mut Store, flat: &[u32])
     ensures { let sheet = sheet.now in
-        let table = flat.now in
-        ((l : Layout) → Ready sheet → Tables sheet table
-        → Placed sheet table
-        → Does sheet l scratch.old state.old scratch.new state.new
-        (change.chains_to sheet (lowered max_depth sheet) (parts.targets_in table)
+        ((l : Layout) → Ready sheet → Tables sheet flat.now
+        → Placed sheet flat.now
+        → Done sheet l store.old store.new
+        (change.chains_to sheet (lowered max_depth sheet) (parts.targets_in flat.now)
         (entries sheet))) }
 {
     if get(flat, BANDS) == 0 {
-        case_arms(sheet, state, scratch, flat, false);
+        case_arms(sheet, store, flat, false);
         return;
     }
-    case_arms(sheet, state, scratch, flat, true);
-    emit(state, scratch, Op::Switch(1), 0, 0);
-    range_arms(sheet, state, scratch, flat);
+    case_arms(sheet, store, flat, true);
+    store.emit(Op::Switch(1), 0, 0);
+    range_arms(sheet, store, flat);
 }
 
 // The switch, with all that its table has.
-pub fn switch(sheet: &[u8], state: &mut State, scratch: &mut [u32], flat: &[u32])
+pub fn switch(sheet: &[u8], store: &mut Store, flat: &[u32])
     ensures { let sheet = sheet.now in
-        let table = flat.now in
-        ((l : Layout) → Ready sheet → Tables sheet table
-        → Placed sheet table
-        → Does sheet l scratch.old state.old scratch.new state.new
-        (change.switch_to sheet (lowered max_depth sheet) (parts.targets_in table) (entries sheet)
-        (default_block sheet) (want_in table))) }
+        ((l : Layout) → Ready sheet → Tables sheet flat.now
+        → Placed sheet flat.now
+        → Done sheet l store.old store.new
+        (change.switch_to sheet (lowered max_depth sheet) (parts.targets_in flat.now) (entries sheet)
+        (default_block sheet) (want_in flat.now))) }
 {
-    let def = field_c(sheet, 0);
-    subject(sheet, state, scratch);
-    chains(sheet, state, scratch, flat);
-    bodies::bodies(sheet, state, scratch, flat, has_default(def));
-    bodies::missing(state, scratch, def);
-    bodies::close(state, scratch);
+    let def = field_c(sheet, 0).checked_sub(1);
+    subject(sheet, store);
+    chains(sheet, store, flat);
+    bodies::bodies(sheet, store, flat, def.is_some());
+    bodies::missing(store, def);
+    bodies::close(store);
 }

@@ -1,22 +1,20 @@
 -- The heads of the bands: the loop over them, with its invariant `BandFill`. Assumed: at most 64 intervals
--- and 255 bands, with right hashes.
+-- and 255 bands.
 use Prim.Native.Nat.{ℕ, ◌+◌, ◌≤◌, ◌<◌, min}
-use mathlib.Core.Path.{◌≡◌, refl, sym, ◌∙◌, ap}
+use mathlib.Core.Path.{◌≡◌, sym, ◌∙◌, ap}
 use mathlib.Core.List.{List, []}
 use native.Mathlib.Omega.{arith}
 use lib.ListN.{length, get_or, set}
 use Rattle.sheet.specs.Limits.{max_entries}
 use Rattle.lowering.specs.Limits.{max_bands}
 use Rattle.switch_tables.specs.Columns.{size, cell, column, spans_at, wanted_at, Within}
-use Rattle.switch_tables.specs.Columns.{bands_at, band_first_at, band_heads_at, band_number_at, band_head_at, band_hash_at, band_head_hash_at}
-use Rattle.switch_tables.specs.Hash.{hash_of}
-use Rattle.switch_tables.specs.Numbers.{number_in}
+use Rattle.switch_tables.specs.Columns.{bands_at, band_first_at, band_heads_at, band_number_at, band_head_at, band_head_hash_at}
 use Rattle.switch_tables.specs.Spans.{Span, blocks_at}
-use Rattle.switch_tables.specs.Table.{spans_in, piece_in, band_keys, BandsHashed, BandHeads}
+use Rattle.switch_tables.specs.Table.{spans_in, piece_in, band_keys, BandHeads}
 use Rattle.switch_tables.proofs.ColumnLaws.{column-kept, keys_length, key-at}
 use Rattle.switch_lists.proofs.SpanLaws.{spans-within}
-use Rattle.switch_heads.specs.Hashed.{lists_by, Hashed}
-use Rattle.switch_heads.proofs.FillLaws.{Places, Fill, Filled, fill_start, fill-old, fill-new, fill_end}
+use Rattle.switch_heads.specs.Hashed.{Hashed, Numbered}
+use Rattle.switch_heads.proofs.FillLaws.{Places, Fill, Filled, fill_start, fill-step, fill_end}
 
 abbrev band_places : Places
 band_places = record {
@@ -28,37 +26,30 @@ band_places = record {
   first = omega arith;
   second = omega arith;
   third = omega arith;
+  inside = omega arith;
 }
 
 -- what the contract asks
 pub record Asked (w : List ℕ) : Type 0 where
-  pub whole : length w ≡ size
   pub few_spans : cell w spans_at ≤ max_entries
   pub few_bands : cell w bands_at ≤ max_bands
-  pub hashed : BandsHashed w
 
 pub record BandFill (w : List ℕ) (n : ℕ) (v : List ℕ) (heads i : ℕ) : Type 0 where
   pub count : n ≡ min (cell w bands_at) max_bands
+  pub whole : length w ≡ size
   pub fill : Fill (piece_in w) band_places (band_keys w) (Asked w) w n v heads i
 
-pub bands-start : (w : List ℕ) (n m : ℕ) → m ≡ cell w bands_at → n ≡ min m max_bands → BandFill w n w 0 0
-bands-start w n m e h = record { count = rw (← e) h; fill = fill_start n (omega arith) }
+pub bands-start : (w : List ℕ) (n m : ℕ) → m ≡ cell w bands_at → n ≡ min m max_bands → length w ≡ size → BandFill w n w 0 0
+bands-start w n m e h long = record { count = rw (← e) h; whole = long; fill = fill_start n (omega arith) }
 
 keys-same : {xs ys : List Span} → xs ≡ ys → ◌≡◌ {A = ℕ → List ℕ} (λ p. blocks_at p xs) (λ p. blocks_at p ys)
 keys-same e = ap {B = ℕ → List ℕ} (λ (xs : List Span) (p : ℕ). blocks_at p xs) e
-
--- what `band_number` answers of the table v
-abbrev BandFound : List ℕ → ℕ → ℕ → ℕ → ℕ → Type 0
-BandFound v heads p h q =
-    cell v spans_at ≤ max_entries → h ≡ hash_of (piece_in v p) → Hashed (piece_in v) v band_head_at band_head_hash_at heads
-    → q ≡ number_in (piece_in v p) (lists_by (piece_in v) v band_head_at heads)
 
 module _ (w : List ℕ) (n : ℕ) (v : List ℕ) (heads i : ℕ) (k : BandFill w n v heads i) where
   all : Asked w → n ≡ length (band_keys w)
   all a = omega (arith, k.count, a.few_bands, keys_length (piece_in w) w band_first_at (cell w bands_at))
 
-  module _ (more : i < n) (p h q : ℕ) (p-is : p ≡ cell v (band_first_at + i)) (h-is : h ≡ cell v (band_hash_at + i))
-      (most : q ≤ heads) (found : BandFound v heads p h q) where
+  module _ (more : i < n) (p : ℕ) (p-is : p ≡ cell v (band_first_at + i)) (u : List ℕ) (most : ℕ) where
     -- with what the contract asks
     module _ (a : Asked w) where
       r : Filled (piece_in w) band_places (band_keys w) w v heads i
@@ -70,40 +61,23 @@ module _ (w : List ℕ) (n : ℕ) (v : List ℕ) (heads i : ℕ) (k : BandFill w
       list-now : get_or (band_keys w) i [] ≡ piece_in w p
       list-now = key-at (piece_in w) w band_first_at [] (cell w bands_at) i (omega (arith, k.count)) ∙ ap (piece_in w) (sym p-now)
 
-      hash-now : h ≡ hash_of (piece_in w p)
-      hash-now =
-          h-is
-          ∙ r.between (band_hash_at + i) (omega arith) (omega (arith, k.fill.low))
-          ∙ a.hashed.hash_at i (omega (arith, k.count))
-          ∙ ap (λ (x : ℕ). hash_of (piece_in w x)) (sym p-now)
-
-      number-now : q ≡ number_in (piece_in w p) (lists_by (piece_in w) v band_head_at heads)
-      number-now =
-          let few : cell v spans_at ≤ max_entries = rw (r.stays.low spans_at (omega arith)) a.few_spans in
-          let spans = spans-within (omega arith) a.few_spans r.stays in
-          (rw (keys-same spans, spans) at (found few)) hash-now r.hashed
-
-    pub bands-old : (u : List ℕ) → u ≡ set v (band_number_at + i) q → (q ≡ heads → ⊥) → BandFill w n u heads (i + 1)
-    bands-old u write ne = record {
+    pub bands-step : length u ≡ length v → most ≤ heads + 1
+        → (cell v spans_at ≤ max_entries → Hashed (piece_in v) v band_head_at band_head_hash_at heads
+        → Numbered (piece_in v) band_number_at band_head_at band_head_hash_at v heads i p u most)
+        → BandFill w n u most (i + 1)
+    bands-step same few put = record {
       count = k.count;
-      fill = fill-old k.fill (λ a. omega arith) all more q (piece_in w p) list-now number-now write ne;
-    }
-
-    pub bands-new : (v₁ v₂ u : List ℕ) → v₁ ≡ set v (band_number_at + i) q → v₂ ≡ set v₁ (band_head_at + q) p
-        → u ≡ set v₂ (band_head_hash_at + q) h
-        → q ≡ heads
-        → BandFill w n u (heads + 1) (i + 1)
-    bands-new v₁ v₂ u write write₂ write₃ e = record {
-      count = k.count;
-      fill = fill-new k.fill (λ a. omega arith) all more q (piece_in w p) list-now number-now p h
-          (rw (write₃, write₂, write) (ap (λ (y : ℕ). set (set (set v (band_number_at + i) q) (band_head_at + y) p) (band_head_hash_at + y) h) e))
-          (λ a. refl) hash-now e;
+      whole = k.whole;
+      fill = fill-step k.fill (λ a. k.whole) all more p list-now u most same few
+          (λ a.
+          let few-now : cell v spans_at ≤ max_entries = rw ((r a).stays.low spans_at (omega arith)) a.few_spans in
+          (rw (keys-same (spans-within (omega arith) a.few_spans (r a).stays)) at (put few-now)) (r a).hashed);
     }
 
   -- the count of heads is written at the end
   pub bands-end : n ≤ i → (u : List ℕ) → u ≡ set v band_heads_at heads → Asked w → BandHeads u × Within band_heads_at wanted_at w u
   bands-end done u write a =
-      let d = fill_end k.fill (λ b. omega arith) all done write a in
+      let d = fill_end k.fill (λ b. k.whole) all done write a in
       let spans : spans_in u ≡ spans_in w = spans-within (omega arith) a.few_spans d.stays in
       let bands : cell u bands_at ≡ cell w bands_at = d.stays.low bands_at (omega arith) in
       let firsts : column u band_first_at (cell w bands_at) ≡ column w band_first_at (cell w bands_at) =

@@ -1,5 +1,5 @@
--- The loop that finds the heads of lists and the number of each: its invariant, `Fill`, over the columns of the table, with start, both
--- steps and end. The key gives the list of what a head's cell holds; the lists ls are met in order. A is what the contract asks.
+-- The loop that finds the heads of lists and the number of each: its invariant, `Fill`, over the columns of the table, with start,
+-- step and end. The key gives the list of what a head's cell holds; the lists ls are met in order. A is what the contract asks.
 use Prim.Native.Nat.{ℕ, ◌+◌, ◌≤◌, ◌<◌}
 use mathlib.Core.Path.{◌≡◌, refl, sym, ◌∙◌, ap}
 use mathlib.Core.Bool.{true, false}
@@ -11,11 +11,11 @@ use borrow.Table.Steps.{cases}
 use lib.ListN.{length, get_or, drop, set, length-set}
 use lib.Seq.{drop-cons, drop-length, get_or-set_same, get_or-set_other}
 use Rattle.lowering.specs.Arms.{member_of, distinct_from, distinct}
-use Rattle.switch_tables.specs.Columns.{cell, column, Within}
+use Rattle.switch_tables.specs.Columns.{size, cell, column, Within}
 use Rattle.switch_tables.specs.Hash.{hash_of}
 use Rattle.switch_tables.specs.Numbers.{number_in, with_head}
 use Rattle.switch_tables.proofs.ColumnLaws.{column-more, column-kept, keys_length, within_none, within-then, within-put}
-use Rattle.switch_heads.specs.Hashed.{lists_by, Hashed}
+use Rattle.switch_heads.specs.Hashed.{lists_by, Hashed, Numbered, met, first}
 use Rattle.switch_heads.proofs.NumbersLaws.{number-found, number-missing, with-old, with-new, heads-step, final}
 
 -- where the columns stand: the count of heads, the number of each list, the heads and the hashes of theirs, with `cap` cells each
@@ -28,6 +28,7 @@ pub record Places : Type 0 where
   pub first : counts < numbers
   pub second : numbers + cap ≤ at
   pub third : at + cap ≤ hashes
+  pub inside : hashes + cap ≤ size
 
 -- of the lists ls the first i are passed; they have `heads` heads
 pub record Filled (key : ℕ → List ℕ) (p : Places) (ls : List (List ℕ)) (w v : List ℕ) (heads i : ℕ) : Type 0 where
@@ -35,7 +36,6 @@ pub record Filled (key : ℕ → List ℕ) (p : Places) (ls : List (List ℕ)) (
   pub number_at : (k : ℕ) → k < i → cell v (p.numbers + k) ≡ number_in (get_or ls k []) (distinct ls)
   pub hashed : Hashed key v p.at p.hashes heads
   pub stays : Within p.counts (p.hashes + p.cap) w v
-  pub between : (k : ℕ) → p.at + p.cap ≤ k → k < p.hashes → cell v k ≡ cell w k
 
 -- w is the table at the start, v as it is now; of n lists the first i are passed
 pub record Fill (key : ℕ → List ℕ) (p : Places) (ls : List (List ℕ)) (A : Type 0) (w : List ℕ) (n : ℕ) (v : List ℕ)
@@ -43,7 +43,7 @@ pub record Fill (key : ℕ → List ℕ) (p : Places) (ls : List (List ℕ)) (A 
   pub within : i ≤ n
   pub few : heads ≤ i
   pub low : n ≤ p.cap
-  pub same_size : length v ≡ length w
+  pub same : length v ≡ length w
   pub filled : A → Filled key p ls w v heads i
 
 -- what is there in the end
@@ -147,7 +147,6 @@ module _ {key : ℕ → List ℕ} {p : Places} {ls : List (List ℕ)} {w v : Lis
         low = λ j h. k.others j (λ e. omega arith) (λ e. omega arith) (λ e. omega arith);
         high = λ j h. k.others j (λ e. omega arith) (λ e. omega arith) (λ e. omega arith);
       });
-      between = λ j a b. k.others j (λ e. omega arith) (λ e. omega arith) (λ e. omega arith) ∙ c.between j a b;
     }
 
     -- the list is that of a head
@@ -176,69 +175,72 @@ module _ {key : ℕ → List ℕ} {p : Places} {ls : List (List ℕ)} {A : Type 
     within = omega arith;
     few = omega arith;
     low = h;
-    same_size = refl;
+    same = refl;
     filled = λ a. record {
       left = refl;
       number_at = λ k l. absurd (omega arith);
       hashed = record { hash_at = λ q l. absurd (omega arith) };
       stays = within_none p.counts (p.hashes + p.cap) w;
-      between = λ k l m. refl;
     };
   }
 
-  module _ {n : ℕ} {v : List ℕ} {heads i : ℕ} (k : Fill key p ls A w n v heads i) (room : A → p.hashes + p.cap ≤ length w)
+  module _ {n : ℕ} {v : List ℕ} {heads i : ℕ} (k : Fill key p ls A w n v heads i) (long : A → length w ≡ size)
       (size_is : A → n ≡ length ls) where
-    -- list i is l, and q its number among the heads
-    module _ (more : i < n) (q : ℕ) (l : List ℕ) (l-is : A → get_or ls i [] ≡ l)
-        (q-is : A → q ≡ number_in l (lists_by key v p.at heads)) where
-      pub fill-old : {u : List ℕ} → u ≡ numbered p v i q → (q ≡ heads → ⊥) → Fill key p ls A w n u heads (i + 1)
-      fill-old e ne = record {
-        within = omega arith;
-        few = omega arith;
-        low = k.low;
-        same_size = rw e (length-set v (p.numbers + i) q ∙ k.same_size);
-        filled = λ a.
-            let long = room a in
-            let all = size_is a in
-            filled-old (k.filled a) (omega arith) (omega arith) k.few l (l-is a) q (q-is a) _
-            (rw e (step-old p v heads i q (omega arith) (omega arith) (omega arith))) ne;
-      }
+    -- list i is that of x
+    module _ (more : i < n) (x : ℕ) (x-is : A → get_or ls i [] ≡ key x) (u : List ℕ) (heads' : ℕ) where
+      low : i < p.cap
+      low = omega (arith, k.low)
 
-      pub fill-new : {u : List ℕ} (c x : ℕ) → u ≡ headed p v i q heads c x → (A → key c ≡ l) → (A → x ≡ hash_of l) → q ≡ heads
-          → Fill key p ls A w n u (heads + 1) (i + 1)
-      fill-new c x e c_is x-is new = record {
+      few : heads < p.cap
+      few = omega (arith, k.low, k.few)
+
+      wide : A → p.hashes + p.cap ≤ length v
+      wide a = omega (arith, k.same, long a, p.inside)
+
+      step : A → Numbered key p.numbers p.at p.hashes v heads i x u heads' → Filled key p ls w u heads' (i + 1)
+      step a (met q q-is l e h) =
+          rw h
+          (filled-old (k.filled a) (omega (arith, size_is a)) low k.few (key x) (x-is a) q q-is u (rw e (step-old p v heads i q (wide a) low few))
+          (λ o. omega arith))
+      step a (first q-is e h) =
+          let hash = hash_of (key x) in
+          rw h
+          (filled-new (k.filled a) (omega (arith, size_is a)) low k.few (key x) (x-is a) heads q-is u
+          (rw e (step-new p v heads i heads (wide a) low few x hash)) refl
+          (ap key (rw e (head-is p v heads i heads (wide a) low few x hash))) (rw e (hash-is p v heads i heads (wide a) low few x hash)))
+
+      pub fill-step : length u ≡ length v → heads' ≤ heads + 1 → (A → Numbered key p.numbers p.at p.hashes v heads i x u heads')
+          → Fill key p ls A w n u heads' (i + 1)
+      fill-step same most put = record {
         within = omega arith;
-        few = omega arith;
+        few = omega (arith, k.few);
         low = k.low;
-        same_size = rw e (simp length-set k.same_size);
-        filled = λ a.
-            let long = room a in
-            let all = size_is a in
-            let v-long : p.hashes + p.cap ≤ length v = omega arith in
-            let i-low : i < p.cap = omega arith in
-            let h-low : heads < p.cap = omega arith in
-            filled-new (k.filled a) (omega arith) i-low k.few l (l-is a) q (q-is a) _
-            (rw e (step-new p v heads i q v-long i-low h-low c x)) new
-            (rw (e, head-is p v heads i q v-long i-low h-low c x) (c_is a))
-            (rw e (hash-is p v heads i q v-long i-low h-low c x ∙ x-is a));
+        same = same ∙ k.same;
+        filled = λ a. step a (put a);
       }
 
     -- the count of heads is written at the end
     pub fill_end : {u : List ℕ} → n ≤ i → u ≡ set v p.counts heads → A → Ended key p ls w u
     fill_end {u} done e a =
         let f = k.filled a in
-        let long = room a in
+        let same = k.same in
+        let whole = long a in
+        let in₀ = p.inside in
+        let in₁ = p.first in
+        let in₂ = p.second in
+        let in₃ = p.third in
         let all = size_is a in
         let counted : cell u p.counts ≡ heads = rw e (get_or-set_same v p.counts heads 0 (omega arith)) in
         record {
-          few = rw counted (omega arith);
+          few = rw counted (omega (arith, k.few, k.within, k.low));
           heads-are = rw counted
-              (ap (map key) (column-kept v u p.at heads (λ j h. other j h)) ∙ filled-heads f (omega arith));
-          number_at = λ j h. rw e (get_or-set_other v p.counts (p.numbers + j) heads 0 (λ d. omega arith)) ∙ f.number_at j (omega arith);
+              (ap (map key) (column-kept v u p.at heads (λ j h. other j h)) ∙ filled-heads f (omega (arith, k.within)));
+          number_at = λ j h.
+              rw e (get_or-set_other v p.counts (p.numbers + j) heads 0 (λ d. omega arith)) ∙ f.number_at j (omega (arith, k.within));
           stays =
               within-then f.stays
               (rw e (within-put p.counts (p.hashes + p.cap) v p.counts heads (omega arith) (omega arith)));
         }
       where
         other : (j : ℕ) → j < heads → cell u (p.at + j) ≡ cell v (p.at + j)
-        other j h = rw e (get_or-set_other v p.counts (p.at + j) heads 0 (λ d. omega arith))
+        other j h = rw e (get_or-set_other v p.counts (p.at + j) heads 0 (λ d. omega (arith, p.first, p.second)))

@@ -8,14 +8,13 @@ use lib.ListN.{length, set, take, length-set}
 use mir.Syntax.{w64}
 use mir.Val.{SFits}
 use mir.ValLaws.{to_z-of_z}
-use Rattle.sheet.proofs.WalkLaws.{skip_step}
 use Rattle.sheet.specs.Limits.{max_entries}
 use Rattle.sheet.specs.Node.{child, next}
 use Rattle.sheet.specs.Walk.{skip}
 use Rattle.check_switches.specs.Switch.{case_count, range_count, first_case}
 use Rattle.switch_split.specs.Excess.{excess_of}
-use Rattle.switch_split.specs.Held.{held, excesses}
-use Rattle.switch_split.proofs.HeldLaws.{held-set, excesses-take}
+use Rattle.switch_split.specs.Held.{held, Lists}
+use Rattle.switch_split.proofs.HeldLaws.{held-set, held-length}
 use Rattle.switch_split.proofs.OrderLaws.{as_read}
 use Rattle.switch_split.specs.Points.{points, sort, dedup, cuts}
 use Rattle.switch_split.specs.Range.{Range}
@@ -55,23 +54,22 @@ unfolding points
 points-snoc [] r = refl
 points-snoc (q ∷ rs) r = ap (λ (l : List ℕ). q.from ∷ q.to ∷ l) (points-snoc rs r)
 
--- the end points of the first i ranges stand in the array; node r is next
-pub record Pointing (s : List ℕ) (first n : ℕ) (at : List ℤ) (r i : ℕ) : Type 0 where
+-- the end points of the first i ranges stand in the array
+pub record Pointing (s : List ℕ) (first n : ℕ) (at : List ℤ) (i : ℕ) : Type 0 where
   pub within : i ≤ n
-  pub node : r ≡ skip s i first
   pub size : length at ≡ max_cuts
   pub ends : held at (2 * i) ≡ points (first_ranges s first i)
 
-pub pointing-start : (s : List ℕ) (first n : ℕ) (at : List ℤ) → length at ≡ max_cuts → Pointing s first n at first 0
-unfolding skip held points nodes_from
-pointing-start s first n at h = record { within = omega arith; node = refl; size = h; ends = refl }
+pub pointing-start : (s : List ℕ) (first n : ℕ) (at : List ℤ) (i : ℕ) → length at ≡ max_cuts → i ≡ 0 → Pointing s first n at i
+unfolding held points nodes_from
+pointing-start s first n at i h z = rw z (record { within = omega arith; size = h; ends = refl })
 
-module _ (s : List ℕ) (first n : ℕ) (at : List ℤ) (r i : ℕ) (c : Pointing s first n at r i) where
-  pub pointing-on : (a b : ℤ) (r' : ℕ) → i < n → n ≤ max_entries → SFits w64 a → SFits w64 b → excess_of a ≡ int_at s (child r)
-      → excess_of b ≡ int_at s (next s (child r)) → r' ≡ next s r
-      → Pointing s first n (set (set at (2 * i) (as_read a)) (2 * i + 1) (as_read b)) r' (i + 1)
+module _ (s : List ℕ) (first n : ℕ) (at : List ℤ) (i : ℕ) (c : Pointing s first n at i) where
+  pub pointing-on : (r : ℕ) (a b : ℤ) → i < n → n ≤ max_entries → r ≡ skip s i first → SFits w64 a → SFits w64 b
+      → excess_of a ≡ int_at s (child r) → excess_of b ≡ int_at s (next s (child r))
+      → Pointing s first n (set (set at (2 * i) (as_read a)) (2 * i + 1) (as_read b)) (i + 1)
   unfolding range_of
-  pointing-on a b r' l h f g from_is to_is e =
+  pointing-on r a b l h node f g from_is to_is =
       let one = set at (2 * i) (as_read a) in
       let long : length one ≡ max_cuts = length-set at (2 * i) (as_read a) ∙ c.size in
       let low : excess_of (as_read a) ≡ int_at s (child r) = ap excess_of (to_z-of_z w64 a f) ∙ from_is in
@@ -79,7 +77,6 @@ module _ (s : List ℕ) (first n : ℕ) (at : List ℤ) (r i : ℕ) (c : Pointin
       let two : 2 * (i + 1) ≡ (2 * i + 1) + 1 = omega arith in
       record {
         within = omega arith;
-        node = skip_step s i first c.node e;
         size = length-set one (2 * i + 1) (as_read b) ∙ long;
         ends =
             ap (held (set one (2 * i + 1) (as_read b))) two
@@ -87,21 +84,25 @@ module _ (s : List ℕ) (first n : ℕ) (at : List ℤ) (r i : ℕ) (c : Pointin
             ∙ ap₂ (λ (l : List ℕ) (y : ℕ). l ++ (y ∷ [])) (held-set at (2 * i) (as_read a) (omega (arith, c.size))) high
             ∙ ap₂ (λ (l : List ℕ) (x : ℕ). (l ++ (x ∷ [])) ++ (int_at s (next s (child r)) ∷ [])) c.ends low
             ∙ sym (points-snoc (first_ranges s first i) (range_of s r))
-            ∙ ap (λ (j : ℕ). points (first_ranges s first i ++ (range_of s j ∷ []))) c.node
+            ∙ ap (λ (j : ℕ). points (first_ranges s first i ++ (range_of s j ∷ []))) node
             ∙ sym (ap points (first_more s first i));
       }
 
-  pub pointing-end : n ≤ i → first ≡ skip s (case_count s) (first_case s) → n ≡ min (range_count s) max_entries
-      → held at (2 * n) ≡ points (ranges_read s)
-  pointing-end l f e =
+  pub pointing-end : n ≤ i → n ≤ max_entries → first ≡ skip s (case_count s) (first_case s) → n ≡ min (range_count s) max_entries
+      → Lists at (2 * n) (points (ranges_read s))
+  pointing-end l h f e =
       let is : i ≡ n = omega (arith, c.within) in
+      let all : held at (2 * n) ≡ points (ranges_read s) =
       ap (λ (k : ℕ). held at (2 * k)) (sym is)
       ∙ c.ends
       ∙ ap (λ (k : ℕ). points (first_ranges s first k)) is
-      ∙ ap points (first_read s first n f e)
+      ∙ ap points (first_read s first n f e) in
+      record { numbers = all; count = sym (held-length at (2 * n) (omega (arith, c.size))) ∙ ap length all }
 
 -- the end points sorted and made distinct
-pub cuts-by : (rs : List Range) (a b c : List ℤ) (n : ℕ) → held a n ≡ points rs → excesses b ≡ sort (excesses (take n a))
-    → excesses c ≡ dedup (excesses b) → excesses c ≡ cuts rs
+pub cuts-by : (rs : List Range) (a b c : List ℤ) (k m n : ℕ) → Lists a k (points rs) → Lists b m (sort (held a k))
+    → Lists c n (dedup (held b m)) → Lists c n (cuts rs)
 unfolding cuts
-cuts-by rs a b c n h g l = l ∙ ap dedup (g ∙ ap sort (excesses-take a n ∙ h))
+cuts-by rs a b c k m n h g l =
+    let same : dedup (held b m) ≡ dedup (sort (points rs)) = ap dedup (g.numbers ∙ ap sort h.numbers) in
+    record { numbers = l.numbers ∙ same; count = l.count ∙ ap length same }

@@ -3,7 +3,7 @@
 -- intervals, which are those of the ranges, marks where one starts or ends, and a table of full size.
 use Prim.Native.Nat.{ℕ, zero, suc, ◌+◌, ◌*◌, ◌-◌, ◌≤◌, ◌<◌}
 use mathlib.Core.Path.{◌≡◌, refl, sym, ◌∙◌, ap, ap₂}
-use mathlib.Core.Bool.{Bool, true, false, ◌&&◌, ◌||◌, true≢false, and-eq-true_iff}
+use mathlib.Core.Bool.{Bool, true, false, ◌&&◌, ◌||◌, true≢false}
 use mathlib.Core.List.{List, [], ◌∷◌, ◌++◌, map, map-append, append-nil, append_assoc}
 use native.Mathlib.Omega.{arith}
 use native.Mathlib.Decide.{dec_lt}
@@ -12,7 +12,9 @@ use lib.Dec.{ltb, eqb}
 use lib.ListN.{length, get_or, set, length-set}
 use lib.Seq.{get_or-set_same, get_or-set_other}
 use borrow.Author.Count.{below_more}
-use borrow.Author.Tests.{ltb-true, lt-ltb, le-ltb, eqb-false, ne_eqb, lt-leb}
+use borrow.Author.Tests.{lt-ltb, le-ltb, eqb-false, ne_eqb, lt-leb}
+use Rattle.std.specs.Prelude.{Option, None, Some, IfSome}
+use Rattle.std.specs.Option.{unwrap_or}
 use Rattle.laws.proofs.Bool.{not-or}
 use Rattle.text.specs.Same.{same}
 use Rattle.text.proofs.SameLaws.{same_refl, same_true, same_false}
@@ -33,7 +35,7 @@ use Rattle.switch_tables.proofs.ColumnLaws.{within_none, within-then, within-put
 use Rattle.switch_tables.proofs.BandsLaws.{band-of, piece-has, join_from, join_behind, joins-all}
 use Rattle.switch_tables.proofs.BandsLaws.{join-stays, join-ends, join-none, join_last, join-done, join-skips, join-opens}
 use Rattle.switch_tables.proofs.SpansLaws.{kept, piece-list, unchanged}
-use Rattle.switch_intervals.specs.Joining.{closed_in, closed_count, GoesOn, Stepped, stayed, ended, opened, still_from}
+use Rattle.switch_intervals.specs.Joining.{closed_in, closed_count, GoesOn, Stepped, stayed, ended, opened, goes}
 use Rattle.switch_intervals.specs.Marks.{Marked}
 use Rattle.switch_lists.proofs.SpanLaws.{piece-kept}
 
@@ -66,89 +68,116 @@ module _ (n band i : ℕ) where
   count-before : n ≤ band → band ≤ i → closed_count n band i ≤ i
   count-before a b = count-cases (λ h e. omega arith) (λ h e. omega arith)
 
-module _ (band i : ℕ) where
-  pub still-yes : band < i → band ≡ still_from band i
-  unfolding still_from
-  still-yes h = rw (lt-ltb band i h, still_from)
+-- ---- a band may be open from a piece before i; else piece i stands for it
 
-  pub still-no : i ≤ band → i + 1 ≡ still_from band i
-  unfolding still_from
-  still-no h = rw (le-ltb band i h, still_from)
+if-less : (o : Option ℕ) (i m : ℕ) → i ≤ m → IfSome o (λ (b : ℕ). b < i) → IfSome o (λ (b : ℕ). b < m)
+if-less None i m l h = tt
+if-less (Some b) i m l h = omega arith
 
-  still-most : still_from band i ≤ i + 1
-  still-most = elim (dec_lt band i) [ yes h ↦ omega (arith, still-yes h) | no h ↦ omega (arith, still-no (omega arith)) ]
+-- the hash of the open band is right
+abbrev pub OpenHashed : List ℕ → ℕ → Option ℕ → Type 0
+OpenHashed w n o = IfSome o (λ (b : ℕ). cell w (band_hash_at + n) ≡ hash_of (piece_in w b))
 
--- ---- a hash is a filter
+abbrev pub BandHashed : List ℕ → ℕ → ℕ → ℕ → Type 0
+BandHashed w n band i = band < i → cell w (band_hash_at + n) ≡ hash_of (piece_in w band)
 
-pub hash-other : (a b : List ℕ) (h x : ℕ) → h ≡ hash_of a → x ≡ hash_of b → (x ≡ h → ⊥) → false ≡ same a b
-hash-other a b h x e f ne = sym (same_false a b (λ q. ne (f ∙ ap hash_of (sym q) ∙ sym e)))
+hashed-if : (w : List ℕ) (n i : ℕ) (o : Option ℕ) → IfSome o (λ (b : ℕ). b < i) → BandHashed w n (unwrap_or o i) i → OpenHashed w n o
+hashed-if w n i None before h = tt
+hashed-if w n i (Some b) before h = h before
+
+-- closing it, in the code's two arms
+pub closed-some : (w v u : List ℕ) (n i b : ℕ) (o : Option ℕ) → o ≡ Some b → IfSome o (λ (x : ℕ). x < i) → v ≡ set w (band_first_at + n) b
+    → u ≡ set v (band_last_at + n) (i - 1)
+    → (n + 1 ≡ closed_count n (unwrap_or o i) i) × (u ≡ closed_in w n (unwrap_or o i) i)
+closed-some w v u n i b o is before e f = rw is (closed-made w v u n b i (rw is at before) e f)
+
+pub closed-none : (w : List ℕ) (n i : ℕ) (o : Option ℕ) → o ≡ None
+    → (n ≡ closed_count n (unwrap_or o i) i) × (w ≡ closed_in w n (unwrap_or o i) i)
+closed-none w n i o is = rw is (closed-kept w n i i (omega arith))
+
+-- a hash is a filter
+pub goes-same : (w a : List ℕ) (b : ℕ) (o : Option ℕ) → o ≡ Some b → same a (piece_in w b) ≡ goes w o a
+unfolding goes
+goes-same w a b o is = rw is refl
+
+pub goes-other : (w a : List ℕ) (n b h x : ℕ) (o : Option ℕ) → o ≡ Some b → h ≡ hash_of a → OpenHashed w n o
+    → x ≡ cell w (band_hash_at + n) → (x ≡ h → ⊥) → false ≡ goes w o a
+goes-other w a n b h x o is e hash x-is ne =
+    sym (same_false a (piece_in w b) (λ q. ne (x-is ∙ (rw is at hash) ∙ ap hash_of (sym q) ∙ sym e))) ∙ goes-same w a b o is
+
+pub goes-none : (w a : List ℕ) (o : Option ℕ) → o ≡ None → false ≡ goes w o a
+unfolding goes
+goes-none w a o is = rw is refl
+
+from-most : (o : Option ℕ) (i : ℕ) → IfSome o (λ (b : ℕ). b < i) → unwrap_or o i ≤ i
+from-most None i h = omega arith
+from-most (Some b) i h = omega arith
 
 -- ---- piece i, whose list is a, with its hash h; t says whether it is that of the band, where one is open
 
 -- one more band at most
-pub closed-most : (k n band i : ℕ) → k ≡ closed_count n band i → n ≤ max_bands → k ≤ 256
-closed-most k n band i e l = omega (arith, count_most n band i)
+pub closed-most : (k n band i : ℕ) → k ≡ closed_count n band i → k ≤ n + 1
+closed-most k n band i e = omega (arith, count_most n band i)
 
 -- what is known of it
-pub record Looked (w : List ℕ) (band i : ℕ) (a : List ℕ) (h : ℕ) (t : Bool) : Type 0 where
+pub record Looked (w : List ℕ) (o : Option ℕ) (i : ℕ) (a : List ℕ) (h : ℕ) (t : Bool) : Type 0 where
   pub list : a ≡ piece_in w i
   pub made : h ≡ hash_of a
-  pub told : band < i → t ≡ same a (piece_in w band)
+  pub told : t ≡ goes w o a
 
--- the hash of the open band is right
-abbrev pub BandHashed : List ℕ → ℕ → ℕ → ℕ → Type 0
-BandHashed w n band i = band < i → cell w (band_hash_at + n) ≡ hash_of (piece_in w band)
+abbrev pub Looks : List ℕ → ℕ → Option ℕ → ℕ → List ℕ → ℕ → Bool → Type 0
+Looks w n o i a h t = cell w spans_at ≤ max_entries → OpenHashed w n o → Looked w o i a h t
 
-abbrev pub Looks : List ℕ → ℕ → ℕ → ℕ → List ℕ → ℕ → Bool → Type 0
-Looks w n band i a h t = cell w spans_at ≤ max_entries → BandHashed w n band i → Looked w band i a h t
-
-abbrev pub Steps : List ℕ → ℕ → ℕ → ℕ → List ℕ → ℕ → ℕ → Type 0
-Steps w n band i v k next =
-    (k ≤ n + 1) × ((next ≤ i + 1) × (cell w spans_at ≤ max_entries → BandHashed w n band i → Stepped w n band i v k next))
+-- what `changed` says, for the table v
+abbrev pub Changed : List ℕ → ℕ → Option ℕ → ℕ → List ℕ → ℕ → Option ℕ → Type 0
+Changed w n o i v k p =
+    cell w spans_at ≤ max_entries → OpenHashed w n o → Stepped w n (unwrap_or o i) i v k (unwrap_or p (i + 1))
 
 -- from what the calls say
-pub looks : (w : List ℕ) (n band i : ℕ) (a : List ℕ) (h : ℕ) (t : Bool)
-    → (length a ≤ max_entries) × (cell w spans_at ≤ max_entries → a ≡ piece_in w i)
+pub looks : (w : List ℕ) (n i : ℕ) (o : Option ℕ) (a : List ℕ) (h : ℕ) (t : Bool)
+    → length a ≤ max_entries → (cell w spans_at ≤ max_entries → a ≡ piece_in w i)
     → (length a ≤ max_entries → h ≡ hash_of a)
-    → (cell w spans_at ≤ max_entries → h ≡ hash_of a → cell w (band_hash_at + n) ≡ hash_of (piece_in w band) → t ≡ same a (piece_in w band))
-    → Looks w n band i a h t
-looks w n band i a h t list made told few hash =
-    let x = made list.0 in
-    record { list = list.1 few; made = x; told = λ o. told few x (hash o) }
+    → (cell w spans_at ≤ max_entries → h ≡ hash_of a → OpenHashed w n o → t ≡ goes w o a)
+    → Looks w n o i a h t
+looks w n i o a h t small list made told few hash =
+    let x = made small in
+    record { list = list few; made = x; told = told few x hash }
 
-module _ (w : List ℕ) (n band i : ℕ) (a : List ℕ) (h : ℕ) (t : Bool) (c : Looks w n band i a h t) where
-  pub changed-stayed : (ltb band i && t) ≡ true → Steps w n band i w n band
-  changed-stayed e =
-      let b = (and-eq-true_iff (ltb band i) t).0 e in
-      let l : band < i = ltb-true band i b.0 in
-      let goes : Looked w band i a h t → GoesOn w band i =
-      λ known. (l, sym known.list ∙ same_true a (piece_in w band) (sym (known.told l) ∙ b.1)) in
-      (omega arith, (omega arith, λ few hash. stayed (goes (c few hash)) refl refl refl))
+module _ (w : List ℕ) (n i : ℕ) where
+  goes-yes : (o : Option ℕ) (a : List ℕ) → IfSome o (λ (b : ℕ). b < i) → a ≡ piece_in w i → goes w o a ≡ true → GoesOn w (unwrap_or o i) i
+  unfolding goes
+  goes-yes None a before list e = absurd (true≢false (sym e))
+  goes-yes (Some b) a before list e = (before, sym list ∙ same_true a (piece_in w b) e)
 
-  goes-not : (ltb band i && t) ≡ false → Looked w band i a h t → GoesOn w band i → ⊥
-  goes-not e known g =
-      let both : (ltb band i && t) ≡ true =
-      ap₂ ◌&&◌ (lt-ltb band i g.0)
-      (known.told g.0 ∙ ap (λ (l : List ℕ). same l (piece_in w band)) (known.list ∙ g.1) ∙ same_refl (piece_in w band)) in
-      true≢false (sym both ∙ e)
+  goes-not : (o : Option ℕ) (a : List ℕ) → a ≡ piece_in w i → goes w o a ≡ false → GoesOn w (unwrap_or o i) i → ⊥
+  unfolding goes
+  goes-not None a list e g = absurd (omega (arith, g.0))
+  goes-not (Some b) a list e g =
+      true≢false (sym (ap (λ (l : List ℕ). same l (piece_in w b)) (list ∙ g.1) ∙ same_refl (piece_in w b)) ∙ e)
 
-  module _ (v : List ℕ) (k : ℕ) (e : (ltb band i && t) ≡ false) (q : (k ≡ closed_count n band i) × (v ≡ closed_in w n band i)) where
-    few-more : k ≤ n + 1
-    few-more = omega (arith, q.0, count_most n band i)
+  stays-open : (o : Option ℕ) → GoesOn w (unwrap_or o i) i → unwrap_or o (i + 1) ≡ unwrap_or o i
+  stays-open None g = absurd (omega (arith, g.0))
+  stays-open (Some b) g = refl
 
-    pub changed-ended : length a ≡ 0 → Steps w n band i v k (i + 1)
-    changed-ended z =
-        let step : Looked w band i a h t → Stepped w n band i v k (i + 1) =
-        λ known. ended (goes-not e known) (no_length (piece_in w i) (ap length (sym known.list) ∙ z)) q.1 q.0 refl in
-        (few-more, (omega arith, λ few hash. step (c few hash)))
+  module _ (o : Option ℕ) (a : List ℕ) (h : ℕ) (t : Bool) (before : IfSome o (λ (b : ℕ). b < i)) (c : Looks w n o i a h t) where
+    pub changed-stayed : t ≡ true → Changed w n o i w n o
+    changed-stayed e few hash =
+        let known = c few hash in
+        let g = goes-yes o a before known.list (sym known.told ∙ e) in
+        stayed g refl refl (stays-open o g)
 
-    pub changed-opened : (u : List ℕ) → (length a ≡ 0 → ⊥) → u ≡ set v (band_hash_at + k) h → Steps w n band i u k i
-    changed-opened u ne o =
-        let hashed : Looked w band i a h t → h ≡ hash_of (piece_in w i) = λ known. known.made ∙ ap hash_of known.list in
-        let step : Looked w band i a h t → Stepped w n band i u k i =
-        λ known.
-        opened (goes-not e known) (λ x. ne (ap length (known.list ∙ x))) (rw (← q.0, ← q.1, ← hashed known) o) q.0 refl in
-        (few-more, (omega arith, λ few hash. step (c few hash)))
+    module _ (v : List ℕ) (k : ℕ) (e : t ≡ false) (k-is : k ≡ closed_count n (unwrap_or o i) i) (v-is : v ≡ closed_in w n (unwrap_or o i) i) where
+      pub changed-ended : length a ≡ 0 → Changed w n o i v k None
+      changed-ended z few hash =
+          let known = c few hash in
+          ended (goes-not o a known.list (sym known.told ∙ e)) (no_length (piece_in w i) (ap length (sym known.list) ∙ z)) v-is k-is refl
+
+      pub changed-opened : (u : List ℕ) → (length a ≡ 0 → ⊥) → u ≡ set v (band_hash_at + k) h → Changed w n o i u k (Some i)
+      changed-opened u ne p few hash =
+          let known = c few hash in
+          let hashed : h ≡ hash_of (piece_in w i) = known.made ∙ ap hash_of known.list in
+          opened (goes-not o a known.list (sym known.told ∙ e)) (λ x. ne (ap length (known.list ∙ x))) (rw (← k-is, ← v-is, ← hashed) p) k-is
+          refl
 
 -- ---- the bands of the table
 
@@ -247,6 +276,7 @@ unmarked xs l (suc j) h z f = unchanged j xs h ∙ f j (sym (add-one j))
 pub record Ready (s w marks : List ℕ) (m : ℕ) : Type 0 where
   pub long : length w ≡ size
   pub spanned : Spanned s w
+  pub all : m ≡ length marks
   pub marked : Marked marks (spans_in w)
   pub count : m ≡ 2 * length (cuts (ranges_read s)) - 1
 
@@ -262,7 +292,6 @@ pub record Joins (w : List ℕ) (m : ℕ) (marks v : List ℕ) (n band i : ℕ) 
   pub start : band ≤ i
   pub within : i ≤ m
   pub most : m ≤ max_bands
-  pub same_size : length v ≡ length w
   pub joining : (s : List ℕ) → Ready s w marks m → Joining s w v n band i
 
 pub joins-start : (w : List ℕ) (m : ℕ) (marks : List ℕ) → m ≤ max_bands → Joins w m marks w 0 0 0
@@ -271,7 +300,6 @@ joins-start w m marks l = record {
   start = omega arith;
   within = omega arith;
   most = l;
-  same_size = refl;
   joining =
       λ s r. record {
         so_far = record {
@@ -399,57 +427,58 @@ module _ (w : List ℕ) (m : ℕ) (marks v : List ℕ) (n band i : ℕ) (d : Joi
         rw (e, f, q) (skips l (shut-here l ne) (count-before n band i c.order d.start) (sym (here i) ∙ x))
     step u k next l (opened ne x e f q) = rw (e, f, q, here i) (opens l ne (λ o. x (here i ∙ o)))
 
-    still : (next : ℕ) → i < m → changes_at i (spans_in w) ≡ false → next ≡ still_from band i → Joining s w v n next (i + 1)
-    still next l h q =
+    still : (next : ℕ) → i < m → changes_at i (spans_in w) ≡ false → (band < i → next ≡ band) → (i ≤ band → next ≡ i + 1)
+        → Joining s w v n next (i + 1)
+    still next l h p q =
         elim (dec_lt band i) [
           | yes o ↦
               let g : GoesOn w band i =
               (o, unmarked (spans_in w) (piece_in w band) i h (λ z. absurd (omega arith)) (λ j e. c.open-list j e o)) in
-              rw (q, ← still-yes band i o) (stay l g)
+              rw (p o) (stay l g)
           | no o ↦
               let b : i ≤ band = omega arith in
               let x : piece_in w i ≡ [] = unmarked (spans_in w) [] i h (λ z. refl) (λ j e. c.none_list j e b) in
-              rw (q, ← still-no band i b)
+              rw (q b)
               (skips l (bands-on c.so_far (omega arith) (join-none rs cs band i b (omega (arith, pieces))))
               (omega (arith, c.order, d.start)) x)
         ]
 
-  pub joins-step : (u : List ℕ) (k next : ℕ) → i < m → length u ≡ length v → Steps v n band i u k next → Joins w m marks u k next (i + 1)
-  joins-step u k next l z h = record {
-    few = omega (arith, d.few, h.0);
-    start = h.1.0;
+  joins-step : (u : List ℕ) (k next : ℕ) → i < m → k ≤ n + 1 → next ≤ i + 1
+      → (cell v spans_at ≤ max_entries → BandHashed v n band i → Stepped v n band i u k next) → Joins w m marks u k next (i + 1)
+  joins-step u k next l k-most next-most h = record {
+    few = omega (arith, d.few);
+    start = next-most;
     within = omega arith;
     most = d.most;
-    same_size = z ∙ d.same_size;
     joining = λ s r.
         let e = d.joining s r in
         let few : cell v spans_at ≤ max_entries = omega (arith, e.so_far.kept.low spans_at (omega arith), r.spanned.few) in
-        step s r u k next l (h.1.1 few (λ o. e.hash o ∙ ap hash_of (sym (here s r band))));
+        step s r u k next l (h few (λ o. e.hash o ∙ ap hash_of (sym (here s r band))));
   }
 
-  pub joins-still : (next x : ℕ) → i < m → x ≡ get_or marks i 0 → (x ≡ 1 → ⊥) → next ≡ still_from band i → Joins w m marks v n next (i + 1)
-  joins-still next x l e ne q = record {
+  joins-still : (next x : ℕ) → i < m → x ≡ get_or marks i 0 → (x ≡ 1 → ⊥) → (band < i → next ≡ band) → (i ≤ band → next ≡ i + 1)
+      → Joins w m marks v n next (i + 1)
+  joins-still next x l e ne p q = record {
     few = omega (arith, d.few);
-    start = omega (arith, still-most band i);
+    start = elim (dec_lt band i) [ yes o ↦ omega (arith, p o) | no o ↦ omega (arith, q (omega arith)) ];
     within = omega arith;
     most = d.most;
-    same_size = d.same_size;
     joining = λ s r.
-        still s r next l (sym (r.marked.marks i (omega (arith, d.most))) ∙ ne_eqb (get_or marks i 0) 1 (λ o. ne (e ∙ o))) q;
+        still s r next l (sym (r.marked.marks i (omega (arith, r.all))) ∙ ne_eqb (get_or marks i 0) 1 (λ o. ne (e ∙ o))) p q;
   }
 
-  pub joins-end : (u t : List ℕ) (k : ℕ) → m ≤ i → (k ≡ closed_count n band m) × (u ≡ closed_in v n band m) → t ≡ set u bands_at k
-      → (s : List ℕ) → length w ≡ size → Spanned s w → Marked marks (spans_in w) → m ≡ 2 * length (cuts (ranges_read s)) - 1
+  joins-end : (u t : List ℕ) (k : ℕ) → m ≤ i → k ≡ closed_count n band m → u ≡ closed_in v n band m → t ≡ set u bands_at k
+      → length w ≡ size → m ≡ length marks → (s : List ℕ) → Spanned s w → Marked marks (spans_in w) → m ≡ 2 * length (cuts (ranges_read s)) - 1
       → BandsAre s t × (BandsHashed t × Within bands_at wanted_at w t)
-  joins-end u t k l h e s long spanned marked count =
-      let r : Ready s w marks m = record { long = long; spanned = spanned; marked = marked; count = count } in
+  joins-end u t k l k-is u-is e long all s spanned marked count =
+      let r : Ready s w marks m = record { long = long; all = all; spanned = spanned; marked = marked; count = count } in
       let is : i ≡ m = omega (arith, d.within) in
       let all : m ≡ length (atoms (cuts (ranges_read s))) = pieces s r in
       let closed : BandsTo s w u k m [] =
-      rw (h.0, h.1, ← is)
+      rw (k-is, u-is, ← is)
       (shut s r (λ o. join_last (ranges_read s) (cuts (ranges_read s)) band i o (omega arith))
       (λ o. join-done (ranges_read s) (cuts (ranges_read s)) band i o (omega arith))) in
-      let few : k ≤ max_bands = omega (arith, h.0, count-before n band m (c s r).order (omega (arith, d.start)), d.most) in
+      let few : k ≤ max_bands = omega (arith, k-is, count-before n band m (c s r).order (omega (arith, d.start)), d.most) in
       let z : cell t bands_at ≡ k = ap (λ (x : List ℕ). cell x bands_at) e ∙ get_or-set_same u bands_at k 0 (omega (arith, closed.long)) in
       let a : BandsTo s w t (cell t bands_at) m [] =
       rw (z, e)
@@ -464,3 +493,46 @@ module _ (w : List ℕ) (m : ℕ) (marks v : List ℕ) (n band i : ℕ) (d : Joi
       } in
       let same = piece-kept (omega arith) spanned.few a.kept in
       (bands, (record { hash_at = λ j o. a.hashes j o ∙ ap hash_of (sym (same (cell t (band_first_at + j)))) }, a.kept))
+
+-- ---- the same for a band that may be open
+
+pub record OpenJoins (w : List ℕ) (m : ℕ) (marks v : List ℕ) (n : ℕ) (o : Option ℕ) (i : ℕ) : Type 0 where
+  pub before : IfSome o (λ (b : ℕ). b < i)
+  pub joins : Joins w m marks v n (unwrap_or o i) i
+
+pub open-start : (w : List ℕ) (m : ℕ) (marks : List ℕ) → m ≤ max_bands → OpenJoins w m marks w 0 None 0
+open-start w m marks l = record { before = tt; joins = joins-start w m marks l }
+
+module _ (w : List ℕ) (m : ℕ) (marks v : List ℕ) (n : ℕ) (o : Option ℕ) (i : ℕ) (d : OpenJoins w m marks v n o i) where
+  pub open-step : (u : List ℕ) (k : ℕ) (p : Option ℕ) → i < m → k ≤ n + 1 → IfSome p (λ (b : ℕ). b < i + 1) → Changed v n o i u k p
+      → OpenJoins w m marks u k p (i + 1)
+  open-step u k p l most after h = record {
+    before = after;
+    joins =
+        joins-step w m marks v n (unwrap_or o i) i d.joins u k (unwrap_or p (i + 1)) l most (from-most p (i + 1) after)
+        (λ few hash. h few (hashed-if v n i o d.before hash));
+  }
+
+  still-open : (o : Option ℕ) → IfSome o (λ (b : ℕ). b < i) → (unwrap_or o i < i → unwrap_or o (i + 1) ≡ unwrap_or o i)
+      × (i ≤ unwrap_or o i → unwrap_or o (i + 1) ≡ i + 1)
+  still-open None h = ((λ l. absurd (omega arith)), (λ l. refl))
+  still-open (Some b) h = ((λ l. refl), (λ l. absurd (omega arith)))
+
+  pub open-still : (x : ℕ) → i < m → x ≡ get_or marks i 0 → (x ≡ 1 → ⊥) → OpenJoins w m marks v n o (i + 1)
+  open-still x l e ne =
+      let same = still-open o d.before in
+      record {
+        before = if-less o i (i + 1) (omega arith) d.before;
+        joins = joins-still w m marks v n (unwrap_or o i) i d.joins (unwrap_or o (i + 1)) x l e ne same.0 same.1;
+      }
+
+  pub open-before : m ≤ i → IfSome o (λ (b : ℕ). b < m)
+  open-before l = let e : i ≡ m = omega (arith, d.joins.within) in rw e at d.before
+
+  pub open-end : (u t : List ℕ) (k : ℕ) → m ≤ i → k ≡ closed_count n (unwrap_or o m) m → u ≡ closed_in v n (unwrap_or o m) m
+      → t ≡ set u bands_at k → length w ≡ size → m ≡ length marks → (s : List ℕ) → Spanned s w → Marked marks (spans_in w)
+      → m ≡ 2 * length (cuts (ranges_read s)) - 1
+      → BandsAre s t × (BandsHashed t × Within bands_at wanted_at w t)
+  open-end u t k l k-is u-is e =
+      let is : i ≡ m = omega (arith, d.joins.within) in
+      joins-end w m marks v n (unwrap_or o m) m (rw is at d.joins) u t k (omega arith) k-is u-is e

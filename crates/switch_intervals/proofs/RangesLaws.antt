@@ -5,8 +5,8 @@ use mathlib.Core.Path.{◌≡◌, refl, sym, ◌∙◌, ap}
 use mathlib.Core.List.{List, [], map}
 use native.Mathlib.Omega.{arith}
 use lib.IntN.{ℤ}
-use lib.ListN.{length, set, length-set}
-use lib.Seq.{get_or-set_same, get_or-set_other}
+use lib.ListN.{length, set, take, length-set}
+use lib.Seq.{get_or-set_same, get_or-set_other, length-take-le}
 use Rattle.sheet.specs.Limits.{max_entries}
 use Rattle.sheet.specs.Walk.{skip}
 use Rattle.check_switches.specs.Switch.{case_count, range_count, first_case}
@@ -20,8 +20,9 @@ use Rattle.switch_tables.specs.Spans.{span_of}
 use Rattle.switch_tables.specs.Table.{ranges_read, spans_to, spans_in, Spanned, CutWords, BandsAre, BandsHashed}
 use Rattle.switch_tables.proofs.ColumnLaws.{within-then, within_wider, within-put}
 use Rattle.switch_lists.proofs.SpanLaws.{spans-within, spans-none}
-use Rattle.switch_intervals.specs.Marks.{Cuts, Marked}
+use Rattle.switch_intervals.specs.Marks.{AreRead, Cuts, Marked}
 use Rattle.switch_intervals.proofs.FirstLaws.{first_ranges, first-none, first_read}
+use Rattle.switch_intervals.proofs.MarksLaws.{marked-first}
 use Rattle.switch_intervals.proofs.JoiningLaws.{bands-none}
 
 -- node `first` is the first range
@@ -72,19 +73,19 @@ module _ (s w v u : List ℕ) (first n : ℕ) (count : n ≡ min (range_count s)
 
 -- what each pass says
 abbrev pub CutsRead : List ℕ → ℕ → ℕ → List ℤ → Type 0
-CutsRead s first n at = StartsAt s first → n ≡ min (range_count s) max_entries → excesses at ≡ cuts (ranges_read s)
+CutsRead s first n at = AreRead s first n → excesses at ≡ cuts (ranges_read s)
 
 abbrev pub SpansPut : List ℕ → List ℕ → List ℕ → ℕ → ℕ → List ℕ → List ℕ → Type 0
 SpansPut s v w first n cs marked =
-    length v ≡ size → StartsAt s first → n ≡ min (range_count s) max_entries → cs ≡ cuts (ranges_read s)
+    AreRead s first n → cs ≡ cuts (ranges_read s)
     → (spans_to w n ≡ map (span_of (cuts (ranges_read s))) (ranges_read s)) × (Marked marked (spans_to w n) × Within first_at low_at v w)
 
 abbrev pub CutsPut : List ℕ → List ℕ → List ℕ → Type 0
-CutsPut v w cs = length v ≡ size → Cuts cs w × Within low_at bands_at v w
+CutsPut v w cs = Cuts cs w × Within low_at bands_at v w
 
-abbrev pub BandsPut : List ℕ → List ℕ → ℕ → List ℕ → Type 0
-BandsPut v w pieces marks =
-    (s : List ℕ) → length v ≡ size → Spanned s v → Marked marks (spans_in v) → pieces ≡ 2 * length (cuts (ranges_read s)) - 1
+abbrev pub BandsPut : List ℕ → List ℕ → List ℕ → Type 0
+BandsPut v w marks =
+    (s : List ℕ) → Spanned s v → Marked marks (spans_in v) → length marks ≡ 2 * length (cuts (ranges_read s)) - 1
     → BandsAre s w × (BandsHashed w × Within bands_at wanted_at v w)
 
 module _ (s w₀ w₁ w₂ w₃ w₄ : List ℕ) (first n : ℕ) (count : n ≡ min (range_count s) max_entries) (begun : w₁ ≡ set w₀ spans_at n) where
@@ -92,17 +93,13 @@ module _ (s w₀ w₁ w₂ w₃ w₄ : List ℕ) (first n : ℕ) (count : n ≡ 
     abbrev cs : List ℕ
     cs = cuts (ranges_read s)
 
-    pub all-put : p ≡ 2 * length at - 1 → (marked : List ℕ) → SpansPut s w₁ w₂ first n (excesses at) marked → length w₂ ≡ length w₁
-        → CutsPut w₂ w₃ (excesses at) → length w₃ ≡ length w₂
-        → BandsPut w₃ w₄ p marked → length w₀ ≡ size → StartsAt s first → AllPut s w₀ w₄
-    all-put pieces marked spans-put same₂ cuts-put same₃ bands-put size₀ h =
-        let held : excesses at ≡ cs = read h count in
+    pub all-put : p ≡ 2 * length at - 1 → (marked : List ℕ) → p ≤ length marked → SpansPut s w₁ w₂ first n (excesses at) marked
+        → CutsPut w₂ w₃ (excesses at) → BandsPut w₃ w₄ (take p marked) → length w₀ ≡ size → StartsAt s first → AllPut s w₀ w₄
+    all-put pieces marked short spans-put two bands-put size₀ h =
+        let nodes : AreRead s first n = record { start = h; count = count } in
+        let held : excesses at ≡ cs = read nodes in
         let many : length cs ≡ length at = ap length (sym held) ∙ excesses-length at in
-        let size₁ : length w₁ ≡ size = ap length begun ∙ length-set w₀ spans_at n ∙ size₀ in
-        let size₂ : length w₂ ≡ size = same₂ ∙ size₁ in
-        let size₃ : length w₃ ≡ size = same₃ ∙ size₂ in
-        let one = spans-put size₁ h count held in
-        let two = cuts-put size₂ in
+        let one = spans-put nodes held in
         let n₁ : cell w₁ spans_at ≡ n = ap (λ (l : List ℕ). cell l spans_at) begun ∙ get_or-set_same w₀ spans_at n 0 (omega arith) in
         let n₂ : cell w₂ spans_at ≡ n = one.1.1.low spans_at (omega arith) ∙ n₁ in
         let n₃ : cell w₃ spans_at ≡ n = two.1.low spans_at (omega arith) ∙ n₂ in
@@ -110,7 +107,9 @@ module _ (s w₀ w₁ w₂ w₃ w₄ : List ℕ) (first n : ℕ) (count : n ≡ 
         let spans₂ : spans_in w₂ ≡ spans_to w₂ n = ap (spans_to w₂) n₂ in
         let spans₃ : spans_in w₃ ≡ spans_to w₂ n = spans-within (omega arith) (omega arith) two.1 ∙ spans₂ in
         let spanned : Spanned s w₃ = record { few = omega arith; spans = spans₃ ∙ one.0 } in
-        let three = bands-put s size₃ spanned (rw spans₃ one.1.0) (pieces ∙ ap (λ (x : ℕ). 2 * x - 1) (sym many)) in
+        let three =
+        bands-put s spanned (rw spans₃ (marked-first marked p (spans_to w₂ n) short one.1.0))
+        (length-take-le p marked short ∙ pieces ∙ ap (λ (x : ℕ). 2 * x - 1) (sym many)) in
         let cut : Cuts cs w₃ = rw held at two.0 in
         let kept : Within bands_at wanted_at w₃ w₄ = three.1.1 in
         let kept₁ : Within spans_at wanted_at w₀ w₁ = rw begun (within-put spans_at wanted_at w₀ spans_at n (omega arith) (omega arith)) in

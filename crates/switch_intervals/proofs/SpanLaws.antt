@@ -1,17 +1,15 @@
 -- The loop that puts each range into the table as an interval of pieces, and marks where it starts and ends: its invariant, `Spanning`,
 -- with start, step and end.
-use Prim.Native.Nat.{ℕ, ◌+◌, ◌*◌, ◌≤◌, ◌<◌, min}
+use Prim.Native.Nat.{ℕ, ◌+◌, ◌*◌, ◌≤◌, ◌<◌}
 use mathlib.Core.Path.{◌≡◌, refl, sym, ◌∙◌, ap, ap₂}
 use mathlib.Core.List.{List, [], ◌∷◌, ◌++◌, map, map-append, Memᴰ}
 use native.Mathlib.Omega.{arith}
 use lib.Dec.{eqb}
 use lib.ListN.{length, get_or, set, length-set}
 use lib.Seq.{get_or-set_same, get_or-set_other}
-use Rattle.sheet.proofs.WalkLaws.{skip_step}
 use Rattle.sheet.specs.Limits.{max_entries}
 use Rattle.sheet.specs.Node.{child, next, field_a, field_b}
 use Rattle.sheet.specs.Walk.{skip}
-use Rattle.check_switches.specs.Switch.{case_count, range_count, first_case}
 use Rattle.switch_split.specs.Points.{cuts}
 use Rattle.switch_split.specs.Points.{Strict}
 use Rattle.switch_split.proofs.PointsLaws.{cuts-strict, cuts-have, from-point, to-point}
@@ -25,7 +23,7 @@ use Rattle.switch_tables.proofs.ColumnLaws.{within_none, within-then}
 use Rattle.switch_tables.proofs.PlaceLaws.{place-placed}
 use Rattle.switch_tables.proofs.SpansLaws.{one-most}
 use Rattle.switch_lists.proofs.SpanLaws.{spans-more, spans-kept}
-use Rattle.switch_intervals.specs.Marks.{Marked, with_span, with_marks}
+use Rattle.switch_intervals.specs.Marks.{AreRead, Marked, with_span, with_marks}
 use Rattle.switch_intervals.proofs.FirstLaws.{first_ranges, first-none, first_more, first-among, first_read}
 use Rattle.switch_intervals.proofs.MarksLaws.{marked_start, marked-on}
 
@@ -113,12 +111,10 @@ span_small rs r m few =
 -- ---- the loop
 
 -- what the loop is given
-pub record Given (s w m cs : List ℕ) (first n : ℕ) : Type 0 where
-  pub long : length w ≡ size
+pub record Given (s m cs : List ℕ) (first n : ℕ) : Type 0 where
   pub marks-long : length m ≡ 256
   pub clear : (j : ℕ) → j < 256 → get_or m j 0 ≡ 0
-  pub first-is : first ≡ skip s (case_count s) (first_case s)
-  pub count_is : n ≡ min (range_count s) max_entries
+  pub read : AreRead s first n
   pub cuts_are : cs ≡ cuts (ranges_read s)
 
 -- the first i ranges stand in the table w, which was w₀
@@ -127,76 +123,74 @@ pub record SpannedTo (s cs w₀ w m : List ℕ) (first i : ℕ) : Type 0 where
   pub marked : Marked m (spans_to w i)
   pub kept : Within first_at low_at w₀ w
 
-pub record Spanning (s cs w₀ m₀ : List ℕ) (first n : ℕ) (w m : List ℕ) (r i : ℕ) : Type 0 where
+pub record Spanning (s cs w₀ m₀ : List ℕ) (first n : ℕ) (w m : List ℕ) (i : ℕ) : Type 0 where
   pub within : i ≤ n
-  pub node : r ≡ skip s i first
-  pub table_same : length w ≡ length w₀
+  pub long : length w ≡ size
   pub marks-same : length m ≡ length m₀
-  pub so : Given s w₀ m₀ cs first n → SpannedTo s cs w₀ w m first i
+  pub so : Given s m₀ cs first n → SpannedTo s cs w₀ w m first i
 
-pub spanning-start : (s cs w m : List ℕ) (first n : ℕ) → Spanning s cs w m first n w m first 0
-unfolding skip spans_to
-spanning-start s cs w m first n = record {
+pub spanning-start : (s cs w m : List ℕ) (first n i : ℕ) → length w ≡ size → i ≡ 0 → Spanning s cs w m first n w m i
+unfolding spans_to
+spanning-start s cs w m first n i long z = rw z (record {
   within = omega arith;
-  node = refl;
-  table_same = refl;
+  long = long;
   marks-same = refl;
   so =
       λ g. record {
         spans = sym (ap (map (span_of cs)) (first-none s first));
-        marked = marked_start m g.marks-long g.clear;
+        marked = marked_start m (λ j l. g.clear j (omega (arith, g.marks-long)));
         kept = within_none first_at low_at w;
       };
-}
+})
 
-module _ (s cs w₀ m₀ : List ℕ) (first n : ℕ) (w m : List ℕ) (r i : ℕ) (few : length cs ≤ max_cuts)
-    (c : Spanning s cs w₀ m₀ first n w m r i) where
-  abbrev here : Span
-  here = span_of cs (range_of s r)
+module _ (s cs w₀ m₀ : List ℕ) (first n : ℕ) (w m : List ℕ) (i : ℕ) (few : length cs ≤ max_cuts)
+    (c : Spanning s cs w₀ m₀ first n w m i) where
+  abbrev here : ℕ → Span
+  here r = span_of cs (range_of s r)
 
-  step : Given s w₀ m₀ cs first n → i < n → n ≤ max_entries → SpannedTo s cs w₀ (with_span w i here) (with_marks m here) first (i + 1)
-  step g l h =
+  step : (r : ℕ) → r ≡ skip s i first → Given s m₀ cs first n → i < n → n ≤ max_entries
+      → SpannedTo s cs w₀ (with_span w i (here r)) (with_marks m (here r)) first (i + 1)
+  step r node g l h =
       let d = c.so g in
       let room : i < max_entries = omega arith in
       let rs = ranges_read s in
       let among : Memᴰ (range_of s r) rs =
-      rw c.node (rw (first_read s first n g.first-is g.count_is) at (first-among s first n i l)) in
-      let small : (here.first < 256) × (here.behind < 256) =
+      rw node (rw (first_read s first n g.read.start g.read.count) at (first-among s first n i l)) in
+      let small : ((here r).first < 256) × ((here r).behind < 256) =
       rw g.cuts_are (span_small rs (range_of s r) among (omega (arith, few, ap length g.cuts_are))) in
-      let more = with-more w i here room (c.table_same ∙ g.long) in
+      let more = with-more w i (here r) room c.long in
+      let long : length m ≡ 256 = c.marks-same ∙ g.marks-long in
       record {
         spans =
             more
-            ∙ ap₂ (λ (xs : List Span) (j : ℕ). xs ++ (span_of cs (range_of s j) ∷ [])) d.spans c.node
+            ∙ ap₂ (λ (xs : List Span) (j : ℕ). xs ++ (span_of cs (range_of s j) ∷ [])) d.spans node
             ∙ sym (map-append (span_of cs) (first_ranges s first i) (range_of s (skip s i first) ∷ []))
             ∙ sym (ap (map (span_of cs)) (first_more s first i));
-        marked = rw more (marked-on m (spans_to w i) d.marked here small.0 small.1);
-        kept = within-then d.kept (with-within w i here room);
+        marked = rw more (marked-on m (spans_to w i) d.marked (here r) (omega (arith, small.0, long)) (omega (arith, small.1, long)));
+        kept = within-then d.kept (with-within w i (here r) room);
       }
 
-  pub spanning-on : (w' m' : List ℕ) (r' : ℕ) → i < n → n ≤ max_entries → length w' ≡ length w → length m' ≡ length m
-      → (Strict cs → (w' ≡ with_span w i here) × (m' ≡ with_marks m here)) → r' ≡ next s r
-      → Spanning s cs w₀ m₀ first n w' m' r' (i + 1)
-  spanning-on w' m' r' l h w-same m-same put e = record {
+  pub spanning-on : (r : ℕ) (w' m' : List ℕ) → r ≡ skip s i first → i < n → n ≤ max_entries → length w' ≡ size → length m' ≡ length m
+      → (Strict cs → (w' ≡ with_span w i (here r)) × (m' ≡ with_marks m (here r))) → Spanning s cs w₀ m₀ first n w' m' (i + 1)
+  spanning-on r w' m' node l h w-long m-same put = record {
     within = omega arith;
-    node = skip_step s i first c.node e;
-    table_same = w-same ∙ c.table_same;
+    long = w-long;
     marks-same = m-same ∙ c.marks-same;
     so =
         λ g.
         let are = put (rw g.cuts_are (cuts-strict (ranges_read s))) in
-        rw (are.0, are.1) (step g l h);
+        rw (are.0, are.1) (step r node g l h);
   }
 
-  pub spanning-end : n ≤ i → length w₀ ≡ size → length m₀ ≡ 256 → ((j : ℕ) → j < 256 → get_or m₀ j 0 ≡ 0)
-      → first ≡ skip s (case_count s) (first_case s) → n ≡ min (range_count s) max_entries → cs ≡ cuts (ranges_read s)
+  pub spanning-end : n ≤ i → length m₀ ≡ 256 → ((j : ℕ) → j < 256 → get_or m₀ j 0 ≡ 0)
+      → AreRead s first n → cs ≡ cuts (ranges_read s)
       → (spans_to w n ≡ map (span_of (cuts (ranges_read s))) (ranges_read s)) × (Marked m (spans_to w n) × Within first_at low_at w₀ w)
-  spanning-end l w-long m-long clear f e q =
-      let d = c.so (record { long = w-long; marks-long = m-long; clear = clear; first-is = f; count_is = e; cuts_are = q }) in
+  spanning-end l m-long clear read q =
+      let d = c.so (record { marks-long = m-long; clear = clear; read = read; cuts_are = q }) in
       let is : i ≡ n = omega (arith, c.within) in (
         ap (spans_to w) (sym is)
             ∙ d.spans
             ∙ ap (λ (k : ℕ). map (span_of cs) (first_ranges s first k)) is
-            ∙ ap₂ (λ (ks : List ℕ) (rs : List Range). map (span_of ks) rs) q (first_read s first n f e),
+            ∙ ap₂ (λ (ks : List ℕ) (rs : List Range). map (span_of ks) rs) q (first_read s first n read.start read.count),
         (rw is at d.marked, d.kept),
       )

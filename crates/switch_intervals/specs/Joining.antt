@@ -1,5 +1,6 @@
 -- One step of the loop that joins pieces to bands, in the table. Definitions; assume nothing.
-use Rattle.std.specs.Prelude.{ℕ, ◌+◌, ◌-◌, ◌<◌, ◌≡◌, true, false, List, [], ltb, set}
+use Rattle.std.specs.Prelude.{ℕ, ◌+◌, ◌-◌, ◌<◌, ◌≡◌, Bool, true, false, List, [], ltb, set, Option, None, Some}
+use Rattle.text.specs.Same.{same}
 use Rattle.switch_tables.specs.Columns.{band_first_at, band_last_at, band_hash_at}
 use Rattle.switch_tables.specs.Hash.{hash_of}
 use Rattle.switch_tables.specs.Table.{piece_in}
@@ -24,6 +25,7 @@ pub data Stepped (w : List ℕ) (n band i : ℕ) (v : List ℕ) (k next : ℕ) :
       → v ≡ set (closed_in w n band i) (band_hash_at + closed_count n band i) (hash_of (piece_in w i)) → k ≡ closed_count n band i → next ≡ i
       → Stepped w n band i v k next
 
--- piece i has the list of the piece before: the piece from which a band is open then
-unfoldable pub still_from : ℕ → ℕ → ℕ
-still_from band i = elim (ltb band i) [ true ↦ band | false ↦ i + 1 ]
+-- a list is that of the piece from which a band is open
+unfoldable pub goes : List ℕ → Option ℕ → List ℕ → Bool
+goes w None l = false
+goes w (Some b) l = same l (piece_in w b)

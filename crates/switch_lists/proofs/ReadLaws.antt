@@ -1,63 +1,79 @@
--- The loop that reads the Refs of a Case into a lent list: its invariant, `Reading`, with start, step and end. Assumed: room for 64.
-use Prim.Native.Nat.{ℕ, ◌+◌, ◌≤◌, ◌<◌, min}
+-- The loop that reads the Refs of a Case into the room that is lent: its invariant, `Reading`, with start, step and end. Of the list
+-- something is said where there is room for 64.
+use Prim.Native.Nat.{ℕ, zero, suc, ◌+◌, ◌≤◌, ◌<◌, min}
 use mathlib.Core.Path.{◌≡◌, refl, sym, ◌∙◌, ap}
-use mathlib.Core.List.{List, [], ◌∷◌, ◌++◌, map, map-append}
+use mathlib.Core.List.{List, [], ◌∷◌, ◌++◌, map, append-nil, append_assoc}
 use native.Mathlib.Omega.{arith}
 use native.Mathlib.Numerals.{add-one}
-use lib.ListN.{length, set, take, length-set, length-append}
+use lib.ListN.{length, set, take, length-set}
 use lib.Seq.{take-suc-set}
-use Rattle.sheet.proofs.WalkLaws.{skip_step}
 use Rattle.sheet.specs.Limits.{max_entries}
 use Rattle.sheet.specs.Node.{next}
-use Rattle.sheet.specs.Walk.{skip}
+use Rattle.sheet.specs.Rest.{rest}
+use Rattle.sheet.specs.Walk.{sibling_list}
+use Rattle.sheet.specs.declared.Siblings.{Siblings}
 use Rattle.lowering.specs.SwitchSheet.{nodes_from}
-use Rattle.switch_tables.specs.Listed.{Listed}
-use Rattle.switch_tables.proofs.NodesLaws.{nodes-snoc, nodes-read}
+use Rattle.switch_tables.proofs.NodesLaws.{nodes-length, nodes-read}
 
--- a list with room takes one more
-pub push : {at xs : List ℕ} {n : ℕ} (y : ℕ) → n < length at → Listed at n xs → Listed (set at n y) (n + 1) (xs ++ (y ∷ []))
-push {at} {xs} {n} y room c = record {
-  items = rw add-one (take-suc-set at n y room) ∙ ap (λ (l : List ℕ). l ++ (y ∷ [])) c.items;
-  count = omega (arith, c.count, length-append xs (y ∷ []));
+-- one more behind the first n
+pub push : (room : List ℕ) {xs : List ℕ} (n y : ℕ) → n < length room → take n room ≡ xs → take (n + 1) (set room n y) ≡ xs ++ (y ∷ [])
+push room n y wide e = rw add-one (take-suc-set room n y wide) ∙ ap (λ (l : List ℕ). l ++ (y ∷ [])) e
+
+-- the walk goes over the nodes of the definition
+siblings-are : (s : List ℕ) (n j : ℕ) → sibling_list s n j ≡ nodes_from s n j
+unfolding sibling_list nodes_from
+siblings-are s zero j = refl
+siblings-are s (suc n) j = ap (λ (xs : List ℕ). j ∷ xs) (siblings-are s n (next s j))
+
+pub rest-is : {w v : Siblings} {s : List ℕ} {n j : ℕ} → w ≡ v → v.sheet.now ≡ s → v.left ≡ n → v.at ≡ j → rest w ≡ nodes_from s n j
+rest-is {w} {v} {s} {n} {j} e a b c = rw (e, a, b, c) (siblings-are s n j)
+
+-- of the nodes `all` those before `left` are read by f into the front of the room, i of them
+pub record Reading (f : ℕ → ℕ) (all start room : List ℕ) (i : ℕ) (left : List ℕ) : Type 0 where
+  pub few : length all ≤ max_entries
+  pub same : length room ≡ length start
+  pub count : i + length left ≡ length all
+  pub list : max_entries ≤ length start → take i room ++ map f left ≡ map f all
+
+pub reading-start : (f : ℕ → ℕ) (s : List ℕ) (n j : ℕ) (all room : List ℕ) (i : ℕ) → all ≡ nodes_from s n j → n ≤ max_entries → i ≡ 0
+    → Reading f all room room i all
+reading-start f s n j all room i e few z = record {
+  few = omega (arith, ap length e ∙ nodes-length s n j);
+  same = refl;
+  count = omega arith;
+  list = λ wide. rw z refl;
 }
 
--- of n siblings from j₀ on, i are read by f into the front of `out`; node j is next
-pub record Reading (f : ℕ → ℕ) (s : List ℕ) (n j₀ : ℕ) (start out : List ℕ) (i j : ℕ) : Type 0 where
-  pub within : i ≤ n
-  pub room : n ≤ max_entries
-  pub size : length out ≡ length start
-  pub node : j ≡ skip s i j₀
-  pub listed : max_entries ≤ length start → Listed out i (map f (nodes_from s i j₀))
-
-pub reading-start : (f : ℕ → ℕ) (s : List ℕ) (n j₀ : ℕ) (out : List ℕ) → n ≤ max_entries → Reading f s n j₀ out out 0 j₀
-unfolding skip nodes_from
-reading-start f s n j₀ out l = record {
-  within = omega arith;
-  room = l;
-  size = refl;
-  node = refl;
-  listed = λ h. record { items = refl; count = refl };
-}
-
-module _ (f : ℕ → ℕ) (s : List ℕ) (n j₀ : ℕ) (start out : List ℕ) (i j : ℕ) (c : Reading f s n j₀ start out i j) where
-  pub reading-on : (y j' : ℕ) (v : List ℕ) → i < n → y ≡ f j → v ≡ set out i y → j' ≡ next s j → Reading f s n j₀ start v (i + 1) j'
-  reading-on y j' v l e ev q =
-      let more : map f (nodes_from s (i + 1) j₀) ≡ map f (nodes_from s i j₀) ++ (y ∷ []) =
-      ap (map f) (nodes-snoc s i j₀)
-      ∙ map-append f (nodes_from s i j₀) (skip s i j₀ ∷ [])
-      ∙ ap (λ (x : ℕ). map f (nodes_from s i j₀) ++ (x ∷ [])) (sym (e ∙ ap f c.node)) in
+module _ (f : ℕ → ℕ) (all start room : List ℕ) (i : ℕ) (left : List ℕ) (c : Reading f all start room i left) where
+  pub reading-on : (j y p : ℕ) (v more : List ℕ) (i' : ℕ) → left ≡ j ∷ more → p ≡ i → i' ≡ i + 1 → y ≡ f j → v ≡ set room p y
+      → Reading f all start v i' more
+  reading-on j y p v more i' e p-is q y-is w =
+      let shorter : length left ≡ suc (length more) = ap length e in
       record {
-        within = omega arith;
-        room = c.room;
-        size = ap length ev ∙ length-set out i y ∙ c.size;
-        node = skip_step s i j₀ c.node q;
-        listed = λ h. rw (ev, more) (push y (omega (arith, c.room, c.size)) (c.listed h));
+        few = c.few;
+        same = ap length w ∙ length-set room p y ∙ c.same;
+        count = omega (arith, c.count);
+        list = λ wide.
+            let front : take i' v ≡ take i room ++ (f j ∷ []) =
+            rw (q, w, p-is, y-is) (push room i (f j) (omega (arith, c.count, c.few, c.same)) refl) in
+            ap (λ (l : List ℕ). l ++ map f more) front
+            ∙ append_assoc (take i room) (f j ∷ []) (map f more)
+            ∙ ap (λ (l : List ℕ). take i room ++ map f l) (sym e)
+            ∙ c.list wide;
       }
 
-  pub reading-end : (m : ℕ) (whole : List ℕ) → n ≤ i → n ≡ min m max_entries → map f (nodes_from s m j₀) ≡ whole
-      → (n ≤ max_entries) × (max_entries ≤ length start → Listed out n (take max_entries whole))
-  reading-end m whole l e q =
-      let is : i ≡ n = omega (arith, c.within) in
-      let all : map f (nodes_from s n j₀) ≡ take max_entries whole =
-      ap (λ (k : ℕ). map f (nodes_from s k j₀)) e ∙ nodes-read s f max_entries m j₀ ∙ ap (take max_entries) q in
-      (c.room, λ h. rw (← all) (rw is at (c.listed h)))
+  pub reading-end : (s : List ℕ) (n j₀ m : ℕ) (whole : List ℕ) → left ≡ [] → all ≡ nodes_from s n j₀ → n ≡ min m max_entries
+      → map f (nodes_from s m j₀) ≡ whole → (x : ℕ) → x ≡ min n (length room) → max_entries ≤ length start
+      → take x room ≡ take max_entries whole
+  reading-end s n j₀ m whole e nodes n-is q x x-is wide =
+      let none : length left ≡ 0 = ap length e in
+      let long : length all ≡ n = ap length nodes ∙ nodes-length s n j₀ in
+      let is : x ≡ i = omega (arith, c.count, c.few, c.same) in
+      ap (λ (k : ℕ). take k room) is
+      ∙ sym (append-nil (take i room))
+      ∙ ap (λ (l : List ℕ). take i room ++ map f l) (sym e)
+      ∙ c.list wide
+      ∙ ap (map f) nodes
+      ∙ ap (λ (k : ℕ). map f (nodes_from s k j₀)) n-is
+      ∙ nodes-read s f max_entries m j₀
+      ∙ ap (take max_entries) q

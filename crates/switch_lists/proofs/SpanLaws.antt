@@ -1,15 +1,14 @@
 -- The list of a piece: one interval more, where the table keeps it, and the loop that makes it. Assumed: at most 64 intervals.
 use Prim.Native.Nat.{ℕ, zero, suc, ◌+◌, ◌≤◌, ◌<◌, min}
-use mathlib.Core.Path.{◌≡◌, refl, ◌∙◌, ap, ap₂}
+use mathlib.Core.Path.{◌≡◌, refl, sym, ◌∙◌, ap, ap₂}
 use mathlib.Core.Bool.{Bool, true, false, ◌&&◌}
 use mathlib.Core.List.{List, [], ◌∷◌, ◌++◌, append-nil}
 use native.Mathlib.Omega.{arith}
 use native.Mathlib.Numerals.{add-one}
 use lib.Dec.{leb, ltb}
-use lib.ListN.{length, set, length-set}
+use lib.ListN.{length, set, take, length-set}
 use Rattle.sheet.specs.Limits.{max_entries}
 use Rattle.switch_tables.specs.Columns.{cell, spans_at, first_at, behind_at, block_at, low_at, Within}
-use Rattle.switch_tables.specs.Listed.{Listed}
 use Rattle.switch_tables.specs.Spans.{Span, covered, blocks_at}
 use Rattle.switch_tables.specs.Table.{span_at, spans_to, spans_in, piece_in}
 use Rattle.switch_tables.proofs.SpansLaws.{kept}
@@ -63,57 +62,51 @@ piece-kept l few c p = ap (blocks_at p) (spans-within l few c)
 
 -- ---- the loop
 
--- of n intervals the first i are passed; the blocks of those that cover p are the first k of out
-pub record Listing (w : List ℕ) (n p : ℕ) (start out : List ℕ) (k i : ℕ) : Type 0 where
+-- of n intervals the first i are passed; the blocks of those that cover p are the first k in the room
+pub record Listing (w : List ℕ) (n p : ℕ) (start room : List ℕ) (k i : ℕ) : Type 0 where
   pub within : i ≤ n
-  pub few : k ≤ i
-  pub room : n ≤ max_entries
-  pub size : length out ≡ length start
-  pub listed : max_entries ≤ length start → Listed out k (blocks_at p (spans_to w i))
+  pub most : k ≤ i
+  pub few : n ≤ max_entries
+  pub same : length room ≡ length start
+  pub list : max_entries ≤ length start → take k room ≡ blocks_at p (spans_to w i)
 
-pub listing_start : (w : List ℕ) (n p : ℕ) (out : List ℕ) → n ≤ max_entries → Listing w n p out out 0 0
+pub listing_start : (w : List ℕ) (n p : ℕ) (room : List ℕ) → n ≤ max_entries → Listing w n p room room 0 0
 unfolding spans_to blocks_at
-listing_start w n p out h = record {
-  within = omega arith;
-  few = omega arith;
-  room = h;
-  size = refl;
-  listed = λ l. record { items = refl; count = refl };
-}
+listing_start w n p room few = record { within = omega arith; most = omega arith; few = few; same = refl; list = λ wide. refl }
 
-module _ (w : List ℕ) (n p : ℕ) (start out : List ℕ) (k i : ℕ) (c : Listing w n p start out k i) where
+module _ (w : List ℕ) (n p : ℕ) (start room : List ℕ) (k i : ℕ) (c : Listing w n p start room k i) where
   -- what the code tests is whether interval i covers p
   tested : (t : Bool) (a b : ℕ) → a ≡ cell w (first_at + i) → b ≡ cell w (behind_at + i) → (leb a p && ltb p b) ≡ t
       → covered (span_at w i) p ≡ t
   tested t a b ea eb e = rw (← ea, ← eb) e
 
   pub listing-yes : (a b x : ℕ) (v : List ℕ) → i < n → a ≡ cell w (first_at + i) → b ≡ cell w (behind_at + i) → x ≡ cell w (block_at + i)
-      → v ≡ set out k x → (leb a p && ltb p b) ≡ true → Listing w n p start v (k + 1) (i + 1)
-  listing-yes a b x v h ea eb ex ev t =
-      let is = blocks_more w p i true (tested true a b ea eb t) in
-      record {
-        within = omega arith;
-        few = omega (arith, c.few);
-        room = c.room;
-        size = ap length ev ∙ length-set out k x ∙ c.size;
-        listed = λ l. rw (ev, is, ← ex) (push x (omega (arith, c.few, c.room, c.size)) (c.listed l));
-      }
+      → v ≡ set room k x → (leb a p && ltb p b) ≡ true → Listing w n p start v (k + 1) (i + 1)
+  listing-yes a b x v h ea eb ex ev t = record {
+    within = omega arith;
+    most = omega (arith, c.most);
+    few = c.few;
+    same = ap length ev ∙ length-set room k x ∙ c.same;
+    list =
+        λ wide. rw (ev, blocks_more w p i true (tested true a b ea eb t), ← ex)
+        (push room k x (omega (arith, c.most, c.few, c.same)) (c.list wide));
+  }
 
   pub listing-no : (a b : ℕ) → i < n → a ≡ cell w (first_at + i) → b ≡ cell w (behind_at + i) → (leb a p && ltb p b) ≡ false
-      → Listing w n p start out k (i + 1)
-  listing-no a b h ea eb t =
-      let is = blocks_more w p i false (tested false a b ea eb t) ∙ append-nil (blocks_at p (spans_to w i)) in
-      record {
-        within = omega arith;
-        few = omega (arith, c.few);
-        room = c.room;
-        size = c.size;
-        listed = λ l. rw is (c.listed l);
-      }
+      → Listing w n p start room k (i + 1)
+  listing-no a b h ea eb t = record {
+    within = omega arith;
+    most = omega (arith, c.most);
+    few = c.few;
+    same = c.same;
+    list =
+        λ wide. c.list wide
+        ∙ sym (blocks_more w p i false (tested false a b ea eb t) ∙ append-nil (blocks_at p (spans_to w i)));
+  }
 
-  pub listing-end : n ≤ i → (m : ℕ) → m ≡ cell w spans_at → n ≡ min m max_entries
-      → (k ≤ max_entries) × (cell w spans_at ≤ max_entries → max_entries ≤ length start → Listed out k (piece_in w p))
-  listing-end h m em en = (
-    omega (arith, c.few, c.within, c.room),
-    λ s l. let e : i ≡ cell w spans_at = omega (arith, c.within) in rw e at (c.listed l),
-  )
+  pub listing-end : n ≤ i → (m : ℕ) → m ≡ cell w spans_at → n ≡ min m max_entries → (x : ℕ) → x ≡ min k (length room) → cell w spans_at ≤ max_entries
+      → max_entries ≤ length start → take x room ≡ piece_in w p
+  listing-end h m em en x x-is few wide =
+      let e : i ≡ cell w spans_at = omega (arith, c.within) in
+      let same : x ≡ k = omega (arith, c.most, c.within, c.few, c.same) in
+      rw (same, ← e) (c.list wide)

@@ -1,5 +1,5 @@
 -- Laws of the blocks that are wanted and of the loop over the list of a chain: what is passed and what is left make the chain, cut off.
-use Prim.Native.Nat.{ℕ, zero, suc, ◌+◌, ◌≤◌, ◌<◌}
+use Prim.Native.Nat.{ℕ, suc, ◌+◌, ◌≤◌, ◌<◌}
 use mathlib.Core.Path.{◌≡◌, refl, sym, ap, ap₂, ◌∙◌}
 use mathlib.Core.Bool.{Bool, true, false, ◌||◌, or_assoc, or-false, or-true}
 use mathlib.Core.List.{List, [], ◌∷◌}
@@ -21,37 +21,19 @@ use Rattle.expr_count.proofs.CodeLaws.{capped-more}
 use Rattle.expr_count.specs.Count.{Rec}
 use Rattle.switch_count.specs.Arms.{tries_tally, end_of, has_try, wants, end_tally, arm_tally}
 use Rattle.switch_tables.specs.Columns.{size, guard_at, guard_len_at, guard_emitted_at, wanted_at, case_place_at, cell, Within}
+use Rattle.switch_tables.specs.declared.kinds.Exit.{Exit}
+use Rattle.switch_tables.specs.declared.kinds.Exit.TheVariants.{Chain, Fallback, Body}
+use Rattle.switch_tables.specs.declared.kinds.Guard as Word
+use Rattle.switch_tables.specs.declared.kinds.Guard.TheVariants.{Never, Always, Tried}
+use Rattle.switch_tables.specs.Kinds.{said_guard, exit_word}
 use Rattle.switch_tables.specs.Spans.{one_if}
-use Rattle.switch_tables.specs.Table.{Known, tried_kind, known_by, known_of, known_in}
+use Rattle.switch_tables.specs.Table.{Known, known_by, known_of, known_in}
 use Rattle.switch_tables.specs.Planned.{exit_by, want_in}
 use Rattle.switch_tables.proofs.ColumnLaws.{within_none, within-then, within-put}
+use Rattle.switch_tables.proofs.KindLaws.{rule_by, defeats, tried-said, rule-said}
 use Rattle.switch_places.specs.GuardChain.{either, Reads, ChainOf}
 use Rattle.switch_places.proofs.GuardLaws.{one_more, Small, cut_small}
 use Rattle.switch_places.proofs.KeptLaws.{guards-stay}
-
--- ---- what the table says of a guard
-
-unfoldable kind_by : ℕ → Guard
-kind_by zero = never
-kind_by (suc zero) = always
-kind_by (suc (suc n)) = tried
-
-tried-told : (d : Bool) → (kind_by (tried_kind d) ≡ tried) × (eqb (tried_kind d) 3 ≡ d)
-unfolding kind_by tried_kind
-tried-told true = (refl, refl)
-tried-told false = (refl, refl)
-
-kind-told : (g : Guard) (a : Tally) → kind_by (known_by g a).kind ≡ g
-unfolding kind_by known_by
-kind-told never a = refl
-kind-told always a = refl
-kind-told tried a = (tried-told a.defeated).0
-
-kind-many : (x : ℕ) → (x ≡ 0 → ⊥) → (x ≡ 1 → ⊥) → kind_by x ≡ tried
-unfolding kind_by
-kind-many zero p q = absurd (p refl)
-kind-many (suc zero) p q = absurd (q refl)
-kind-many (suc (suc n)) p q = refl
 
 -- ---- a block that is wanted
 
@@ -111,10 +93,15 @@ chaining-start s t l w sum e =
       wanted = λ j h. refl;
     })
 
-exit-told : (b : Bool) (k : ℕ) → (exit_by b declined ≡ either b 0 2) × (exit_by b (taken k) ≡ either b 1 (k + 3))
+falls-told : (b : Bool) → exit_word (either b (Chain true) Fallback) ≡ exit_by b declined
 unfolding exit_by either
-exit-told true k = (refl, refl)
-exit-told false k = (refl, refl)
+falls-told true = refl
+falls-told false = refl
+
+body-told : (b : Bool) (k : ℕ) → k < max_entries → exit_word (either b (Chain false) (Body k)) ≡ exit_by b (taken k)
+unfolding exit_by either
+body-told true k h = refl
+body-told false k h = omega arith
 
 -- at place i of the list that is read
 module _ (s : List ℕ) (t : Rec) (l w₀ a : List ℕ) (R : Reads s t w₀ a l) (w : List ℕ) (sum : Tally) (b : Bool) (i : ℕ)
@@ -129,20 +116,20 @@ module _ (s : List ℕ) (t : Rec) (l w₀ a : List ℕ) (R : Reads s t w₀ a l)
   sum-end : (r x : Tally) → Ends r → b ≡ has_try s l → capped (plus sum (plus nothing end)) ≡ x → r ≡ x
   sum-end r x p q m = p c.small.0 c.small.1 ∙ ap (λ (y : Tally). capped (plus sum y)) (ap end_tally q ∙ sym (nothing-plus end)) ∙ m
 
-  pub chain-end : (r : Tally) (x : ℕ) → length a ≤ i → Ends r → x ≡ either b 0 2 → ChainOf s t l w₀ w r x
+  pub chain-end : (r : Tally) (e : Exit) → length a ≤ i → Ends r → e ≡ either b (Chain true) Fallback → ChainOf s t l w₀ w r (exit_word e)
   unfolding tries_tally has_try end_of wants
-  chain-end r x h p q =
+  chain-end r e h p q =
       let none : drop i l ≡ [] = drop_of_length-le l {i = i} (omega (arith, h, ap length R.listed)) in
       let d : Chaining s t l w₀ w sum b [] = rw none at c in
       let b_is : b ≡ has_try s l = sym (or-false b) ∙ d.tried-is in
       record {
         sum_is = sum-end r _ p b_is d.sums;
-        exit_is = q ∙ sym (exit-told b 0).0 ∙ ap₂ exit_by b_is d.ends_as;
+        exit_is = ap exit_word q ∙ falls-told b ∙ ap₂ exit_by b_is d.ends_as;
         wanted = λ j m. sym (or-false (want_in w j)) ∙ d.wanted j m;
         within = c.within;
       }
 
-  module _ (k x : ℕ) (h : i < length a) (k-is : k ≡ get_or a i 0) (at : x ≡ cell w (guard_at + k)) where
+  module _ (k : ℕ) (x : Word.Guard) (h : i < length a) (k-is : k ≡ get_or a i 0) (at : x ≡ said_guard (cell w (guard_at + k))) where
     abbrev ks : List ℕ
     ks = drop (i + 1) l
 
@@ -165,14 +152,16 @@ module _ (s : List ℕ) (t : Rec) (l w₀ a : List ℕ) (R : Reads s t w₀ a l)
     unfolding known_of
     row u m = (guards-stay w₀ u wanted_at m.low s (block_count s) (omega arith) R.few R.guards).known k below
 
-    kind_is : guard_kind s (guard_of s k) ≡ kind_by x
-    kind_is =
-        sym (kind-told (guard_kind s (guard_of s k)) (capped adds)) ∙ ap kind_by (sym (at ∙ ap (λ (y : Known). y.kind) (row w c.within)))
+    said : x ≡ said_guard (known_by (guard_kind s (guard_of s k)) (capped adds)).kind
+    said = at ∙ ap (λ (y : Known). said_guard y.kind) (row w c.within)
 
-    pub chain-never : x ≡ 0 → Chaining s t l w₀ w sum b ks
-    unfolding kind_by tries_tally has_try end_of wants
+    kind_is : guard_kind s (guard_of s k) ≡ rule_by x
+    kind_is = sym (rule-said (guard_kind s (guard_of s k)) (capped adds)) ∙ ap rule_by (sym said)
+
+    pub chain-never : x ≡ Never → Chaining s t l w₀ w sum b ks
+    unfolding tries_tally has_try end_of wants
     chain-never q =
-        let g : guard_kind s (guard_of s k) ≡ never = kind_is ∙ ap kind_by q in
+        let g : guard_kind s (guard_of s k) ≡ never = kind_is ∙ ap rule_by q in
         record {
           within = d.within;
           small = d.small;
@@ -182,41 +171,40 @@ module _ (s : List ℕ) (t : Rec) (l w₀ a : List ℕ) (R : Reads s t w₀ a l)
           wanted = λ j m. rw (g, wants) at (d.wanted j m);
         }
 
-    module _ (same : length w ≡ length w₀) (v : List ℕ) (e : v ≡ set w (wanted_at + k) 1) where
+    module _ (whole : length w ≡ size) (v : List ℕ) (e : v ≡ set w (wanted_at + k) 1) where
       marked : (j : ℕ) → want_in v j ≡ (want_in w j || eqb j k)
-      marked = rw e (want-set w k (same ∙ R.whole) (omega (arith, below, R.few)))
+      marked = rw e (want-set w k whole (omega (arith, below, R.few)))
 
       moved : Within wanted_at case_place_at w₀ v
       moved =
           let few : k < max_entries = omega (arith, below, R.few) in
           rw e (within-then c.within (within-put wanted_at case_place_at w (wanted_at + k) 1 (omega arith) (omega (arith, few))))
 
-      pub chain-always : (r : Tally) (y z : ℕ) → x ≡ 1 → Ends r → y ≡ either b 1 z → (k < max_entries → z ≡ k + 3) → ChainOf s t l w₀ v r y
-      unfolding kind_by tries_tally has_try end_of wants
-      chain-always r y z q p o f =
-          let g : guard_kind s (guard_of s k) ≡ always = kind_is ∙ ap kind_by q in
+      pub chain-always : (r : Tally) (y : Exit) → x ≡ Always → Ends r → y ≡ either b (Chain false) (Body k) → ChainOf s t l w₀ v r (exit_word y)
+      unfolding tries_tally has_try end_of wants
+      chain-always r y q p o =
+          let g : guard_kind s (guard_of s k) ≡ always = kind_is ∙ ap rule_by q in
           let b_is : b ≡ has_try s l = sym (or-false b) ∙ (rw (g, has_try) at d.tried-is) in
           record {
             sum_is = sum-end r _ p b_is (rw (g, tries_tally) at d.sums);
             exit_is =
-                o ∙ ap (either b 1) (f (omega (arith, below, R.few))) ∙ sym (exit-told b k).1
-                ∙ ap₂ exit_by b_is (rw (g, end_of) at d.ends_as);
+                ap exit_word o ∙ body-told b k (omega (arith, below, R.few)) ∙ ap₂ exit_by b_is (rw (g, end_of) at d.ends_as);
             wanted = λ j m. marked j ∙ (rw (g, wants) at (d.wanted j m));
             within = moved;
           }
 
-      pub chain-tried : (r u : Tally) → (x ≡ 0 → ⊥) → (x ≡ 1 → ⊥)
-          → u ≡ counted (cell v (guard_len_at + k)) (cell v (guard_emitted_at + k)) (eqb x 3) → r ≡ capped (plus sum u)
+      pub chain-tried : (r u : Tally) (f : Bool) → x ≡ Tried f
+          → u ≡ counted (cell v (guard_len_at + k)) (cell v (guard_emitted_at + k)) f → r ≡ capped (plus sum u)
           → Chaining s t l w₀ v r true ks
       unfolding known_by tries_tally has_try end_of wants
-      chain-tried r u p q u-is r-is =
-          let g : guard_kind s (guard_of s k) ≡ tried = kind_is ∙ kind-many x p q in
+      chain-tried r u f q u-is r-is =
+          let g : guard_kind s (guard_of s k) ≡ tried = kind_is ∙ ap rule_by q in
           let told : (y : List ℕ) → Within wanted_at case_place_at w₀ y → known_in y k ≡ known_by tried (capped adds) =
           λ y m. row y m ∙ ap (λ (o : Guard). known_by o (capped adds)) g in
           let adds-is : u ≡ capped adds =
           u-is
           ∙ tally-path (ap (λ (y : Known). y.len) (told v moved)) (ap (λ (y : Known). y.emitted) (told v moved))
-          (ap (λ (y : ℕ). eqb y 3) (at ∙ ap (λ (y : Known). y.kind) (told w c.within)) ∙ (tried-told (capped adds).defeated).1) in
+          (ap defeats (sym q ∙ at ∙ ap (λ (y : Known). said_guard y.kind) (told w c.within) ∙ tried-said (capped adds).defeated)) in
           record {
             within = moved;
             small = cut_small (plus sum u) r-is;

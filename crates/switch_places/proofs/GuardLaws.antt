@@ -1,6 +1,7 @@
 -- Laws of the guards in the table: what one is, what is written of it, and the loop over all.
 use Prim.Native.Nat.{ℕ, ◌+◌, ◌*◌, ◌≤◌, ◌<◌}
-use mathlib.Core.Path.{◌≡◌, ap, ap₂, subst, ◌∙◌}
+use mathlib.Core.Path.{◌≡◌, refl, ap, ap₂, subst, ◌∙◌}
+use mathlib.Core.Bool.{Bool, true, false}
 use mathlib.Core.List.{List}
 use native.Mathlib.Decide.{dec_lt}
 use native.Mathlib.Omega.{arith}
@@ -20,6 +21,8 @@ use Rattle.expr_count.specs.Tally.{instructions, plus, capped}
 use Rattle.expr_count.proofs.TallyLaws.{capped_left}
 use Rattle.expr_count.specs.Count.{Rec}
 use Rattle.switch_tables.specs.Columns.{size, guard_at, guard_len_at, guard_emitted_at, guard_node_at, case_heads_at, cell, Within}
+use Rattle.switch_tables.specs.declared.kinds.Guard.TheVariants.{Tried}
+use Rattle.switch_tables.specs.Kinds.{guard_word}
 use Rattle.switch_tables.specs.Table.{Known, tried_kind, known_by, known_of, known_in, GuardsBy}
 use Rattle.switch_tables.proofs.ColumnLaws.{within_none, within-then}
 use Rattle.switch_tables.proofs.NodesLaws.{body-at, guard-next}
@@ -46,6 +49,11 @@ cut_small b e = (omega (arith, ap (λ (x : Tally). x.len) e), omega (arith, ap (
 
 -- ---- what a guard is
 
+tried-word : (d : Bool) → guard_word (Tried d) ≡ tried_kind d
+unfolding tried_kind
+tried-word true = refl
+tried-word false = refl
+
 module _ (s : List ℕ) (tal : Rec) (j : ℕ) where
   pub known-never : field_a s j ≡ 0 → kind s j ≡ bool_kind → record { kind = 0; len = 0; emitted = 0 } ≡ known_of s tal j
   unfolding known_of known_by guard_kind
@@ -56,15 +64,15 @@ module _ (s : List ℕ) (tal : Rec) (j : ℕ) where
   known-always z e = rw (eq-eqb (kind s j) bool_kind e, ne_eqb (field_a s j) 0 z, known_of, guard_kind)
 
   -- by the sums that the code makes
-  pub known-tried : (t a b : Tally) (x l m : ℕ) → (kind s j ≡ bool_kind → ⊥) → t ≡ capped (plus a b) → a ≡ capped (tal j)
-      → b ≡ instructions 1 → x ≡ tried_kind t.defeated → (t.len ≤ cap → l ≡ t.len) → (t.emitted ≤ cap → m ≡ t.emitted)
-      → record { kind = x; len = l; emitted = m } ≡ known_of s tal j
+  pub known-tried : (t a b : Tally) (l m : ℕ) → (kind s j ≡ bool_kind → ⊥) → t ≡ capped (plus a b) → a ≡ capped (tal j)
+      → b ≡ instructions 1 → (t.len ≤ cap → l ≡ t.len) → (t.emitted ≤ cap → m ≡ t.emitted)
+      → record { kind = guard_word (Tried t.defeated); len = l; emitted = m } ≡ known_of s tal j
   unfolding known_of known_by guard_kind
-  known-tried t a b x l m ne p q r kx kl km =
+  known-tried t a b l m ne p q r kl km =
       let is : t ≡ capped (plus (tal j) (instructions 1)) =
       p ∙ ap₂ (λ (y z : Tally). capped (plus y z)) q r ∙ capped_left (tal j) (instructions 1) in
       rw (ne_eqb (kind s j) bool_kind ne, known_of, guard_kind)
-      (known-path kx (kl (cut_small (plus a b) p).0) (km (cut_small (plus a b) p).1) ∙ ap (known_by tried) is)
+      (known-path (tried-word t.defeated) (kl (cut_small (plus a b) p).0) (km (cut_small (plus a b) p).1) ∙ ap (known_by tried) is)
 
 -- ---- what is written of one
 

@@ -16,6 +16,9 @@ use Rattle.expr_count.specs.Tally.{instructions, nothing, plus, taken_back}
 use Rattle.expr_count.specs.Count.{Rec}
 use Rattle.switch_count.specs.Arms.{tries_tally, end_of, has_try, end_tally, arm_tally, arms_tally, idle_tally, last_tally, falls_tally}
 use Rattle.switch_tables.specs.Columns.{cell, case_heads_at, case_exit_at}
+use Rattle.switch_tables.specs.declared.kinds.Exit.{Exit}
+use Rattle.switch_tables.specs.declared.kinds.Exit.TheVariants.{Chain, Fallback, Body}
+use Rattle.switch_tables.specs.Kinds.{said_exit}
 use Rattle.switch_tables.specs.Spans.{one_if}
 use Rattle.switch_tables.specs.Planned.{exit_by}
 use Rattle.switch_places.specs.Idle.{idle_by, idles_from, Exits}
@@ -81,21 +84,21 @@ module _ (s : List ℕ) (t : Rec) where
 
 -- ---- the loop
 
-chain-idle : (b : Bool) (x : End) (before : Bool) (e : ℕ) → e ≡ exit_by b x → e < 2 → eqb e 0 ≡ idle_by b x before
-unfolding exit_by idle_by
-chain-idle true (taken k) before e q l = ap (λ v. eqb v 0) q
-chain-idle true declined before e q l = ap (λ v. eqb v 0) q
-chain-idle true idle before e q l = ap (λ v. eqb v 0) q
-chain-idle false (taken k) before e q l = absurd (omega arith)
-chain-idle false declined before e q l = absurd (omega arith)
-chain-idle false idle before e q l = absurd (omega arith)
+-- what a list leaves, by its exit
+abbrev pub idle_said : Exit → Bool → Bool
+idle_said (Chain falls) before = falls
+idle_said Fallback before = before
+idle_said (Body k) before = before
 
-none-idle : (b : Bool) (x : End) (before : Bool) (e : ℕ) → e ≡ exit_by b x → 2 ≤ e → before ≡ idle_by b x before
+exit-idle : (b : Bool) (x : End) (before : Bool) → idle_said (said_exit (exit_by b x)) before ≡ idle_by b x before
 unfolding exit_by idle_by
-none-idle true (taken k) before e q l = absurd (omega arith)
-none-idle true declined before e q l = absurd (omega arith)
-none-idle true idle before e q l = absurd (omega arith)
-none-idle false x before e q l = refl
+exit-idle true (taken k) before = refl
+exit-idle true declined before = refl
+exit-idle true idle before = refl
+exit-idle false (taken k) before =
+    let three : k + 3 ≡ suc (suc (suc k)) = omega arith in ap (λ (v : ℕ). idle_said (said_exit v) before) three
+exit-idle false declined before = refl
+exit-idle false idle before = refl
 
 -- q lists are passed
 abbrev pub Idling : List ℕ → Bool → ℕ → Type 0
@@ -113,11 +116,16 @@ module _ (w : List ℕ) (n y : ℕ) (m : n ≡ min y max_entries) (y-is : y ≡ 
         ∙ ap (idles_from s b) (sym (drop-cons ls q [] (omega (arith, e.count))))
         ∙ i s ls e
 
-    pub idling-chain : (e : ℕ) → e ≡ cell w (case_exit_at + q) → e < 2 → Idling w (eqb e 0) (q + 1)
-    idling-chain e h k = idling-on (eqb e 0) (λ s ls x. chain-idle _ _ b e (h ∙ x.exit q (omega (arith, x.count))) k)
+    pub idling-said : (e : Exit) → e ≡ said_exit (cell w (case_exit_at + q)) → Idling w (idle_said e b) (q + 1)
+    idling-said e h =
+        idling-on (idle_said e b)
+        (λ s ls x. ap (λ (y : Exit). idle_said y b) (h ∙ ap said_exit (x.exit q (omega (arith, x.count)))) ∙ exit-idle _ _ b)
 
-    pub idling-none : (e : ℕ) → e ≡ cell w (case_exit_at + q) → 2 ≤ e → Idling w b (q + 1)
-    idling-none e h k = idling-on b (λ s ls x. none-idle _ _ b e (h ∙ x.exit q (omega (arith, x.count))) k)
+    -- no chain
+    pub idling-same : (e : Exit) → e ≡ said_exit (cell w (case_exit_at + q)) → ((x : Bool) → e ≡ Chain x → ⊥) → Idling w b (q + 1)
+    idling-same (Chain x) h n = absurd (n x refl)
+    idling-same Fallback h n = idling-said Fallback h
+    idling-same (Body k) h n = idling-said (Body k) h
 
   pub idling-end : n ≤ q → (s : List ℕ) (ls : List (List ℕ)) → Exits s w ls → b ≡ idles_from s false ls
   unfolding idles_from

@@ -3,7 +3,7 @@
 use Prim.Native.Nat.{ℕ, zero, suc, ◌+◌, ◌-◌, ◌≤◌, ◌<◌, min}
 use mathlib.Core.Path.{◌≡◌, refl, sym, ap, ◌∙◌}
 use mathlib.Core.Bool.{Bool, ◌||◌, or_assoc, or-false}
-use mathlib.Core.List.{List, [], ◌∷◌, map}
+use mathlib.Core.List.{List, [], ◌∷◌}
 use native.Mathlib.Decide.{dec_lt}
 use native.Mathlib.Omega.{arith}
 use native.Mathlib.Numerals.{add-one}
@@ -27,14 +27,19 @@ use Rattle.expr_count.proofs.TallyLaws.{plus_assoc, capped_left, capped-right}
 use Rattle.expr_count.specs.Count.{Rec}
 use Rattle.switch_count.specs.Arms.{wants, any_wants, arm_tally, arms_tally}
 use Rattle.switch_count.specs.Total.{case_lists, split_lists}
-use Rattle.switch_tables.specs.Columns.{size, case_heads_at, spans_at, low_at, band_place_at, band_exit_at, wanted_at, case_place_at, case_exit_at}
+use Rattle.switch_tables.specs.Columns.{size, case_heads_at, spans_at, band_place_at, band_exit_at, wanted_at, case_place_at, case_exit_at}
 use Rattle.switch_tables.specs.Columns.{body_at, cell}
-use Rattle.switch_tables.specs.Columns.{column, Within}
+use Rattle.switch_tables.specs.Columns.{Within}
 use Rattle.switch_tables.specs.Table.{piece_in}
 use Rattle.switch_tables.specs.Planned.{exit_of, chain_place, want_in, TablesBy, entries}
 use Rattle.switch_tables.proofs.ColumnLaws.{within_none, within-then, keys_length, key-at}
 use Rattle.switch_lists.proofs.SpanLaws.{piece-kept}
 use Rattle.switch_places.specs.Laid.{Laid}
+use Rattle.switch_places.specs.declared.chained.Heads.{Heads}
+use Rattle.switch_places.specs.Heads.{Area, Columns, area_of, HeadsIn, ListsStay}
+use Rattle.switch_tables.specs.Heads.{case_key}
+use Rattle.lowering.specs.All.{All}
+use Rattle.switch_tables.specs.Columns.{head_node_at, band_heads_at, band_head_at}
 use Rattle.switch_places.specs.GuardChain.{Reads, ChainOf, Cells, LaidOne}
 use Rattle.switch_places.proofs.GuardLaws.{one_more, Small, cut_small}
 use Rattle.switch_places.proofs.BodyLaws.{capped-none}
@@ -56,17 +61,17 @@ aside w v h i clear =
 
 pub laid_one : {t : Rec} {s l w a u w₁ w₂ : List ℕ} {place exit x p : ℕ} {b y r : Tally} → Reads s t w a l → Cells place exit
     → b.len ≤ cap
-    → ChainOf s t l w u y x → length u ≡ length w → w₁ ≡ set u place p → (b.len ≤ cap → p ≡ b.len) → w₂ ≡ set w₁ exit x
+    → ChainOf s t l w u y x → length u ≡ size → w₁ ≡ set u place p → (b.len ≤ cap → p ≡ b.len) → w₂ ≡ set w₁ exit x
     → r ≡ capped (plus b y) → LaidOne s t l place exit b w w₂ r
-laid_one {t} {s} {l} {w} {a} {u} {w₁} {w₂} {place} {exit} {x} {p} {b} R C small c same e p-is f q =
+laid_one {t} {s} {l} {w} {a} {u} {w₁} {w₂} {place} {exit} {x} {p} {b} R C small c whole e p-is f q =
     rw (f, e, q) (record {
       sum_is = ap (λ (z : Tally). capped (plus b z)) c.sum_is ∙ capped-right b (arm_tally s t l);
       place_is =
           get_or-set_other (set u place p) exit place x 0 C.apart
-          ∙ get_or-set_same u place p 0 (omega (arith, C.place_in, same, R.whole))
+          ∙ get_or-set_same u place p 0 (omega (arith, C.place_in, whole))
           ∙ p-is small;
       exit_is =
-          get_or-set_same (set u place p) exit x 0 (omega (arith, C.exit_in, length-set u place p, same, R.whole)) ∙ c.exit_is;
+          get_or-set_same (set u place p) exit x 0 (omega (arith, C.exit_in, length-set u place p, whole)) ∙ c.exit_is;
       wanted = λ k h.
           let few : k < max_entries = omega (arith, h, R.few) in
           ap (λ (z : ℕ). eqb z 1) (beside (wanted_at + k) (C.place_clear k few) (C.exit_clear k few)) ∙ c.wanted k h;
@@ -77,23 +82,6 @@ laid_one {t} {s} {l} {w} {a} {u} {w₁} {w₂} {place} {exit} {x} {p} {b} R C sm
     beside i g m = get_or-set_other (set u place p) exit i x 0 m ∙ get_or-set_other u place i p 0 g
 
 -- ---- the columns
-
--- where chains are laid: a column of places, one of exits, and the cells that change, from `lo` up to `hi`
-pub record Area : Type 0 where
-  pub at : ℕ
-  pub out : ℕ
-  pub lo : ℕ
-  pub hi : ℕ
-
--- of m cells each, within cells that have the wanted blocks or stand before them
-pub record Columns (A : Area) (m : ℕ) : Type 0 where
-  pub order : A.at + m ≤ A.out
-  pub inside : A.out + m ≤ size
-  pub from : A.lo ≤ A.at
-  pub to : A.out + m ≤ A.hi
-  pub wants-from : A.lo ≤ wanted_at
-  pub wants-to : case_place_at ≤ A.hi
-  pub clear : (k q : ℕ) → k < max_entries → q < m → (wanted_at + k ≡ A.at + q → ⊥) × (wanted_at + k ≡ A.out + q → ⊥)
 
 columns-cells : {A : Area} {m : ℕ} → Columns A m → (q : ℕ) → q < m → Cells (A.at + q) (A.out + q)
 columns-cells C q h = record {
@@ -189,85 +177,107 @@ module _ {s : List ℕ} {t : Rec} {ls : List (List ℕ)} {A : Area} {b : Tally} 
 
 -- ---- each list names blocks
 
-module _ (s : List ℕ) (ok : verdict_number (checked s) ≡ 0) (k : kind s 0 ≡ switch_kind) where
-  pub case-named : AllIn (λ (x : ℕ). x < block_count s) (case_lists s)
+named-by : (s : List ℕ) (ls : List (List ℕ)) → AllIn (λ (x : ℕ). x < block_count s) ls → (i : ℕ) → i < length ls
+    → All (λ (x : ℕ). x < block_count s) (get_or ls i [])
+named-by s ls all i l = lists-place (λ (x : ℕ). x < block_count s) ls all i l
+
+-- ---- the heads of the cases and of the bands
+
+abbrev of_cases : Heads
+of_cases = record { count = case_heads_at; most = max_entries; nodes = head_node_at; places = case_place_at; exits = case_exit_at }
+
+abbrev of_bands : Heads
+of_bands = record { count = band_heads_at; most = max_bands; nodes = band_head_at; places = band_place_at; exits = band_exit_at }
+
+module _ {s w : List ℕ} {t : Rec} (ok : verdict_number (checked s) ≡ 0) (k : kind s 0 ≡ switch_kind) (T : TablesBy s t w) where
+  pub case_heads : HeadsIn s w (case_key s) of_cases wanted_at body_at (case_lists s)
   unfolding case_lists
-  case-named = case-lists s (right s (accepted-sizes s ok) (accepted-shape s ok)) (accepted-numbers s ok) k
+  case_heads = record {
+    are = T.case_heads;
+    named = named-by s _ (case-lists s (right s (accepted-sizes s ok) (accepted-shape s ok)) (accepted-numbers s ok) k);
+    few = T.few_heads;
+    low = omega arith;
+    behind = omega arith;
+    columns = record {
+      order = omega arith;
+      inside = omega arith;
+      from = omega arith;
+      to = omega arith;
+      wants-from = omega arith;
+      wants-to = omega arith;
+      clear = λ k q h l. (λ e. omega arith, λ e. omega arith);
+    };
+  }
 
-  pub band-named : AllIn (λ (x : ℕ). x < block_count s) (split_lists (entries s))
+  pub band_heads : HeadsIn s w (piece_in w) of_bands band_place_at case_place_at (split_lists (entries s))
   unfolding split_lists
-  band-named = range-lists s (right s (accepted-sizes s ok) (accepted-shape s ok)) (accepted-numbers s ok) k
+  band_heads = record {
+    are = T.band_heads;
+    named = named-by s _ (range-lists s (right s (accepted-sizes s ok) (accepted-shape s ok)) (accepted-numbers s ok) k);
+    few = T.few_band_heads;
+    low = omega arith;
+    behind = omega arith;
+    columns = record {
+      order = omega arith;
+      inside = omega arith;
+      from = omega arith;
+      to = omega arith;
+      wants-from = omega arith;
+      wants-to = omega arith;
+      clear = λ k q h l. (λ e. omega arith, λ e. omega arith);
+    };
+  }
 
--- ---- the columns of cases and of bands
+  -- no list of a piece changes with cells behind the cuts
+  pub pieces-stay : ListsStay (λ v. cell v spans_at ≤ max_entries) piece_in w band_place_at case_place_at
+  pieces-stay = record {
+    known_still = λ v h. omega (arith, h.low spans_at (omega arith), T.few_spans);
+    same = λ v x h. piece-kept (omega arith) T.few_spans h x;
+  }
 
--- of cases
-abbrev pub case_area : Area
-case_area = record { at = case_place_at; out = case_exit_at; lo = wanted_at; hi = body_at }
-
-pub case-columns : Columns case_area max_entries
-case-columns = record {
-  order = omega arith;
-  inside = omega arith;
-  from = omega arith;
-  to = omega arith;
-  wants-from = omega arith;
-  wants-to = omega arith;
-  clear = λ k q h l. (λ e. omega arith, λ e. omega arith);
-}
-
--- of bands
-abbrev pub band_area : Area
-band_area = record { at = band_place_at; out = band_exit_at; lo = band_place_at; hi = case_place_at }
-
-pub band-columns : Columns band_area max_bands
-band-columns = record {
-  order = omega arith;
-  inside = omega arith;
-  from = omega arith;
-  to = omega arith;
-  wants-from = omega arith;
-  wants-to = omega arith;
-  clear = λ k q h l. (λ e. omega arith, λ e. omega arith);
-}
+-- lists of the sheet do not hang on the table
+pub cases-stay : (s w : List ℕ) → ListsStay (λ v. Prim.Unit {0}) (λ v. case_key s) w wanted_at body_at
+cases-stay s w = record { known_still = λ v h. tt; same = λ v x h. refl }
 
 -- ---- the chain of one head more
 
 -- of an accepted switch the chains of the lists below q are laid
-abbrev pub LaidTo : List ℕ → Rec → List (List ℕ) → Area → Tally → List ℕ → List ℕ → Tally → ℕ → Type 0
-LaidTo s t ls A b w₀ w sum q =
-    length w₀ ≡ size → verdict_number (checked s) ≡ 0 → kind s 0 ≡ switch_kind → TablesBy s t w₀ → b.len ≤ cap → b.emitted ≤ cap
-    → Laying s t ls A b w₀ w sum q
+abbrev pub LaidTo : List ℕ → Rec → List (List ℕ) → (List ℕ → Type 0) → (List ℕ → ℕ → List ℕ) → Heads → ℕ → ℕ → Tally → List ℕ → List ℕ
+    → Tally → ℕ → Type 0
+LaidTo s t ls known list_of h lo hi b w₀ w sum q =
+    TablesBy s t w₀ → b.len ≤ cap → b.emitted ≤ cap → HeadsIn s w₀ (list_of w₀) h lo hi ls → ListsStay known list_of w₀ lo hi
+    → Laying s t ls (area_of h lo hi) b w₀ w sum q
 
--- the heads are those by f of the numbers from `nodes` on, as many as cell `count` says
-pub head-on : {t : Rec} {s w₀ w a : List ℕ} {ls : List (List ℕ)} {A : Area} {many q x n y : ℕ} {v : List ℕ} {b sum r : Tally}
-    (f : ℕ → List ℕ) (nodes count : ℕ) → map f (column w₀ nodes (cell w₀ count)) ≡ ls → case_heads_at ≤ A.lo → nodes + many ≤ A.lo
-    → Columns A many
-    → AllIn (λ (i : ℕ). i < block_count s) ls → TablesBy s t w₀ → length w ≡ size → Laying s t ls A b w₀ w sum q → q < n
-    → n ≡ min y many → y ≡ cell w₀ count → x ≡ cell w (nodes + q) → a ≡ f x
-    → ((s' : List ℕ) (t' : Rec) (l : List ℕ) → Reads s' t' w a l → Cells (A.at + q) (A.out + q) → sum.len ≤ cap
-    → LaidOne s' t' l (A.at + q) (A.out + q) sum w v r)
-    → Laying s t ls A b w₀ v r (q + 1)
-head-on {t} {s} {w₀} {w} {a} {ls} {A} {many} {q} {x} f nodes count heads low behind C named T z c h n-is y-is x-is listed laid =
-    let below : q < cell w₀ count = omega (arith, h, n-is, y-is) in
-    let inside : q < length ls = omega (arith, below, ap length heads, keys_length f w₀ nodes (cell w₀ count)) in
-    let few : q < many = omega (arith, h, n-is) in
+pub head-on : {t : Rec} {s w₀ w a : List ℕ} {ls : List (List ℕ)} {key : ℕ → List ℕ} {h : Heads} {lo hi q x n y : ℕ} {v : List ℕ}
+    {b sum r : Tally}
+    → HeadsIn s w₀ key h lo hi ls → TablesBy s t w₀ → Laying s t ls (area_of h lo hi) b w₀ w sum q → q < n
+    → n ≡ min y h.most → y ≡ cell w₀ h.count → x ≡ cell w (h.nodes + q) → a ≡ key x
+    → ((s' : List ℕ) (t' : Rec) (l : List ℕ) → Reads s' t' w a l → Cells (h.places + q) (h.exits + q) → sum.len ≤ cap
+    → LaidOne s' t' l (h.places + q) (h.exits + q) sum w v r)
+    → Laying s t ls (area_of h lo hi) b w₀ v r (q + 1)
+head-on {t} {s} {w₀} {w} {a} {ls} {key} {h} {lo} {hi} {q} {x} H T c lt n-is y-is x-is listed laid =
+    let below : q < cell w₀ h.count = omega (arith, lt, n-is, y-is) in
+    let inside : q < length ls = omega (arith, below, ap length H.are, keys_length key w₀ h.nodes (cell w₀ h.count)) in
+    let few : q < h.most = omega (arith, lt, n-is) in
+    let behind = H.behind in
     let l = get_or ls q [] in
-    let list : f x ≡ l =
-    ap f (x-is ∙ c.within.low (nodes + q) (omega (arith, few, behind)))
-    ∙ sym (key-at f w₀ nodes [] (cell w₀ count) q below)
-    ∙ ap (λ (xs : List (List ℕ)). get_or xs q []) heads in
+    let list : key x ≡ l =
+    ap key (x-is ∙ c.within.low (h.nodes + q) (omega (arith, few, behind)))
+    ∙ sym (key-at key w₀ h.nodes [] (cell w₀ h.count) q below)
+    ∙ ap (λ (xs : List (List ℕ)). get_or xs q []) H.are in
     let R : Reads s t w a l =
     record {
-      whole = z;
       few = T.few_blocks;
-      guards = guards-stay w₀ w A.lo (λ i d. c.within.low i d) s (block_count s) low T.few_blocks T.guards;
+      guards = guards-stay w₀ w lo (λ i d. c.within.low i d) s (block_count s) H.low T.few_blocks T.guards;
       listed = listed ∙ list;
-      named = all-place (λ (i : ℕ). i < block_count s) l (lists-place (λ (i : ℕ). i < block_count s) ls named q inside);
+      named = all-place (λ (i : ℕ). i < block_count s) l (H.named q inside);
     } in
-    laying-on C c inside few (laid s t l R (columns-cells C q few) c.small.0)
+    laying-on H.columns c inside few (laid s t l R (columns-cells H.columns q few) c.small.0)
 
--- a piece as it was read
-pub piece-listed : {t : Rec} {s w₀ w a : List ℕ} {lo hi : ℕ} (x : ℕ) → TablesBy s t w₀ → Within lo hi w₀ w → low_at ≤ lo
-    → (cell w spans_at ≤ max_entries → a ≡ piece_in w x) → a ≡ piece_in w₀ x
-piece-listed x T c h listed =
-    rw (sym (piece-kept h T.few_spans c x)) (listed (omega (arith, c.low spans_at (omega arith), T.few_spans)))
+-- all are passed
+pub heads-end : {t : Rec} {s w₀ w : List ℕ} {ls : List (List ℕ)} {key : ℕ → List ℕ} {h : Heads} {lo hi q n y : ℕ} {b sum : Tally}
+    → HeadsIn s w₀ key h lo hi ls → Laying s t ls (area_of h lo hi) b w₀ w sum q → n ≤ q → n ≡ min y h.most → y ≡ cell w₀ h.count
+    → Laid s t ls h.places h.exits b w₀ w sum × Within lo hi w₀ w
+heads-end {w₀ = w₀} {key = key} {h} H c past n-is y-is =
+    let few = H.few in
+    laying-end c (omega (arith, past, n-is, y-is, few, ap length H.are, keys_length key w₀ h.nodes (cell w₀ h.count)))

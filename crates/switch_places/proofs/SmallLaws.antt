@@ -4,8 +4,6 @@ use mathlib.Core.Path.{◌≡◌, refl, sym, ◌∙◌, ap, ap₂}
 use mathlib.Core.Bool.{Bool, true, false, ◌&&◌, not, true≢false}
 use mathlib.Core.List.{List}
 use native.Mathlib.Omega.{arith}
-use Rattle.std.specs.Prelude.{Option, None, Some}
-use Rattle.std.specs.Option.{SomeIff}
 use lib.Dec.{eqb}
 use lib.ListN.{length, set, length-set}
 use lib.Seq.{get_or-set_same, get_or-set_other}
@@ -17,7 +15,7 @@ use Rattle.switch_tables.specs.Columns.{size, cell, bands_at, body_at, dispatch_
 use Rattle.switch_tables.specs.Spans.{one_if}
 use Rattle.switch_tables.proofs.ColumnLaws.{within-put, within-then}
 use Rattle.switch_places.specs.Idle.{idles_from, Exits, second_at, second_tally, Second}
-use Rattle.switch_places.specs.Finished.{if_none, coded, default_in, end_by, fall_by, Finished}
+use Rattle.switch_places.specs.Finished.{if_none, default_in, end_by, fall_by, Finished}
 
 pub none : (n a b : ℕ) → n ≡ 0 → a ≡ if_none n a b
 unfolding if_none
@@ -27,11 +25,6 @@ pub some : (n a b : ℕ) → (n ≡ 0 → ⊥) → b ≡ if_none n a b
 unfolding if_none
 some zero a b e = absurd (e refl)
 some (suc n) a b e = refl
-
--- the block of the default, as it is found from the sheet's number
-pub coded-of : (o : Option ℕ) (n : ℕ) → SomeIff o (1 ≤ n) (n - 1) → coded o ≡ n
-coded-of None n h = omega (arith, h)
-coded-of (Some k) n h = omega (arith, h.0, h.1)
 
 pub default-some : (w : List ℕ) (k after : ℕ) → cell w (body_at + k) ≡ default_in w (suc k) after
 unfolding if_none

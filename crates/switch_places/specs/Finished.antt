@@ -1,16 +1,11 @@
 -- The default, the end and the fallback, as they are found from the places of the bodies.
-use Rattle.std.specs.Prelude.{ℕ, zero, suc, ◌+◌, ◌-◌, ◌≡◌, List, Option, None, Some}
+use Rattle.std.specs.Prelude.{ℕ, zero, suc, ◌+◌, ◌-◌, ◌≡◌, List}
 use Rattle.switch_tables.specs.Columns.{cell, bands_at, body_at, dispatch_at, default_at, end_at, fallback_at}
 
 -- one of two: the first, where n is 0
 unfoldable pub if_none : {A : Type 0} → ℕ → A → A → A
 if_none zero a b = a
 if_none (suc n) a b = b
-
--- the number that the sheet has for the block of a default: it plus 1, and 0 where there is none
-abbrev pub coded : Option ℕ → ℕ
-coded None = 0
-coded (Some k) = suc k
 
 -- the default (plus 1): its body, or the Unit behind the bodies
 abbrev pub default_in : List ℕ → ℕ → ℕ → ℕ

@@ -10,14 +10,13 @@ use Rattle.switch_tables.specs.Columns.{size, wanted_at, case_place_at, cell, Wi
 use Rattle.switch_tables.specs.Table.{GuardsBy}
 use Rattle.switch_tables.specs.Planned.{exit_of, want_in}
 
--- of two numbers the first, if yes
-unfoldable pub either : Bool → ℕ → ℕ → ℕ
+-- of two the first, if yes
+unfoldable pub either : {A : Type 0} → Bool → A → A → A
 either true a b = a
 either false a b = b
 
 -- the table w has the guards of s, and a is the list l of its blocks
 pub record Reads (s : List ℕ) (t : Rec) (w a l : List ℕ) : Type 0 where
-  pub whole : length w ≡ size
   pub few : block_count s ≤ max_entries
   pub guards : GuardsBy s t w (block_count s)
   pub listed : a ≡ l

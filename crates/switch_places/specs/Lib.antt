@@ -5,3 +5,4 @@ pub mod Finished
 pub mod Known
 pub mod Body
 pub mod GuardChain
+pub mod Heads

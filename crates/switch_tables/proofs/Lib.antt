@@ -6,3 +6,4 @@ pub mod Whole
 pub mod PlaceLaws
 pub mod SpansLaws
 pub mod ColumnLaws
+pub mod KindLaws

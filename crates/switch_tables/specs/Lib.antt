@@ -1,5 +1,5 @@
 pub mod Columns
-pub mod Listed
+pub mod Kinds
 pub mod Place
 pub mod Spans
 pub mod Hash

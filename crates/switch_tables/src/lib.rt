@@ -1,6 +1,13 @@
-// The flat table of a switch: where each column stands. specs/Columns.antt has the same for the contracts, with what the columns mean.
+// The flat table of a switch, and where each of its columns stands. specs/Columns.antt has the same for the
+// contracts, with what the columns mean.
 #![tactic(auto)]
 
+ghost use Rattle.std.specs.Prelude.{◌≡◌, length, replicate, set};
+ghost use Rattle.switch_tables.specs.Columns.{size, cell};
+
+mod kinds;
+
+pub use kinds::{Exit, Guard};
 use lowering::MAX_BANDS;
 use sheet::limits::MAX_ENTRIES;
 
@@ -14,6 +21,9 @@ pub const MOST_BANDS: usize = MAX_BANDS as usize;
 // All cells.
 pub const SIZE: usize = CASE_CONST + ENTRIES;
 
+// Kept: columns are numbers into one array of words. What a pass may change is then one interval of cells (`Within lo hi`), which
+// carries every fact of the other columns at once, and cells of dead columns are used again (BAND_PLACE, BAND_EXIT); with a field
+// for each column a pass has a fact for each of the others.
 pub const GUARD: usize = 0;
 
 pub const GUARD_LEN: usize = GUARD + ENTRIES;
@@ -79,3 +89,35 @@ pub const END: usize = DEFAULT + 1;
 pub const FALLBACK: usize = END + 1;
 
 pub const CASE_CONST: usize = FALLBACK + 1;
+
+#[derive(Drop)]
+pub struct Table {
+    pub cells: [u32; SIZE],
+    pub ghost whole: { length cells ≡ size },
+}
+
+impl Table {
+    // Each cell is 0.
+    pub fn empty() -> Table
+        ensures { result.cells ≡ replicate size 0 }
+    {
+        Table { cells: [0; SIZE] }
+    }
+
+    // A cell, 0 past the end.
+    pub fn at(&self, i: usize) -> u32
+        ensures { result ≡ cell self.now.cells i }
+    {
+        self.cells.get(i).copied().unwrap_or(0)
+    }
+
+    // A cell is written, where there is one.
+    // Kept: as scratch::put: with get_mut it stays open what the slice ends as.
+    pub fn put(&mut self, i: usize, v: u32)
+        ensures { self.new.cells ≡ set self.old.cells i v }
+    {
+        if i < SIZE {
+            self.cells[i] = v;
+        }
+    }
+}

@@ -36,16 +36,16 @@ module _ (s : List ℕ) (l : Layout) (xs us ys zs : List ℕ) (c : State) (w v :
     (done : Ready s → Tables s w → Placed s w
     → Does s l us c ys r (switch_to s (lowered max_depth s) (targets_in w) (entries s) (default_block s) (want_in w)))
     (added : Ready s → Does s l ys r zs q (cases_to s (cases_of s)))
-    (told : (a : Made) → Ready s → length w ≡ size → Holds s l ys r a → ConstsAt s v a)
-    (within : length w ≡ size → Within case_const_at size w v) (p-is : p ≡ q) where
+    (told : (a : Made) → Ready s → Holds s l ys r a → ConstsAt s v a)
+    (within : Within case_const_at size w v) (p-is : p ≡ q) where
   D : Ready s
   D = ready s P.ready.accepted P.switch
 
   T : Tables s v
-  T = tables-kept P.tables (within P.sized) (omega arith)
+  T = tables-kept P.tables within (omega arith)
 
   places : Placed s v
-  places = placed-kept P.tables P.placed (within P.sized) (omega arith)
+  places = placed-kept P.tables P.placed within (omega arith)
 
   all : (cases_to s (cases_of s) (switched s w)).pools.emitted ≡ (total s).emitted
   all = ap (λ (a : Made). a.pools.emitted) (switch-made D P.placed) ∙ total-emitted s
@@ -68,6 +68,6 @@ module _ (s : List ℕ) (l : Layout) (xs us ys zs : List ℕ) (c : State) (w v :
     few_cases = T.few_cases;
     few_bands = T.few_bands;
     switches = switches-are D T places;
-    cases = case-section D T places (switched s w).pools (told (switched s w) D P.sized first).each (cases-made D P.placed);
+    cases = case-section D T places (switched s w).pools (told (switched s w) D first).each (cases-made D P.placed);
     ranges = range-section D T places;
   }

@@ -45,6 +45,13 @@ first_holds {s} {l} xs zs c R nodes c_is begins =
     let fit : Fit s l xs = record { space = omega arith; few = omega arith; nodes = nodes; small = omega arith } in
     fresh_holds s l xs zs c fit (omega arith) begins c_is
 
+-- the same words, read through the store
+pub begins-in : {s xs zs us : List ℕ} {l : Layout} → us ≡ zs → Begins s l xs zs → Begins s l xs us
+begins-in e b = rw e b
+
+pub holds-in : {s ys zs : List ℕ} {l : Layout} {st : State} {a : Made} → zs ≡ ys → Holds s l ys st a → Holds s l zs st a
+holds-in e h = rw e h
+
 -- the image of an expression
 module _ {s : List ℕ} (h : kind s 0 ≡ switch_kind → ⊥) (l : Layout) (xs zs ys img : List ℕ) (q r : State) (len : ℕ)
     (R : Ready s l.most (length xs)) (nodes : l.nodes ≡ node_count s)

@@ -1,5 +1,5 @@
 -- A Switch lowered with the places of the flat table: they are the targets that the definition takes, and what is made is its program.
-use Prim.Native.Nat.{ℕ, suc, ◌+◌, ◌<◌}
+use Prim.Native.Nat.{ℕ, suc, ◌<◌}
 use mathlib.Core.Path.{◌≡◌, refl, sym, ap, ap₂, ◌∙◌}
 use mathlib.Core.Bool.{◌||◌, or_assoc}
 use mathlib.Core.List.{List, [], ◌∷◌, ◌++◌}
@@ -27,7 +27,7 @@ use Rattle.switch_model.specs.Change as Change
 use Rattle.switch_model.proofs.SwitchLaws.{wanted_of, laid_out}
 use Rattle.switch_model.proofs.WholeLaws.{splits-are, switch_by, whole_by, rows-by}
 use Rattle.switch_model.proofs.WantLaws.{list_wants, lists_want, want_is}
-use Rattle.switch_tables.specs.Columns.{body_at, default_at, end_at, fallback_at, cell}
+use Rattle.switch_tables.specs.Columns.{default_at, end_at, fallback_at, cell}
 use Rattle.switch_tables.specs.Planned.{Placed, entries, want_in}
 use Rattle.switch_emit.specs.Ready.{Ready}
 use Rattle.switch_emit.specs.Parts.{place_in, targets_in}

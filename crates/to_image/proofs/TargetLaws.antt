@@ -1,5 +1,5 @@
 -- The targets that the flat table tells are those of the definition: of each case, and of each entry of the split.
-use Prim.Native.Nat.{ℕ, ◌+◌, ◌-◌, ◌<◌}
+use Prim.Native.Nat.{ℕ, ◌+◌, ◌-◌, ◌≤◌, ◌<◌}
 use mathlib.Core.Path.{◌≡◌, refl, sym, ap, ◌∙◌, subst}
 use mathlib.Core.Bool.{Bool, true, false}
 use mathlib.Core.List.{List, [], ◌∷◌}
@@ -14,11 +14,32 @@ use Rattle.switch_count.specs.Arms.{end_of, has_try}
 use Rattle.switch_count.specs.Place.{body_place, end_target, list_target}
 use Rattle.switch_model.proofs.SameLaws.{AllIn}
 use Rattle.switch_model.proofs.NodeLaws.{lists-place}
+use borrow.Author.Tests.{lt-ltb, le-ltb, eq-eqb, ne_eqb}
 use Rattle.switch_tables.specs.Columns.{body_at, cell}
 use Rattle.switch_tables.specs.Numbers.{number_in}
 use Rattle.switch_tables.specs.Planned.{Placed, Chained, entries, exit_by, exit_of, chain_place}
 use Rattle.write_rows.specs.TableRows.{target_in, target_at}
-use Rattle.write_rows.proofs.RowLaws.{target-chain, target_none, target-body, target_is}
+
+-- where a list goes, by its exit
+module _ (w : List ℕ) (exit place fallback : ℕ) where
+  target-chain : exit < 2 → place ≡ target_in w exit place fallback
+  unfolding target_in
+  target-chain h = rw (lt-ltb exit 2 h, target_in)
+
+  target_none : exit ≡ 2 → fallback ≡ target_in w exit place fallback
+  unfolding target_in
+  target_none e = rw (le-ltb exit 2 (omega arith), eq-eqb exit 2 e, target_in)
+
+  target-body : 2 ≤ exit → (exit ≡ 2 → ⊥) → cell w (body_at + exit - 3) ≡ target_in w exit place fallback
+  unfolding target_in
+  target-body h n = rw (le-ltb exit 2 h, ne_eqb exit 2 n, target_in)
+
+-- what is read, cell by cell
+target_is : (w : List ℕ) (number exits places fallback q e p f : ℕ) → q ≡ cell w number → e ≡ cell w (exits + q)
+    → p ≡ cell w (places + q) → f ≡ cell w fallback
+    → target_in w e p f ≡ target_at w number exits places fallback
+unfolding target_at
+target_is w number exits places fallback q e p f a b c d = rw (b, c, d, a)
 
 -- a list that ends with a block names it
 named_end : (s : List ℕ) (P : ℕ → Type 0) (k : ℕ) (m : List ℕ) → All P m → end_of s m ≡ taken k → P k

@@ -1,5 +1,5 @@
 -- A Switch on its way into the scratch: what is known before it is lowered by the flat table, and what the scratch and the table have then.
-use Rattle.std.specs.Prelude.{ℕ, ◌≤◌, ◌≡◌, List, length}
+use Rattle.std.specs.Prelude.{ℕ, ◌≤◌, ◌≡◌, List}
 use Rattle.sheet.specs.Limits.{max_entries}
 use Rattle.sheet.specs.Sections.{node_count}
 use Rattle.sheet.specs.Node.{kind}
@@ -13,7 +13,7 @@ use Rattle.expr_model.specs.Made.{made}
 use Rattle.scratch.specs.declared.Layout.{Layout}
 use Rattle.scratch_store.specs.declared.State.{State}
 use Rattle.scratch_store.specs.Holds.{Holds}
-use Rattle.switch_tables.specs.Columns.{size, bands_at, default_at, fallback_at, cell}
+use Rattle.switch_tables.specs.Columns.{bands_at, default_at, fallback_at, cell}
 use Rattle.switch_tables.specs.Planned.{Tables, Placed}
 use Rattle.write_rows.specs.TableRows.{rows_to, tables_of, case_words_in, range_words_in}
 use Rattle.to_image.specs.Making.{Ready}
@@ -23,7 +23,6 @@ pub record Planned (s : List ℕ) (l : Layout) (m : ℕ) (w : List ℕ) : Type 0
   pub ready : Ready s l.most m
   pub switch : kind s 0 ≡ switch_kind
   pub nodes : l.nodes ≡ node_count s
-  pub sized : length w ≡ size
   pub tables : Tables s w
   pub placed : Placed s w
 

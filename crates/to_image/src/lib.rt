@@ -19,32 +19,47 @@ use needs::{plain_counts, refusal, settle, switch_counts};
 use refusals::Refusal;
 use scratch::Layout;
 use scratch_locals::begin;
-use scratch_store::State;
+use scratch_store::Store;
 use sheet::kinds::SWITCH;
 use sheet::limits::MAX_DEPTH;
 use sheet::{kind, node_count};
-use switch_tables::SIZE;
-use write_front::{image_len, write_front};
+use switch_tables::Table;
+use write_front::{Source, Tables, image_len};
 use zeros::zero;
 
 // The image of an expression: its word count; its words are written where they fit.
+// Kept: sheet, image and scratch stand apart. Tried as a struct of the three with methods: of a field that was lent to a Store nothing is
+// known when the Store ends, not even its length, and of a parameter that is known.
 fn build_plain(sheet: &[u8], image: &mut [u32], scratch: &mut [u32], most: u32) -> usize
     ensures { let sheet = sheet.now in
         (Ready sheet most (length scratch.old) → (nodes.kind sheet 0 ≡ switch_kind → ⊥)
         → Built sheet image.old result image.new) }
 {
-    let l = Layout {
+    let layout = Layout {
         most,
         nodes: node_count(sheet),
     };
-    let mut st = State::start(l);
-    begin(sheet, scratch, l);
-    expression(MAX_DEPTH, sheet, &mut st, scratch, 0);
-    let n = image_len(st, 0);
+    begin(sheet, scratch, layout);
+    let mut store = Store::start(scratch, layout);
+    expression(MAX_DEPTH, sheet, &mut store, 0);
+    let n = image_len(store.state, 0);
     if image.len() < n {
         return n;
     }
-    write_front(sheet, &scratch[..], st, image, 0, 0, 0);
+    let state = store.state;
+    let front = Source {
+        sheet,
+        scratch: store.words(),
+        state,
+    };
+    front.write(
+        image,
+        Tables {
+            switches: 0,
+            cases: 0,
+            ranges: 0,
+        },
+    );
     n
 }
 
@@ -71,17 +86,17 @@ fn lower_plain(sheet: &[u8], image: &mut [u32], scratch: &mut [u32]) -> Result<u
     ended(scratch, image.len(), words)
 }
 
-// An accepted Switch: read it into the flat table, count, refuse, emit, write.
+// An accepted Switch: read it into its table, count, refuse, emit, write.
 fn lower_switch(sheet: &[u8], image: &mut [u32], scratch: &mut [u32]) -> Result<usize, Refusal>
     ensures { let s = sheet.now in (Checked.verdict_number (Checked.checked s) ≡ 0 → nodes.kind s 0 ≡ switch_kind
         → Answers s image.old scratch.old result image.new scratch.new) }
 {
-    let mut w = [0u32; SIZE];
-    let t = switch_counts(sheet, scratch.len(), &mut w);
+    let mut table = Table::empty();
+    let t = switch_counts(sheet, scratch.len(), &mut table);
     refusal(t, scratch.len(), node_count(sheet))?;
-    settle(sheet, &mut w);
-    let n = build_switch(sheet, image, scratch, t.emitted as u32, &mut w[..]);
-    ended(scratch, image.len(), n)
+    settle(sheet, &mut table);
+    let words = build_switch(sheet, image, scratch, t.emitted as u32, &mut table);
+    ended(scratch, image.len(), words)
 }
 
 // An accepted sheet, by the kind of node 0.

@@ -6,22 +6,21 @@ ghost use Rattle.lowering.specs.Limits.{switch_width, case_width, range_width, m
 ghost use Rattle.lowering.specs.Kinds.{switch_kind};
 ghost use Rattle.lowering.specs.Image.{words};
 ghost use Rattle.lowering.specs.Outcome as outcomes;
-ghost use Rattle.switch_tables.specs.Columns as columns;
 ghost use Rattle.scratch.specs.declared.Layout.{Layout};
-ghost use Rattle.switch_tables.specs.Planned.{Tables, Placed};
+ghost use Rattle.switch_tables.specs.Planned as read;
 ghost use Rattle.write_rows.specs.TableRows.{table_count};
 ghost use Rattle.to_image.specs.Making.{Ready, Built};
 ghost use Rattle.to_image.specs.Switched.{Planned, Settled};
 
 use lowering::{CASE_WIDTH, MAX_BANDS, RANGE_WIDTH, SWITCH_WIDTH};
-use scratch::{Layout, get};
+use scratch::Layout;
 use scratch_locals::begin;
-use scratch_store::State;
+use scratch_store::Store;
 use sheet::limits::MAX_ENTRIES;
 use sheet::{field_b, node_count};
 use switch_emit::{case_consts, switch};
-use switch_tables::{BANDS, DEFAULT, FALLBACK};
-use write_front::{image_len, put_front};
+use switch_tables::{BANDS, DEFAULT, FALLBACK, Table};
+use write_front::{Source, Tables, image_len};
 use write_tables::{put_cases, put_ranges, put_switches, table_count};
 
 // Words of a table, of a row of cases and of a row of ranges.
@@ -32,44 +31,50 @@ const CASE_WORDS: u32 = CASE_WIDTH as u32;
 const RANGE_WORDS: u32 = RANGE_WIDTH as u32;
 
 // The Switch lowered into the scratch, with the constants of its Cases; their places go into the table.
-fn held(sheet: &[u8], layout: Layout, scratch: &mut [u32], flat: &mut [u32]) -> State
-    ensures { Planned sheet.now layout (length scratch.old) flat.old
-        → Settled sheet.now layout scratch.new result flat.new }
+fn held<'a>(sheet: &[u8], layout: Layout, scratch: &'a mut [u32], table: &mut Table) -> Store<'a>
+    ensures { Planned sheet.now layout (length scratch.old) table.old.cells
+        → Settled sheet.now layout result.scratch.now result.state table.new.cells }
 {
-    let mut state = State::start(layout);
     begin(sheet, scratch, layout);
-    switch(sheet, &mut state, scratch, &flat[..]);
-    case_consts(sheet, &mut state, scratch, flat);
-    state
+    let mut store = Store::start(scratch, layout);
+    switch(sheet, &mut store, &table.cells[..]);
+    case_consts(sheet, &mut store, &mut table.cells[..]);
+    store
 }
 
 // The words of a Switch that the scratch holds: the front, and the tables behind it.
-fn write(sheet: &[u8], scratch: &[u32], state: State, image: &mut [u32], flat: &[u32])
-    ensures { let program = outcomes.lower sheet.now in ((l : Layout) → Settled sheet.now l scratch.now state flat.now
+fn write(sheet: &[u8], store: &Store, image: &mut [u32], table: &Table)
+    ensures { let program = outcomes.lower sheet.now in
+        ((l : Layout) → Settled sheet.now l store.now.scratch.now store.now.state table.now.cells
         → length (words program) ≤ length image.old
         → image.new ≡ words program ++ drop (length (words program)) image.old) }
 {
     let cases = field_b(sheet, 0);
-    let bands = get(flat, BANDS);
-    let a = put_front(
+    let bands = table.at(BANDS);
+    let state = store.state;
+    let front = Source {
         sheet,
-        scratch,
+        scratch: store.words(),
         state,
+    };
+    let a = front.put(
         image,
-        table_count(bands),
-        cases,
-        bands,
+        Tables {
+            switches: table_count(bands),
+            cases,
+            ranges: bands,
+        },
     );
     let b = put_switches(
         image,
         a,
         cases,
-        get(flat, FALLBACK),
+        table.at(FALLBACK),
         bands,
-        get(flat, DEFAULT),
+        table.at(DEFAULT),
     );
-    let c = put_cases(image, b, flat, cases as usize);
-    put_ranges(image, c, flat, bands as usize);
+    let c = put_cases(image, b, &table.cells[..], cases as usize);
+    put_ranges(image, c, &table.cells[..], bands as usize);
 }
 
 // The words of the tables of `cases` Cases and `bands` bands.
@@ -92,21 +97,23 @@ pub fn build_switch(
     image: &mut [u32],
     scratch: &mut [u32],
     most: u32,
-    flat: &mut [u32],
+    table: &mut Table,
 ) -> usize
-    ensures { let sheet = sheet.now in let table = flat.old in (Ready sheet most (length scratch.old) → kind sheet 0 ≡ switch_kind → length table ≡ columns.size → Tables sheet table
-        → Placed sheet table
+    ensures { let sheet = sheet.now in
+        let cells = table.old.cells in
+        (Ready sheet most (length scratch.old) → kind sheet 0 ≡ switch_kind → read.Tables sheet cells
+        → read.Placed sheet cells
         → Built sheet image.old result image.new) }
 {
-    let l = Layout {
+    let layout = Layout {
         most,
         nodes: node_count(sheet),
     };
-    let st = held(sheet, l, scratch, flat);
-    let n = image_len(st, tables_len(field_b(sheet, 0), get(flat, BANDS)));
+    let store = held(sheet, layout, scratch, table);
+    let n = image_len(store.state, tables_len(field_b(sheet, 0), table.at(BANDS)));
     if image.len() < n {
         return n;
     }
-    write(sheet, &scratch[..], st, image, &flat[..]);
+    write(sheet, &store, image, table);
     n
 }

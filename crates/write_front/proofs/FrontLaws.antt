@@ -1,9 +1,9 @@
 -- What is held of the front of an image: each part of the scratch that is read lies within it, and gives its section.
-use Prim.Native.Nat.{ℕ, ◌+◌, ◌-◌, ◌*◌, ◌≤◌, ◌<◌, min}
+use Prim.Native.Nat.{ℕ, ◌+◌, ◌*◌, ◌≤◌, ◌<◌, min}
 use mathlib.Core.Path.{◌≡◌, sym, ap, ◌∙◌, subst}
 use mathlib.Core.List.{List, [], ◌∷◌, ◌++◌, map}
 use native.Mathlib.Omega.{arith}
-use lib.ListN.{length, take, drop, length-append, length-map}
+use lib.ListN.{length, length-append, length-map}
 use Rattle.lowering.proofs.Decode.{steps-length}
 use Rattle.sheet.specs.Node.{field_c}
 use Rattle.bytecode.specs.Chain.{chain_words}
@@ -19,7 +19,7 @@ use Rattle.expr_model.specs.Made.{Made}
 use Rattle.scratch.specs.declared.Layout.{Layout}
 use Rattle.scratch_store.specs.declared.State.{State}
 use Rattle.scratch.specs.Places.{positions_at, residuals_at, consts_at, tokens_at, chains_at, names_at, region}
-use Rattle.scratch.proofs.RegionLaws.{region-length, part-is}
+use Rattle.scratch.proofs.RegionLaws.{region-length}
 use Rattle.scratch_index.specs.Held.{names_held, NamesHold}
 use Rattle.scratch_index.proofs.IndexesLaws.{indexes-names}
 use Rattle.scratch_store.specs.Holds.{Holds}
@@ -187,27 +187,28 @@ module _ {s : List ℕ} {l : Layout} {xs : List ℕ} {st : State} {a : Made} (h 
     pub chains-inside : length xs < p + st.chains → ⊥
     chains-inside m = omega (arith, e, chains-fit)
 
-    pub chains-written :
-        (ws : List ℕ)
-        → (NamesHold s l st.names xs
-        → ws ≡ section chain_words (chains_from s (names_held s l st.names xs) 0 (take ((p + st.chains) - p) (drop p xs))))
-        → ws ≡ section chain_words a.pools.chains
-    chains-written ws f =
-        f names-hold
-        ∙ ap (λ (js : List ℕ). section chain_words (chains_from s (names_held s l st.names xs) 0 js))
-        (part-is p (chains_at l) st.chains xs e)
-        ∙ chains-held
+    -- the keys as the code read them
+    module _ (js ws : List ℕ) (is : js ≡ region p st.chains xs) where
+      keys-are : js ≡ region (chains_at l) st.chains xs
+      keys-are = is ∙ ap (λ (i : ℕ). region i st.chains xs) e
 
-    pub steps-written :
-        (n : ℕ) (ws : List ℕ)
-        → (NamesHold s l st.names xs → n ≡ step_width * step_count s (take ((p + st.chains) - p) (drop p xs))
-        → ws ≡ steps_words (steps_from s (names_held s l st.names xs) (take ((p + st.chains) - p) (drop p xs))))
-        → n ≡ step_width * st.steps → ws ≡ steps_words a.pools.steps
-    steps-written n ws f m =
-        let part = part-is p (chains_at l) st.chains xs e in
-        f names-hold (m ∙ ap (λ (i : ℕ). step_width * i) (steps-count ∙ ap (step_count s) (sym part)))
-        ∙ ap (λ (js : List ℕ). steps_words (steps_from s (names_held s l st.names xs) js)) part
-        ∙ steps-held
+      pub chains-written :
+          (NamesHold s l st.names xs → ws ≡ section chain_words (chains_from s (names_held s l st.names xs) 0 js))
+          → ws ≡ section chain_words a.pools.chains
+      chains-written f =
+          f names-hold
+          ∙ ap (λ (ks : List ℕ). section chain_words (chains_from s (names_held s l st.names xs) 0 ks)) keys-are
+          ∙ chains-held
+
+      pub steps-written :
+          (n : ℕ)
+          → (NamesHold s l st.names xs → n ≡ step_width * step_count s js
+          → ws ≡ steps_words (steps_from s (names_held s l st.names xs) js))
+          → n ≡ step_width * st.steps → ws ≡ steps_words a.pools.steps
+      steps-written n f m =
+          f names-hold (m ∙ ap (λ (i : ℕ). step_width * i) (steps-count ∙ ap (step_count s) (sym keys-are)))
+          ∙ ap (λ (ks : List ℕ). steps_words (steps_from s (names_held s l st.names xs) ks)) keys-are
+          ∙ steps-held
 
   module _ {x y : List ℕ} {at r : ℕ} where
     pub code_put : (0 + op_width * st.code ≤ length xs → Puts x y at r (region 0 (op_width * st.code) xs))

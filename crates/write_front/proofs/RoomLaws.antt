@@ -7,7 +7,6 @@ use lib.ListN.{length, take, drop, length-drop}
 use lib.Seq.{length-take-le}
 use mir.Syntax.{w64}
 use mir.Val.{Fits}
-use Rattle.sheet.specs.Limits.{max_depth}
 use Rattle.expr_chains.specs.Kept.{step_count}
 use Rattle.write_sections.proofs.ChainRows.{steps-most}
 use Rattle.write_front.specs.Puts.{Puts}
@@ -36,19 +35,13 @@ module _ (xs : List ℕ) (b n : ℕ) (h : b + n ≤ length xs) where
       left = omega arith
 
 -- a part of the image is as long as so many rows
-pub rows-length : (xs ys : List ℕ) (at b k n m : ℕ) → at + m ≤ length ys → b + n ≤ length xs → m ≡ k * n
-    → length (take ((at + m) - at) (drop at ys)) ≡ k * length (take ((b + n) - b) (drop b xs))
-rows-length xs ys at b k n m h g e = part_length ys at m h ∙ e ∙ ap (λ (i : ℕ). k * i) (sym (part_length xs b n g))
+pub rows-length : (ys js : List ℕ) (at k n m : ℕ) → at + m ≤ length ys → length js ≡ n → m ≡ k * n
+    → length (take ((at + m) - at) (drop at ys)) ≡ k * length js
+rows-length ys js at k n m h many e = part_length ys at m h ∙ e ∙ ap (λ (i : ℕ). k * i) (sym many)
 
 -- so few chains have fewer steps than a word counts
-pub few-steps :
-    (s xs : List ℕ) (b n : ℕ) → b + n ≤ length xs → n ≤ 67108863 → step_count s (take ((b + n) - b) (drop b xs)) < 4294967296
-few-steps s xs b n h f =
-    less (length (take ((b + n) - b) (drop b xs))) (step_count s (take ((b + n) - b) (drop b xs))) (part_length xs b n h)
-    (steps-most s (take ((b + n) - b) (drop b xs)))
-  where
-    less : (k v : ℕ) → k ≡ n → v ≤ max_depth * k → v < 4294967296
-    less k v e d = omega (arith, f)
+pub few-steps : (s js : List ℕ) (n : ℕ) → length js ≡ n → n ≤ 67108863 → step_count s js < 4294967296
+few-steps s js n e f = omega (arith, f, e, steps-most s js)
 
 -- rows that do not fit are left out
 pub none-puts : (x : List ℕ) (at k : ℕ) (ys : List ℕ) → length ys ≡ k → length x < at + k → Puts x x at at ys

@@ -1,7 +1,7 @@
 // The finished image, written from what the scratch holds. Each section goes to its own part of the image; what does not fit is left out.
 #![tactic(auto)]
 
-ghost use Rattle.std.specs.Prelude.{◌≡◌, ℕ, ◌+◌, ◌*◌, ◌<◌, ◌≤◌, refl, List, ◌++◌, map, length, drop};
+ghost use Rattle.std.specs.Prelude.{◌≡◌, ℕ, ◌+◌, ◌*◌, ◌<◌, ◌≤◌, refl, List, ◌++◌, map, length, drop, MatchOption};
 ghost use Rattle.sheet.specs.Node as nodes;
 ghost use Rattle.bytecode.specs.Chain.{chain_words};
 ghost use Rattle.lowering.specs.Limits.{sizes_words, const_width, name_width};
@@ -11,6 +11,7 @@ ghost use Rattle.scratch_keys.specs.Keys.{name_of};
 ghost use Rattle.expr_model.specs.Made.{Made};
 ghost use Rattle.scratch.specs.Places.{region};
 ghost use Rattle.scratch_store.specs.Holds.{Holds};
+ghost use Rattle.scratch_store.specs.States.{layout_of};
 ghost use Rattle.scratch.specs.declared.Layout.{Layout};
 ghost use Rattle.write_front.specs.Front as fronts;
 ghost use Rattle.write_front.specs.Puts.{Puts};
@@ -20,9 +21,9 @@ ghost use Rattle.write_front.specs.Rows.{consts-long, names-long, tokens-long};
 use lowering::{
     CHAIN_WIDTH, CODE_WIDTH, CONST_WIDTH, MAX_STACK, NAME_WIDTH, OP_WIDTH, SIZES, STEP_WIDTH,
 };
-use scratch::Layout;
 use scratch_index::Names;
 use scratch_store::State;
+use write_sections::copy;
 
 // So many chains have at most 4294967232 steps.
 const MAX_CHAINS: usize = 67108863;
@@ -38,6 +39,17 @@ pub fn beyond(m: usize, at: usize, n: usize) -> bool
         return true;
     }
     false
+}
+
+// The `n` words from `b` on, if they are there.
+fn part(words: &[u32], b: usize, n: usize) -> Option<&[u32]>
+    ensures { MatchOption result (length words.now < b + n) (λ r. (b + n ≤ length words.now) × (r.now ≡ region b n words.now)) }
+{
+    if beyond(words.len(), b, n) {
+        return None;
+    }
+    let e = b + n;
+    Some(&words[b..e])
 }
 
 // A section of the image that is made of keys: as many words for each.
@@ -75,10 +87,12 @@ impl Rows for Copied {
     }
 
     fn write(&self, out: &mut [u32], ks: &[u32]) {
-        out.copy_from_slice(ks);
+        copy(out, ks);
     }
 }
 
+// Kept: the next three differ in the words of a key alone; a closure for these would need the same width, rows
+// and law beside it: no plainer.
 // The constants of nodes.
 #[derive(Clone, Copy)]
 struct ConstRows<'a> {
@@ -145,6 +159,7 @@ impl<'a> Rows for TokenRows<'a> {
     }
 }
 
+// Kept: `image` and `at` go in, and the place behind is answered, here and below. `Puts old new at r xs` says all of both ends.
 // The section of the `n` keys that stand in the scratch from `b` on, and the place behind it.
 fn put_rows<R: Rows>(
     rows: &R,
@@ -156,107 +171,24 @@ fn put_rows<R: Rows>(
 ) -> usize
     ensures { b + n ≤ length scratch.now → Puts image.old image.new at result (R.rows rows.now (region b n scratch.now)) }
 {
-    if beyond(scratch.len(), b, n) {
-        return at;
-    }
+    let Some(keys) = part(scratch, b, n) else {
+        return at; // They are not there.
+    };
     let w = rows.words(n);
     if beyond(image.len(), at, w) {
         return at;
     }
-    let f = b + n;
     let e = at + w;
-    rows.write(&mut image[at..e], &scratch[b..f]);
+    rows.write(&mut image[at..e], keys);
     e
 }
 
-// Kept: chains and steps are no `Rows`: what they are is known only where the names are held, and steps are not as many for each key, so
-// each would need a premise and a law of its own.
-// The chains. So many that their steps might not fit a word are left out.
-fn put_chains(
-    sheet: &[u8],
-    layout: Layout,
-    scratch: &[u32],
-    state: State,
-    image: &mut [u32],
-    at: usize,
-) -> usize
-    ensures { (a : Made) → Holds sheet.now layout scratch.now state a
-        → Puts image.old image.new at result (section chain_words a.pools.chains) }
-{
-    let b = layout.chains_at();
-    let k = state.chains as usize;
-    if beyond(scratch.len(), b, k) {
-        return at;
-    }
-    if beyond(image.len(), at, CHAIN_WIDTH * k) {
-        return at;
-    }
-    if MAX_CHAINS < k {
-        return at;
-    }
-    let f = b + k;
-    let e = at + CHAIN_WIDTH * k;
-    let names = Names {
-        sheet,
-        scratch,
-        layout,
-        count: state.names,
-    };
-    write_sections::chains(&names, &mut image[at..e], &scratch[b..f]);
-    e
-}
-
-// The steps, which are counted already.
-fn put_steps(
-    sheet: &[u8],
-    layout: Layout,
-    scratch: &[u32],
-    state: State,
-    image: &mut [u32],
-    at: usize,
-) -> usize
-    ensures { (a : Made) → Holds sheet.now layout scratch.now state a
-        → Puts image.old image.new at result (pools.steps_words a.pools.steps) }
-{
-    let b = layout.chains_at();
-    let k = state.chains as usize;
-    if beyond(scratch.len(), b, k) {
-        return at;
-    }
-    let w = STEP_WIDTH * (state.steps as usize);
-    if beyond(image.len(), at, w) {
-        return at;
-    }
-    let f = b + k;
-    let e = at + w;
-    let names = Names {
-        sheet,
-        scratch,
-        layout,
-        count: state.names,
-    };
-    write_sections::steps(&names, &mut image[at..e], &scratch[b..f]);
-    e
-}
-
-// The twelve sizes.
-fn front_sizes(state: State, sw: u32, ca: u32, ra: u32) -> [u32; SIZES]
-    ensures { (s : List ℕ) (l : Layout) (xs : List ℕ) (a : Made) → Holds s l xs state a → result ≡ fronts.front_sizes a sw ca ra }
-{
-    [
-        state.code,
-        state.consts,
-        state.names,
-        state.tokens,
-        state.residuals,
-        state.chains,
-        state.steps,
-        sw,
-        ca,
-        ra,
-        state.emitted.min(MAX_STACK),
-        state.deepest,
-    ]
+// How many tables, rows of Cases and rows of ranges an image has.
+#[derive(Clone, Copy)]
+pub struct Tables {
+    pub switches: u32,
+    pub cases: u32,
+    pub ranges: u32,
 }
 
 // The sizes at the image's start.
@@ -271,96 +203,146 @@ fn put_sizes(image: &mut [u32], n: [u32; SIZES]) -> usize
     e
 }
 
-// The code and its positions.
-fn put_code(layout: Layout, scratch: &[u32], state: State, image: &mut [u32], at: usize) -> usize
-    ensures { (s : List ℕ) (a : Made) → Holds s layout scratch.now state a
-        → Puts image.old image.new at result (fronts.code_part a) }
-{
-    let k = state.code as usize;
-    let e = put_rows(&Copied {}, scratch, 0, OP_WIDTH * k, image, at);
-    put_rows(&Copied {}, scratch, layout.positions_at(), k, image, e)
+// What the front of an image is written from: a sheet, and what the scratch holds of it.
+#[derive(Clone, Copy)]
+pub struct Source<'a> {
+    pub sheet: &'a [u8],
+    pub scratch: &'a [u32],
+    pub state: State,
 }
 
-// The constants, the names, the tokens and the residuals.
-fn put_pools(
-    sheet: &[u8],
-    layout: Layout,
-    scratch: &[u32],
-    state: State,
-    image: &mut [u32],
-    at: usize,
-) -> usize
-    ensures { (a : Made) → Holds sheet.now layout scratch.now state a
-        → Puts image.old image.new at result (fronts.pools_part a) }
-{
-    let consts = ConstRows { sheet };
-    let names = NameRows { sheet };
-    let tokens = TokenRows { sheet };
-    let k = state.consts as usize;
-    let e = put_rows(&consts, scratch, layout.consts_at(), k, image, at);
-    let k = state.names as usize;
-    let f = put_rows(&names, scratch, layout.names_at(), k, image, e);
-    let k = state.tokens as usize;
-    let g = put_rows(&tokens, scratch, layout.tokens_at(), k, image, f);
-    let k = state.residuals as usize;
-    put_rows(&Copied {}, scratch, layout.residuals_at(), k, image, g)
-}
+impl<'a> Source<'a> {
+    // Kept: chains and steps are no `Rows`: what they are is known only where the names are held, and steps are not as many for each key,
+    // so each would need a premise and a law of its own.
+    // The chains. So many that their steps might not fit a word are left out.
+    fn put_chains(&self, image: &mut [u32], at: usize) -> usize
+        ensures { let it = self.now in (a : Made) → Holds it.sheet.now (layout_of it.state) it.scratch.now it.state a
+            → Puts image.old image.new at result (section chain_words a.pools.chains) }
+    {
+        let layout = self.state.layout();
+        let k = self.state.chains as usize;
+        let Some(keys) = part(self.scratch, layout.chains_at(), k) else {
+            return at; // They are not there.
+        };
+        if beyond(image.len(), at, CHAIN_WIDTH * k) {
+            return at;
+        }
+        if MAX_CHAINS < k {
+            return at;
+        }
+        let e = at + CHAIN_WIDTH * k;
+        let names = Names {
+            sheet: self.sheet,
+            scratch: self.scratch,
+            layout,
+            count: self.state.names,
+        };
+        write_sections::chains(&names, &mut image[at..e], keys);
+        e
+    }
 
-// The chains and the steps.
-fn put_linked(
-    sheet: &[u8],
-    layout: Layout,
-    scratch: &[u32],
-    state: State,
-    image: &mut [u32],
-    at: usize,
-) -> usize
-    ensures { (a : Made) → Holds sheet.now layout scratch.now state a
-        → Puts image.old image.new at result (fronts.chains_part a) }
-{
-    let e = put_chains(sheet, layout, scratch, state, image, at);
-    put_steps(sheet, layout, scratch, state, image, e)
-}
+    // The steps, which are counted already.
+    fn put_steps(&self, image: &mut [u32], at: usize) -> usize
+        ensures { let it = self.now in (a : Made) → Holds it.sheet.now (layout_of it.state) it.scratch.now it.state a
+            → Puts image.old image.new at result (pools.steps_words a.pools.steps) }
+    {
+        let layout = self.state.layout();
+        let k = self.state.chains as usize;
+        let Some(keys) = part(self.scratch, layout.chains_at(), k) else {
+            return at; // They are not there.
+        };
+        let w = STEP_WIDTH * (self.state.steps as usize);
+        if beyond(image.len(), at, w) {
+            return at;
+        }
+        let e = at + w;
+        let names = Names {
+            sheet: self.sheet,
+            scratch: self.scratch,
+            layout,
+            count: self.state.names,
+        };
+        write_sections::steps(&names, &mut image[at..e], keys);
+        e
+    }
 
-// The front of the image with `sw`, `ca` and `ra` as the sizes of the tables, and the place behind it.
-pub fn put_front(
-    sheet: &[u8],
-    scratch: &[u32],
-    state: State,
-    image: &mut [u32],
-    sw: u32,
-    ca: u32,
-    ra: u32,
-) -> usize
-    ensures { (l : Layout) (a : Made) → Holds sheet.now l scratch.now state a
-        → Puts image.old image.new 0 result (fronts.front a sw ca ra) }
-{
-    let l = Layout {
-        most: state.most,
-        nodes: state.nodes,
-    };
-    let n = front_sizes(state, sw, ca, ra);
-    let e = put_sizes(image, n);
-    let f = put_code(l, scratch, state, image, e);
-    let g = put_pools(sheet, l, scratch, state, image, f);
-    put_linked(sheet, l, scratch, state, image, g)
-}
+    // The twelve sizes.
+    fn sizes(&self, tables: Tables) -> [u32; SIZES]
+        ensures { let it = self.now in (a : Made) → Holds it.sheet.now (layout_of it.state) it.scratch.now it.state a
+            → result ≡ fronts.front_sizes a tables.switches tables.cases tables.ranges }
+    {
+        let state = self.state;
+        [
+            state.code,
+            state.consts,
+            state.names,
+            state.tokens,
+            state.residuals,
+            state.chains,
+            state.steps,
+            tables.switches,
+            tables.cases,
+            tables.ranges,
+            state.emitted.min(MAX_STACK),
+            state.deepest,
+        ]
+    }
 
-// The front of the image; what stood behind it stays.
-pub fn write_front(
-    sheet: &[u8],
-    scratch: &[u32],
-    state: State,
-    image: &mut [u32],
-    sw: u32,
-    ca: u32,
-    ra: u32,
-)
-    ensures { (l : Layout) (a : Made) → Holds sheet.now l scratch.now state a
-        → length (fronts.front a sw ca ra) ≤ length image.old
-        → image.new ≡ fronts.front a sw ca ra ++ drop (length (fronts.front a sw ca ra)) image.old }
-{
-    let _e = put_front(sheet, scratch, state, image, sw, ca, ra);
+    // The code and its positions.
+    fn put_code(&self, image: &mut [u32], at: usize) -> usize
+        ensures { let it = self.now in (a : Made) → Holds it.sheet.now (layout_of it.state) it.scratch.now it.state a
+            → Puts image.old image.new at result (fronts.code_part a) }
+    {
+        let scratch = self.scratch;
+        let k = self.state.code as usize;
+        let e = put_rows(&Copied {}, scratch, 0, OP_WIDTH * k, image, at);
+        let b = self.state.layout().positions_at();
+        put_rows(&Copied {}, scratch, b, k, image, e)
+    }
+
+    // The constants, the names, the tokens and the residuals.
+    fn put_pools(&self, image: &mut [u32], at: usize) -> usize
+        ensures { let it = self.now in (a : Made) → Holds it.sheet.now (layout_of it.state) it.scratch.now it.state a
+            → Puts image.old image.new at result (fronts.pools_part a) }
+    {
+        let sheet = self.sheet;
+        let scratch = self.scratch;
+        let layout = self.state.layout();
+        let consts = ConstRows { sheet };
+        let names = NameRows { sheet };
+        let tokens = TokenRows { sheet };
+        let k = self.state.consts as usize;
+        let e = put_rows(&consts, scratch, layout.consts_at(), k, image, at);
+        let k = self.state.names as usize;
+        let f = put_rows(&names, scratch, layout.names_at(), k, image, e);
+        let k = self.state.tokens as usize;
+        let g = put_rows(&tokens, scratch, layout.tokens_at(), k, image, f);
+        let k = self.state.residuals as usize;
+        put_rows(&Copied {}, scratch, layout.residuals_at(), k, image, g)
+    }
+
+    // The front of the image, with tables of these sizes, and the place behind it.
+    pub fn put(&self, image: &mut [u32], tables: Tables) -> usize
+        ensures { let it = self.now in (l : Layout) (a : Made) → Holds it.sheet.now l it.scratch.now it.state a
+            → Puts image.old image.new 0 result (fronts.front a tables.switches tables.cases tables.ranges) }
+    {
+        let n = self.sizes(tables);
+        let e = put_sizes(image, n);
+        let f = self.put_code(image, e);
+        let g = self.put_pools(image, f);
+        let h = self.put_chains(image, g);
+        self.put_steps(image, h)
+    }
+
+    // The front of the image; what stood behind it stays.
+    pub fn write(&self, image: &mut [u32], tables: Tables)
+        ensures { let it = self.now in (l : Layout) (a : Made) → Holds it.sheet.now l it.scratch.now it.state a
+            → length (fronts.front a tables.switches tables.cases tables.ranges) ≤ length image.old
+            → image.new ≡ fronts.front a tables.switches tables.cases tables.ranges
+            ++ drop (length (fronts.front a tables.switches tables.cases tables.ranges)) image.old }
+    {
+        let _e = self.put(image, tables);
+    }
 }
 
 // The count of the image's words, of which `tables` stand behind the front.

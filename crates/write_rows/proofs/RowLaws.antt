@@ -1,34 +1,40 @@
 -- Laws of rows read from the flat table: targets by their exits, and the words of a case and of a band.
-use Prim.Native.Nat.{ℕ, ◌+◌, ◌-◌, ◌*◌, ◌/◌, ◌%◌, ◌≤◌, ◌<◌}
-use mathlib.Core.Path.{◌≡◌, refl}
+use Prim.Native.Nat.{ℕ, zero, suc, ◌+◌, ◌-◌, ◌*◌, ◌/◌, ◌%◌}
+use mathlib.Core.Path.{◌≡◌, refl, ap}
 use mathlib.Core.List.{List, [], ◌∷◌}
 use native.Mathlib.Omega.{arith}
 use lib.ListN.{length}
-use borrow.Author.Tests.{lt-ltb, le-ltb, eq-eqb, ne_eqb}
+use borrow.Author.Tests.{le-ltb, ne_eqb}
 use Rattle.lowering.specs.Limits.{case_width, range_width}
+use Rattle.switch_tables.specs.declared.kinds.Exit.{Exit}
+use Rattle.switch_tables.specs.declared.kinds.Exit.TheVariants.{Chain, Fallback, Body}
+use Rattle.switch_tables.specs.Kinds.{said_exit}
 use Rattle.switch_tables.specs.Columns.{low_at, high_at, band_first_at, band_last_at, body_at, case_const_at, cell}
 use Rattle.write_rows.specs.TableRows.{rows_to, target_in, target_at, case_target_in, case_words_in, band_target_in, range_words_in}
 use Rattle.write_rows.proofs.Filled.{rows-length}
 
-module _ (w : List ℕ) (exit place fallback : ℕ) where
-  pub target-chain : exit < 2 → place ≡ target_in w exit place fallback
-  unfolding target_in
-  target-chain h = rw (lt-ltb exit 2 h, target_in)
+-- where a list goes, by what its exit says
+abbrev pub target_by : List ℕ → ℕ → ℕ → Exit → ℕ
+target_by w place fallback (Chain falls) = place
+target_by w place fallback Fallback = fallback
+target_by w place fallback (Body k) = cell w (body_at + k)
 
-  pub target_none : exit ≡ 2 → fallback ≡ target_in w exit place fallback
-  unfolding target_in
-  target_none e = rw (le-ltb exit 2 (omega arith), eq-eqb exit 2 e, target_in)
-
-  pub target-body : 2 ≤ exit → (exit ≡ 2 → ⊥) → cell w (body_at + exit - 3) ≡ target_in w exit place fallback
-  unfolding target_in
-  target-body h n = rw (le-ltb exit 2 h, ne_eqb exit 2 n, target_in)
+target-says : (w : List ℕ) (place fallback x : ℕ) → target_by w place fallback (said_exit x) ≡ target_in w x place fallback
+unfolding target_in
+target-says w place fallback zero = refl
+target-says w place fallback (suc zero) = refl
+target-says w place fallback (suc (suc zero)) = refl
+target-says w place fallback (suc (suc (suc k))) =
+    let x : ℕ = suc (suc (suc k)) in
+    rw (le-ltb x 2 (omega arith), ne_eqb x 2 (λ e. omega arith), target_in) (ap (cell w) (omega arith))
 
 -- what is read, cell by cell
-pub target_is : (w : List ℕ) (number exits places fallback q e p f : ℕ) → q ≡ cell w number → e ≡ cell w (exits + q)
-    → p ≡ cell w (places + q) → f ≡ cell w fallback
-    → target_in w e p f ≡ target_at w number exits places fallback
+pub target_is : (w : List ℕ) (number exits places fallback q x : ℕ) (e : Exit) → q ≡ cell w number → x ≡ cell w (exits + q)
+    → e ≡ said_exit x
+    → target_by w (cell w (places + q)) (cell w fallback) e ≡ target_at w number exits places fallback
 unfolding target_at
-target_is w number exits places fallback q e p f a b c d = rw (b, c, d, a)
+target_is w number exits places fallback q x e a b c =
+    rw (c, target-says w (cell w (places + q)) (cell w fallback) x, b, a)
 
 pub range-words :
     (w : List ℕ) (i first last fl fh tl th t : ℕ) → first ≡ cell w (band_first_at + i) → last ≡ cell w (band_last_at + i)

@@ -40,23 +40,18 @@ unfolding section switch_words ranges_if
 both_words n fallback zero default h = absurd (omega arith)
 both_words n fallback (suc m) default h = refl
 
-module _ (x : List ℕ) {y z : List ℕ} (n fallback m default : ℕ) (e : length x ≡ switch_width * table_count m)
-    (p : y ≡ put_part x 0 2 (0 ∷ 0 ∷ []))
-    (q : z ≡ put_part y 2 2 (n ∷ fallback ∷ [])) where
-  one_written : Written x z (0 ∷ 0 ∷ n ∷ fallback ∷ [])
-  one_written =
-      let two = written_next (written_none x) 0 2 (0 ∷ 0 ∷ []) refl refl (omega arith) in
-      rw (q, p) (written_next two 2 2 (n ∷ fallback ∷ []) refl refl (omega arith))
+module _ (x : List ℕ) {y : List ℕ} (n fallback m default : ℕ) (e : length x ≡ switch_width * table_count m)
+    (p : y ≡ put_part x 0 4 (0 ∷ 0 ∷ n ∷ fallback ∷ [])) where
+  one_written : Written x y (0 ∷ 0 ∷ n ∷ fallback ∷ [])
+  one_written = rw p (written_next (written_none x) 0 4 (0 ∷ 0 ∷ n ∷ fallback ∷ []) refl refl (omega arith))
 
   -- no ranges
-  pub tables-one : m ≤ 0 → z ≡ section switch_words (tables_of n fallback m default)
+  pub tables-one : m ≤ 0 → y ≡ section switch_words (tables_of n fallback m default)
   tables-one h = written_all one_written (omega arith) ∙ one-words n fallback m default h
 
   -- and some
-  pub tables-both : {u v : List ℕ} → 0 < m → u ≡ put_part z 4 2 (1 ∷ 0 ∷ []) → v ≡ put_part u 6 2 (m ∷ default ∷ [])
-      → v ≡ section switch_words (tables_of n fallback m default)
-  tables-both {u} {v} h r s =
-      let three = written_next one_written 4 2 (1 ∷ 0 ∷ []) refl refl (omega arith) in
-      let four : Written x v (0 ∷ 0 ∷ n ∷ fallback ∷ 1 ∷ 0 ∷ m ∷ default ∷ []) =
-      rw (s, r) (written_next three 6 2 (m ∷ default ∷ []) refl refl (omega arith)) in
-      written_all four (omega arith) ∙ both_words n fallback m default h
+  pub tables-both : {z : List ℕ} → 0 < m → z ≡ put_part y 4 4 (1 ∷ 0 ∷ m ∷ default ∷ []) → z ≡ section switch_words (tables_of n fallback m default)
+  tables-both {z} h r =
+      let two : Written x z (0 ∷ 0 ∷ n ∷ fallback ∷ 1 ∷ 0 ∷ m ∷ default ∷ []) =
+      rw r (written_next one_written 4 4 (1 ∷ 0 ∷ m ∷ default ∷ []) refl refl (omega arith)) in
+      written_all two (omega arith) ∙ both_words n fallback m default h

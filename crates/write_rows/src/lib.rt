@@ -9,24 +9,22 @@ ghost use Rattle.lowering.specs.Limits.{switch_width, case_width, range_width, m
 ghost use Rattle.lowering.specs.Image.{section};
 ghost use Rattle.write_rows.specs.TableRows.{rows_to, tables_of, table_count, target_at, case_words_in, range_words_in};
 
-use lowering::{CASE_WIDTH, RANGE_WIDTH};
+use lowering::{CASE_WIDTH, RANGE_WIDTH, SWITCH_WIDTH};
 use scratch::get;
 use switch_tables::{
     BAND_EXIT, BAND_FIRST, BAND_LAST, BAND_NUMBER, BAND_PLACE, BODY, CASE_CONST, CASE_EXIT,
-    CASE_NUMBER, CASE_PLACE, DEFAULT, FALLBACK, HIGH, LOW,
+    CASE_NUMBER, CASE_PLACE, DEFAULT, Exit, FALLBACK, HIGH, LOW,
 };
-use write_sections::{put_six, put_two};
+use write_sections::put;
 
 // The table of cases, and that of ranges where there are any.
 pub fn switch_rows(out: &mut [u32], cases: u32, fallback: u32, ranges: u32, default: u32)
     requires { length out.old ≡ switch_width * table_count ranges }
     ensures { out.new ≡ section switch_words (tables_of cases fallback ranges default) }
 {
-    put_two(out, 0, 0, 0);
-    put_two(out, 2, cases, fallback);
+    put(out, 0, [0, 0, cases, fallback]);
     if 0 < ranges {
-        put_two(out, 4, 1, 0);
-        put_two(out, 6, ranges, default);
+        put(out, SWITCH_WIDTH, [1, 0, ranges, default]);
     }
 }
 
@@ -36,27 +34,35 @@ fn target_of(flat: &[u32], number: usize, exits: usize, places: usize, fallback:
     ensures { result ≡ target_at flat.now number exits places fallback }
 {
     let q = get(flat, number) as usize;
-    let exit = get(flat, exits + q);
-    if exit < 2 {
-        return get(flat, places + q);
+    match Exit::from(get(flat, exits + q)) {
+        Exit::Chain { falls: _ } => get(flat, places + q),
+        Exit::Fallback => get(flat, fallback),
+        Exit::Body(k) => get(flat, BODY + (k as usize)),
     }
-    if exit == 2 {
-        return get(flat, fallback);
-    }
-    get(flat, BODY + (exit as usize) - 3)
 }
 
-// Kept: `case_rows` and `range_rows` stay two loops of a line. They differ in the width of a row, in what a row is and in how it is
-// put, so that one loop over a closure and a width would be called by two functions as long as these.
+// Kept: `case_rows` and `range_rows` stay two loops of a line. One loop would take a closure that gives `[u32; N]`, and a bound `Fn` that
+// names a const parameter is not covered by this Rattle (tried).
+
+// The row of case `i`.
+fn case_row(flat: &[u32], i: usize) -> [u32; CASE_WIDTH]
+    requires { i < max_entries }
+    ensures { result ≡ case_words_in flat.now i }
+{
+    [
+        target_of(flat, CASE_NUMBER + i, CASE_EXIT, CASE_PLACE, FALLBACK),
+        get(flat, CASE_CONST + i),
+    ]
+}
 
 // The rows of `n` cases.
+// Kept: `n` says that `out` is whole rows; std's `as_chunks_mut` says nothing of what the slice ends as.
 pub fn case_rows(out: &mut [u32], flat: &[u32], n: usize)
     requires { (n ≤ max_entries) × (length out.old ≡ case_width * n) }
     ensures { out.new ≡ rows_to (case_words_in flat.now) n }
 {
     for i in 0..n {
-        let t = target_of(flat, CASE_NUMBER + i, CASE_EXIT, CASE_PLACE, FALLBACK);
-        put_two(out, CASE_WIDTH * i, t, get(flat, CASE_CONST + i));
+        put(out, CASE_WIDTH * i, case_row(flat, i));
     }
 }
 
@@ -79,11 +85,12 @@ fn range_row(flat: &[u32], i: usize) -> [u32; RANGE_WIDTH]
 }
 
 // The rows of `n` bands.
+// Kept: `n` beside `out`, as in case_rows.
 pub fn range_rows(out: &mut [u32], flat: &[u32], n: usize)
     requires { (n ≤ max_bands) × (length out.old ≡ range_width * n) }
     ensures { out.new ≡ rows_to (range_words_in flat.now) n }
 {
     for i in 0..n {
-        put_six(out, RANGE_WIDTH * i, range_row(flat, i));
+        put(out, RANGE_WIDTH * i, range_row(flat, i));
     }
 }

@@ -37,6 +37,16 @@ section-one f x = append-nil (f x)
 pub section-snoc : {A : Type 0} (f : A → List ℕ) (xs : List A) (x : A) → section f (xs ++ (x ∷ [])) ≡ section f xs ++ f x
 section-snoc f xs x = section-append f xs (x ∷ []) ∙ ap (λ (l : List ℕ). section f xs ++ l) (section-one f x)
 
+-- the words themselves
+module _ {x₀ x : List ℕ} (l : List ℕ) (i : ℕ) (e : length x₀ ≡ length l) where
+  pub copy-next : i < length l → Written x₀ x (take i l) → Written x₀ (set x i (get_or l i 0)) (take (i + 1) l)
+  copy-next h w =
+      let n : length (take i l) ≡ i = length-take-le i l (omega arith) in
+      rw (take_more l i h) (written_one w i (get_or l i 0) n (omega arith))
+
+  pub copy-end : length l ≤ i → Written x₀ x (take i l) → x ≡ l
+  copy-end h w = let all = take_whole l i h in written_all w (ap length all ∙ sym e) ∙ all
+
 -- a word for each
 module _ {x₀ x : List ℕ} where
   pub map_next :

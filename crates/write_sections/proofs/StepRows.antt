@@ -1,7 +1,6 @@
 -- Laws of the section of steps: along one chain, and chain by chain.
-use Prim.Native.Nat.{ℕ, zero, suc, ◌+◌, ◌-◌, ◌*◌, ◌≤◌, ◌<◌}
-use mathlib.Core.Path.{◌≡◌, refl, sym, ap, ◌∙◌}
-use mathlib.Core.Bool.{Bool, true, false}
+use Prim.Native.Nat.{ℕ, zero, suc, ◌+◌, ◌*◌, ◌≤◌, ◌<◌}
+use mathlib.Core.Path.{◌≡◌, sym, ap, ◌∙◌}
 use mathlib.Core.List.{List, [], ◌∷◌, ◌++◌, append-nil}
 use native.Mathlib.Omega.{arith}
 use native.Mathlib.Numerals.{add-one}
@@ -15,12 +14,17 @@ use Rattle.bytecode.specs.declared.Step.{Step}
 use Rattle.bytecode.specs.Chain.{step_words}
 use Rattle.lowering.specs.Limits.{step_width}
 use Rattle.lowering.specs.Flatten as flatten
-use Rattle.lowering.specs.Flatten.{index, method, step_rule, goes_on, rest_of, operand_of, links}
+use Rattle.lowering.specs.Flatten.{index, method, step_rule, operand_of, links}
 use Rattle.lowering.specs.Pools.{Name, steps_words}
 use Rattle.expr_chains.specs.Steps.{name_in, step_with, step_as, step_operands, steps_in, chain_steps, link_count, steps_from}
+use Rattle.expr_rules.specs.declared.chains.Read.{Read}
+use Rattle.expr_rules.specs.declared.chains.Links.{Links}
+use Rattle.expr_rules.specs.Links.{nodes_left}
+use Rattle.expr_rules.proofs.LinksLaws.{Left, Begun, Turn}
 use Rattle.expr_chains.specs.Kept.{step_count}
 use Rattle.expr_chains.proofs.KeptLaws.{steps-length, all-steps-length, steps-snoc}
-use Rattle.expr_chains.proofs.LoopLaws.{steps-more, steps-last, steps-done}
+use Rattle.expr_chains.proofs.LoopLaws.{width_few}
+use Rattle.expr_chains.proofs.LinkLaws.{links-most}
 use Rattle.expr_chains.proofs.WordsLaws.{steps-append}
 use Rattle.write_sections.specs.Written.{Written}
 use Rattle.write_sections.specs.Put.{put_part}
@@ -41,38 +45,19 @@ split (y ∷ l) (suc i) x r e =
     let s = split l i x r e in
     record { within = omega (arith, s.within); front = ap (λ (z : List Step). y ∷ z) s.front; behind = s.behind }
 
--- the steps from link c on are those behind the first i
-abbrev pub Left : List ℕ → List Name → ℕ → ℕ → ℕ → ℕ → ℕ → Type 0
-Left s ns j i n left c = steps_in s ns n (links left s c) ≡ drop i (chain_steps s ns j)
-
 abbrev pub step_rows : List ℕ → List Name → ℕ → ℕ → List ℕ
 step_rows s ns j i = steps_words (take i (chain_steps s ns j))
 
+-- i links are passed, with n operands, and the steps of those left are the ones behind the first i
+pub record Ahead (s : List ℕ) (ns : List Name) (j i n : ℕ) (it : Links) : Type 0 where
+  pub left : Left s it
+  pub few : n ≤ 255 * i
+  pub steps : steps_in s ns n (nodes_left it) ≡ drop i (chain_steps s ns j)
+
 module _ (s : List ℕ) (ns : List Name) (j : ℕ) where
-  pub left-starts : Left s ns j 0 0 max_depth j
+  pub ahead-begins : {it : Links} → Begun s it (links max_depth s j) → Ahead s ns j 0 0 it
   unfolding chain_steps
-  left-starts = refl
-
-  -- at least one step is left
-  record Next (i n left c : ℕ) : Type 0 where
-    rest : List Step
-    at : Split (chain_steps s ns j) i (step_as (step_rule s c) s ns c n) rest
-
-  next-step : (i n left c : ℕ) → 0 < left → Left s ns j i n left c → Next i n left c
-  next-step i n left c h e = by (goes_on s c) refl
-    where
-      by : (g : Bool) → goes_on s c ≡ g → Next i n left c
-      by true g = record { rest = _; at = split (chain_steps s ns j) i _ _ (sym e ∙ steps-more s ns n left c h g) }
-      by false g = record { rest = _; at = split (chain_steps s ns j) i _ _ (sym e ∙ steps-last s ns n left c h g) }
-
-  pub left-within : (i n left c : ℕ) → 0 < left → Left s ns j i n left c → i < link_count s j
-  left-within i n left c h e = omega (arith, (next-step i n left c h e).at.within, steps-length s ns j)
-
-  pub left-more :
-      (i n left c m d : ℕ) → 0 < left → goes_on s c ≡ true → m ≡ step_operands s c → d ≡ rest_of s c → Left s ns j i n left c
-      → Left s ns j (i + 1) (n + m) (left - 1) d
-  left-more i n left c m d h g p q e =
-      rw (add-one i, p, q) (sym (split (chain_steps s ns j) i _ _ (sym e ∙ steps-more s ns n left c h g)).behind)
+  ahead-begins b = record { left = b.left; few = omega arith; steps = ap (steps_in s ns 0) b.nodes }
 
   step-rows-length : (i : ℕ) → i ≤ link_count s j → length (step_rows s ns j i) ≡ step_width * i
   step-rows-length i h =
@@ -84,47 +69,52 @@ module _ (s : List ℕ) (ns : List Name) (j : ℕ) where
   unfolding steps_words
   words-one x = append-nil (step_words x)
 
-  pub step-next :
-      {x₀ x y : List ℕ} (i n left c : ℕ) (z : Step) (w : List ℕ) → length x₀ ≡ step_width * link_count s j → 0 < left
-      → Left s ns j i n left c
-      → z ≡ step_as (step_rule s c) s ns c n → w ≡ step_words z → y ≡ put_part x (step_width * i) step_width w
-      → Written x₀ x (step_rows s ns j i)
-      → Written x₀ y (step_rows s ns j (i + 1))
-  step-next i n left c z w e h l p q r v =
-      let t = (next-step i n left c h l).at in
-      let m = left-within i n left c h l in
-      let row : w ≡ step_words (step_as (step_rule s c) s ns c n) = q ∙ ap step_words p in
-      let more : step_rows s ns j (i + 1) ≡ step_rows s ns j i ++ w =
-      ap steps_words (ap (λ (k : ℕ). take k (chain_steps s ns j)) (add-one i) ∙ t.front)
-      ∙ steps-append (take i (chain_steps s ns j)) (step_as (step_rule s c) s ns c n ∷ [])
-      ∙ ap (λ (k : List ℕ). step_rows s ns j i ++ k) (words-one (step_as (step_rule s c) s ns c n) ∙ sym row) in
-      rw (r, more)
-      (written_next v (step_width * i) step_width w (step-rows-length i (omega arith)) (ap length q ∙ step-width z) (omega arith))
+  -- one link is next
+  module _ {i n : ℕ} {it t : Links} {p : Read} (h : Ahead s ns j i n it) (u : Turn s it p t) where
+    here : Split (chain_steps s ns j) i (step_as (step_rule s p.link) s ns p.link n)
+        (steps_in s ns (n + step_operands s p.link) (nodes_left t))
+    unfolding steps_in
+    here = split (chain_steps s ns j) i _ _ (sym h.steps ∙ ap (steps_in s ns n) u.nodes)
 
-  all_words :
-      {x₀ x : List ℕ} (i : ℕ) → length x₀ ≡ step_width * link_count s j → link_count s j ≤ i → Written x₀ x (step_rows s ns j i)
-      → x ≡ steps_words (chain_steps s ns j)
-  all_words i e h v =
-      let n = steps-length s ns j in
-      let all = ap steps_words (take_all i (chain_steps s ns j) (omega arith)) in
-      written_all v (ap length all ∙ Decode.steps-length (chain_steps s ns j) ∙ ap (λ (m : ℕ). step_width * m) n ∙ sym e) ∙ all
+    pub ahead-within : i < link_count s j
+    ahead-within = omega (arith, here.within, steps-length s ns j)
 
-  -- the last link is passed
-  pub step-last :
-      {x₀ x : List ℕ} (i n left c : ℕ) → length x₀ ≡ step_width * link_count s j → 0 < left → goes_on s c ≡ false → Left s ns j i n left c
-      → Written x₀ x (step_rows s ns j (i + 1)) → x ≡ steps_words (chain_steps s ns j)
-  step-last i n left c e h g l v =
-      let t = split (chain_steps s ns j) i _ _ (sym l ∙ steps-last s ns n left c h g) in
-      let k = ap length t.behind in
-      all_words (i + 1) e (omega (arith, length-drop (suc i) (chain_steps s ns j), steps-length s ns j)) v
+    pub ahead-goes : {w : ℕ} → w ≡ step_operands s p.link → Ahead s ns j (i + 1) (n + w) t
+    ahead-goes e = record {
+      left = u.left;
+      few = omega (arith, width_few s p.link, h.few, e);
+      steps = rw (add-one i, e) (sym here.behind);
+    }
+
+    -- their operands are few
+    pub ahead-few : {w : ℕ} → w ≡ step_operands s p.link → n + w ≤ 255 * max_depth
+    ahead-few e = omega (arith, width_few s p.link, h.few, e, ahead-within, links-most s j)
+
+    pub step-next :
+        {x₀ x y : List ℕ} (at : ℕ) (z : Step) (w : List ℕ) → length x₀ ≡ step_width * link_count s j
+        → z ≡ step_as (step_rule s p.link) s ns p.link n → w ≡ step_words z → at ≡ step_width * i → y ≡ put_part x at step_width w
+        → Written x₀ x (step_rows s ns j i)
+        → Written x₀ y (step_rows s ns j (i + 1))
+    step-next at z w e f q o r v =
+        let m = ahead-within in
+        let row : w ≡ step_words (step_as (step_rule s p.link) s ns p.link n) = q ∙ ap step_words f in
+        let more : step_rows s ns j (i + 1) ≡ step_rows s ns j i ++ w =
+        ap steps_words (ap (λ (k : ℕ). take k (chain_steps s ns j)) (add-one i) ∙ here.front)
+        ∙ steps-append (take i (chain_steps s ns j)) (step_as (step_rule s p.link) s ns p.link n ∷ [])
+        ∙ ap (λ (k : List ℕ). step_rows s ns j i ++ k) (words-one (step_as (step_rule s p.link) s ns p.link n) ∙ sym row) in
+        rw (r, more)
+        (written_next v at step_width w (step-rows-length i (omega arith) ∙ sym o) (ap length q ∙ step-width z) (omega arith))
 
   -- no link is left
   pub step-done :
-      {x₀ x : List ℕ} (i n left c : ℕ) → length x₀ ≡ step_width * link_count s j → left ≤ 0 → Left s ns j i n left c
+      {x₀ x : List ℕ} {i n : ℕ} {it : Links} → length x₀ ≡ step_width * link_count s j → Ahead s ns j i n it → nodes_left it ≡ []
       → Written x₀ x (step_rows s ns j i) → x ≡ steps_words (chain_steps s ns j)
-  step-done i n left c e h l v =
-      let k = ap length (sym l ∙ steps-done s ns n left c h) in
-      all_words i e (omega (arith, length-drop i (chain_steps s ns j), steps-length s ns j)) v
+  unfolding steps_in
+  step-done {i = i} {n = m} e h z v =
+      let n = steps-length s ns j in
+      let none = ap length (sym h.steps ∙ ap (steps_in s ns m) z) in
+      let all = ap steps_words (take_all i (chain_steps s ns j) (omega (arith, none, length-drop i (chain_steps s ns j)))) in
+      written_all v (ap length all ∙ Decode.steps-length (chain_steps s ns j) ∙ ap (λ (m : ℕ). step_width * m) n ∙ sym e) ∙ all
 
 -- where a name of link c stands
 pub named_by :

@@ -1,7 +1,7 @@
 // The sections of an image. Each function writes the whole of a part that is lent to it, of just the length that the section has.
 #![tactic(auto)]
 
-ghost use Rattle.std.specs.Prelude.{◌≡◌, [], ◌∷◌, map, ◌+◌, ◌*◌, ◌<◌, ◌≤◌, length};
+ghost use Rattle.std.specs.Prelude.{◌≡◌, map, ◌+◌, ◌*◌, ◌<◌, ◌≤◌, length};
 ghost use Rattle.sheet.specs.Node as nodes;
 ghost use Rattle.bytecode.specs.Chain.{chain_words};
 ghost use Rattle.lowering.specs.Limits.{sizes_words, const_width, name_width, chain_width, step_width};
@@ -17,21 +17,31 @@ ghost use Rattle.write_sections.specs.Put.{put_part};
 
 use bytecode::{Chain, Root, Step};
 use expr_chains::{chain_of, chain_words, link_count, root_of, step_of, step_words, width};
-use expr_rules::chains::{Read, StepRule, read_link};
+use expr_rules::chains::{Read, StepRule, links_of};
 use lowering::{CHAIN_WIDTH, CONST_WIDTH, NAME_WIDTH, SIZES, STEP_WIDTH};
 use scratch_index::Names;
 use scratch_keys::{mark_of, text_of};
 use scratch_locals::local_of;
 use sheet::kinds::VARIABLE;
-use sheet::limits::MAX_DEPTH;
 use sheet::{child, field_a, field_b, field_c, kind};
+
+// The words `w` in the place of as many.
+// Kept: no `copy_from_slice`, with which the archive asks for `memmove`: firmware may have `memcpy` alone.
+pub fn copy(out: &mut [u32], w: &[u32])
+    requires { length out.old ≡ length w.now }
+    ensures { out.new ≡ w.now }
+{
+    for i in 0..w.len() {
+        out[i] = w[i];
+    }
+}
 
 // The twelve sizes.
 pub fn sizes(out: &mut [u32], n: [u32; SIZES])
     requires { length out.old ≡ sizes_words }
     ensures { out.new ≡ n }
 {
-    out.copy_from_slice(&n);
+    copy(out, &n);
 }
 
 // The words `w` from `at` on.
@@ -40,33 +50,18 @@ pub fn put<const N: usize>(out: &mut [u32], at: usize, w: [u32; N])
     ensures { out.new ≡ put_part out.old at N w.entry }
 {
     let e = at + N;
-    out[at..e].copy_from_slice(&w);
+    copy(&mut out[at..e], &w);
 }
 
-// Two words from `at` on.
-pub fn put_two(out: &mut [u32], at: usize, x: u32, y: u32)
-    requires { at + 2 ≤ length out.old }
-    ensures { out.new ≡ put_part out.old at 2 (x ∷ y ∷ []) }
-{
-    put(out, at, [x, y]);
-}
-
-// Six words from `at` on.
-pub fn put_six(out: &mut [u32], at: usize, w: [u32; 6])
-    requires { at + 6 ≤ length out.old }
-    ensures { out.new ≡ put_part out.old at 6 w }
-{
-    put(out, at, w);
-}
-
+// Kept: sheet, part and keys are three parameters of the next three. Each is the `write` of a Rows of
+// write_front, whose self has the sheet.
 // The constants of the nodes `ks`.
 pub fn consts(sheet: &[u8], out: &mut [u32], ks: &[u32])
     requires { length out.old ≡ const_width * length ks.now }
     ensures { out.new ≡ section const_words (map (const_of sheet.now) ks.now) }
 {
-    for i in 0..ks.len() {
-        let j = ks[i];
-        let row = [kind(sheet, j), field_a(sheet, j), field_b(sheet, j)];
+    for (i, j) in ks.iter().enumerate() {
+        let row = [kind(sheet, *j), field_a(sheet, *j), field_b(sheet, *j)];
         put(out, CONST_WIDTH * i, row);
     }
 }
@@ -76,9 +71,8 @@ pub fn names(sheet: &[u8], out: &mut [u32], ks: &[u32])
     requires { length out.old ≡ name_width * length ks.now }
     ensures { out.new ≡ section name_words (map (name_of sheet.now) ks.now) }
 {
-    for i in 0..ks.len() {
-        let k = ks[i];
-        let row = [text_of(sheet, k), mark_of(sheet, k)];
+    for (i, k) in ks.iter().enumerate() {
+        let row = [text_of(sheet, *k), mark_of(sheet, *k)];
         put(out, NAME_WIDTH * i, row);
     }
 }
@@ -88,8 +82,8 @@ pub fn tokens(sheet: &[u8], out: &mut [u32], ks: &[u32])
     requires { length out.old ≡ length ks.now }
     ensures { out.new ≡ map (nodes.field_c sheet.now) ks.now }
 {
-    for i in 0..ks.len() {
-        out[i] = field_c(sheet, ks[i]);
+    for (i, k) in ks.iter().enumerate() {
+        out[i] = field_c(sheet, *k);
     }
 }
 
@@ -124,38 +118,37 @@ pub fn chains(names: &Names, out: &mut [u32], js: &[u32])
         → out.new ≡ section chain_words (chains.chains_from sheet (names_held sheet it.layout it.count words) 0 js.now)) }
 {
     let mut first: u32 = 0;
-    for i in 0..js.len() {
-        let j = js[i];
-        let c = chain_at(names, j, first);
+    for (i, j) in js.iter().enumerate() {
+        let c = chain_at(names, *j, first);
         put(out, CHAIN_WIDTH * i, chain_words(c));
         first += c.steps;
     }
 }
 
-// The step of link `c`, which says `p`, with `k` operands before it. Places are looked for only where the step has names.
-fn step_at(names: &Names, c: u32, p: Read, k: u32) -> Step
+// The step of a link, which says `p`, with `k` operands before it. Places are looked for only where the step has names.
+fn step_at(names: &Names, p: Read, k: u32) -> Step
     ensures { let it = names.now in
         let sheet = it.sheet.now in
         let words = it.scratch.now in
-        (Reads sheet c p → NamesHold sheet it.layout it.count words
-        → result ≡ chains.step_as (flatten.step_rule sheet c) sheet (names_held sheet it.layout it.count words) c k) }
+        (Reads sheet p.link p → NamesHold sheet it.layout it.count words
+        → result ≡ chains.step_as (flatten.step_rule sheet p.link) sheet (names_held sheet it.layout it.count words) p.link k) }
 {
     let sheet = names.sheet;
-    let r = p.rule;
     let o = p.with;
-    match r {
-        StepRule::Index => step_of(sheet, c, p, k, 0, 0, 0),
+    // Kept: what differs by the step is how many names it has, which the arms say; closures would be made here for this one call. 0 stands
+    // for a name that the step has not: `step_of` does not look at it, and with an Option would have an arm for it.
+    match p.rule {
+        StepRule::Index => step_of(sheet, p, k, 0, 0, 0),
         StepRule::Property => step_of(
             sheet,
-            c,
             p,
             k,
             names.place(field_a(sheet, o)),
             names.place(field_b(sheet, o)),
             names.place(field_c(sheet, o)),
         ),
-        StepRule::Method => step_of(sheet, c, p, k, names.place(field_a(sheet, o)), 0, 0),
-        StepRule::Nothing => step_of(sheet, c, p, k, 0, 0, 0),
+        StepRule::Method => step_of(sheet, p, k, names.place(field_a(sheet, o)), 0, 0),
+        StepRule::Nothing => step_of(sheet, p, k, 0, 0, 0),
     }
 }
 
@@ -165,18 +158,12 @@ fn chain_steps(names: &Names, out: &mut [u32], j: u32)
     ensures { let it = names.now in let sheet = it.sheet.now in let words = it.scratch.now in (NamesHold sheet it.layout it.count words
         → out.new ≡ steps_words (chains.chain_steps sheet (names_held sheet it.layout it.count words) j)) }
 {
-    let mut c = j;
+    let mut at = 0;
     let mut k: u32 = 0;
-    for i in 0..MAX_DEPTH {
-        let p = read_link(names.sheet, c);
-        let w = step_at(names, c, p, k);
-        put(out, STEP_WIDTH * (i as usize), step_words(w));
+    for p in links_of(names.sheet, j) {
+        put(out, at, step_words(step_at(names, p, k)));
+        at += STEP_WIDTH;
         k += width(names.sheet, p);
-        if p.on {
-            c = p.rest;
-        } else {
-            return;
-        }
     }
 }
 
@@ -187,13 +174,12 @@ pub fn steps(names: &Names, out: &mut [u32], js: &[u32])
         → out.new ≡ steps_words (chains.steps_from sheet (names_held sheet it.layout it.count words) js.now)) }
 {
     let mut at = 0;
-    for i in 0..js.len() {
-        let j = js[i];
-        let e = at + STEP_WIDTH * (link_count(names.sheet, j) as usize);
+    for j in js {
+        let e = at + STEP_WIDTH * (link_count(names.sheet, *j) as usize);
         if out.len() < e {
             return;
         }
-        chain_steps(names, &mut out[at..e], j);
+        chain_steps(names, &mut out[at..e], *j);
         at = e;
     }
 }

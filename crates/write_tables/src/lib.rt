@@ -10,21 +10,16 @@ ghost use Rattle.lowering.specs.Image.{section};
 ghost use Rattle.write_rows.specs.TableRows.{rows_to, tables_of, table_count, case_words_in, range_words_in};
 ghost use Rattle.write_front.specs.Puts.{Puts};
 
-use lowering::{CASE_WIDTH, MAX_BANDS, RANGE_WIDTH, SWITCH_WIDTH};
-use sheet::limits::MAX_ENTRIES;
+use lowering::{CASE_WIDTH, RANGE_WIDTH, SWITCH_WIDTH};
+use switch_tables::{ENTRIES, MOST_BANDS};
 use write_front::beyond;
 use write_rows::{case_rows, range_rows, switch_rows};
-
-// How many cases and how many bands there may be.
-const CASES: usize = MAX_ENTRIES as usize;
-
-const RUNS: usize = MAX_BANDS as usize;
 
 // How many tables there are, with `ranges` rows of ranges.
 pub fn table_count(ranges: u32) -> u32
     ensures { result ≡ table_count ranges }
 {
-    if 0 < ranges { 2 } else { 1 }
+    1 + ranges.min(1)
 }
 
 // A section of so many words at its place, as `write` writes it.
@@ -67,7 +62,7 @@ pub fn put_cases(image: &mut [u32], at: usize, flat: &[u32], n: usize) -> usize
     ensures { n ≤ max_entries → Puts image.old image.new at result
         (rows_to (case_words_in flat.now) n) }
 {
-    if CASES < n {
+    if ENTRIES < n {
         return at;
     }
     put_section(image, at, CASE_WIDTH * n, |part| case_rows(part, flat, n))
@@ -78,7 +73,7 @@ pub fn put_ranges(image: &mut [u32], at: usize, flat: &[u32], n: usize) -> usize
     ensures { n ≤ max_bands → Puts image.old image.new at result
         (rows_to (range_words_in flat.now) n) }
 {
-    if RUNS < n {
+    if MOST_BANDS < n {
         return at;
     }
     put_section(image, at, RANGE_WIDTH * n, |part| range_rows(part, flat, n))

@@ -2,18 +2,23 @@
 use mathlib.Core.Path.{sym, ◌∙◌}
 use Prim.Native.Nat.{◌-◌}
 use Rattle.sheet.proofs.SiblingLaws.{list_all-siblings, walk-goes, walk-stops, walk-ends}
-use Rattle.check_depth.proofs.DepthLaws.{within_none, within-some}
+use Rattle.check_depth.proofs.DepthLaws.{within_none, within_leaf, within-some}
 use Rattle.check_depth.specs.Depth as depths
 use Rattle.check_depth.proofs.+within.Goals as goal
 
 pub returns-then-left-eq0 : goal.returns-then-left-eq0
 returns-then-left-eq0 t c = let a = c.args in sym (within_none a.left a.sheet.now a.n c.if-left-eq0.true)
 
+pub returns-then-m-eq0 : goal.returns-then-m-eq0
+returns-then-m-eq0 t c =
+    let a = c.args in
+    sym (within_leaf a.left a.sheet.now a.n c.if-left-eq0.false (sym c.count-m.ensures ∙ c.if-m-eq0.true))
+
 pub loop-j-init : goal.loop-j-init
 loop-j-init t c =
     let a = c.args in
     cc (
-      list_all-siblings (depths.within (a.left - 1) a.sheet.now) a.sheet.now c.count.result c.child.result,
+      list_all-siblings (depths.within (a.left - 1) a.sheet.now) a.sheet.now c.count-m.result c.child.result,
       within-some a.left a.sheet.now a.n c.if-left-eq0.false,
     )
 

@@ -1,5 +1,7 @@
 -- `check_pass::limits` meets its contract: the stores make the table of the definition.
+use Rattle.check_pass.proofs.LimitLaws.{limits-read}
 use Rattle.check_pass.proofs.limits.Goals as goal
 
 pub returns : goal.returns
-returns c = cc
+returns c =
+    limits-read c.args.x c.args.blocks c.none.ensures c.any_of-most.ensures c.last-text.ensures c.none-none.ensures c.last-block.ensures

@@ -1,20 +1,16 @@
 -- `check_pass::own_ok` meets its contract.
 use mathlib.Core.Path.{sym, ◌∙◌}
 use mathlib.Core.Bool.{false≢true}
-use Rattle.check_pass.proofs.WordLaws.{own-char, own-call, own-other}
+use Rattle.check_pass.proofs.WordLaws.{own-char, own-other}
 use Rattle.check_pass.proofs.own_ok.Goals as goal
 
-pub returns-then-k-eq-CHAR : goal.returns-then-k-eq-CHAR
-returns-then-k-eq-CHAR c h =
-    own-char _ _ _ _ _ _ _ (c.row_ok.ensures c.if-row_ok.true) c.if-k-eq-CHAR.true (sym c.scalar.ensures ∙ h)
-
-pub returns-then-k-m : goal.returns-then-k-m
-returns-then-k-m c h =
-    own-call _ _ _ _ _ _ _ (c.row_ok.ensures c.if-row_ok.true) c.if-k-eq-CHAR.false c.named_ok.ensures h
+pub returns-then-v-eq-CHAR : goal.returns-then-v-eq-CHAR
+returns-then-v-eq-CHAR c h =
+    own-char _ _ _ _ _ _ _ (c.row_ok.ensures c.if-row_ok.true) c.if-v-eq-CHAR.true (sym c.scalar.ensures ∙ h)
 
 pub returns-then-row_ok : goal.returns-then-row_ok
 returns-then-row_ok c h =
-    own-other _ _ _ _ _ _ _ (c.row_ok.ensures c.if-row_ok.true) c.if-k-eq-CHAR.false c.if-k-m.false
+    own-other _ _ _ _ _ _ _ (c.row_ok.ensures c.if-row_ok.true) c.if-v-eq-CHAR.false (c.call_ok.ensures h)
 
 pub returns : goal.returns
 returns c h = absurd (false≢true h)

@@ -5,5 +5,5 @@ use Rattle.check_shape.proofs.within_bounds.Goals as goal
 pub returns : goal.returns
 returns c =
     let v = c.args.v in
-    bounds-read v.kind v.count v.a v.b v.c c.bound-least.ensures c.bound-most.ensures c.bound-most_a.ensures
-    c.bound-most_b.ensures c.bound-most_c.ensures
+    let may = c.bounds_of.ensures in
+    bounds-read v.kind v.count v.a v.b v.c may.least may.most may.a may.b may.c c.hold.ensures

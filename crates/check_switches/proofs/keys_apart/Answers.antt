@@ -3,7 +3,7 @@ use borrow.Author.Rules.{rules}
 use native.Mathlib.Omega.{arith}
 use mathlib.Core.Path.{refl}
 use mathlib.Core.Bool.{false≢true}
-use Rattle.check_switches.proofs.KeyLaws.{keys-start, keys_step, keys-end, not-among}
+use Rattle.check_switches.proofs.KeyLaws.{keys-start, keys_step, keys-end}
 use Rattle.check_switches.proofs.keys_apart.Goals as goal
 
 pub returns-then-m-lt6 : goal.returns-then-m-lt6
@@ -12,8 +12,8 @@ returns-then-m-lt6 c = λ e. absurd (false≢true e)
 pub returns-then-m-gt64 : goal.returns-then-m-gt64
 returns-then-m-gt64 c = λ e. absurd (false≢true e)
 
-pub returns-then-contains : goal.returns-then-contains
-returns-then-contains c = λ e. absurd (false≢true e)
+pub returns-then-among : goal.returns-then-among
+returns-then-among c = λ e. absurd (false≢true e)
 
 pub loop-n-init : goal.loop-n-init
 loop-n-init c =
@@ -27,7 +27,7 @@ loop-n-preserved c =
       w.invariant.0,
       search rules,
       keys_step a.sheet.now a.at w.invariant.2 (omega arith) c.child.ensures c.value_key-key.ensures c.next-j.ensures
-          (not-among _ _ _ c.contains.ensures.cases c.if-contains.false),
+          (c.among.ensures c.if-among.false),
     )
 
 pub returns : goal.returns

@@ -1,9 +1,8 @@
 -- `expr_chains::far_of` meets its contract. Invariant: what is told of the links passed, with those left, tells of all.
-use mathlib.Core.Path.{ap, ◌∙◌, refl}
+use mathlib.Core.Path.{ap, ◌∙◌}
 use native.Mathlib.Omega.{arith}
-use Rattle.lowering.specs.Flatten.{has_step}
 use Rattle.expr_rules.specs.Links.{links_left}
-use Rattle.expr_rules.proofs.ReadsLaws.{rule_told}
+use Rattle.expr_chains.proofs.TestLaws.{some-step}
 use Rattle.expr_rules.proofs.LinksLaws.{links-begin, links-turn, links-over}
 use Rattle.expr_chains.proofs.WalkedLaws.{few-operands, far-begins, far-goes, far-ends}
 use Rattle.expr_chains.proofs.far_of.Goals as goal
@@ -21,7 +20,7 @@ pub loop-p-preserved : goal.loop-p-preserved
 loop-p-preserved c =
     let r = c.loop-p.invariant in
     let u = links-turn c.next.new.self r.left c.in-Some.ensures.steps in
-    far-goes r u (c.has_step-flattens.ensures ∙ ap has_step (rule_told u.says refl)) (c.step_lowers-lowers.ensures _ u.says)
+    far-goes r u (some-step u.says c.ne-flattens.ensures) (c.step_lowers-lowers.ensures _ u.says)
     (c.width-operands.ensures _ u.says)
 
 pub returns : goal.returns

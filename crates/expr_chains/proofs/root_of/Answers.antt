@@ -3,7 +3,7 @@ use mathlib.Core.Path.{ap, ap₂, sym, ◌∙◌}
 use Rattle.bytecode.specs.declared.Root.TheVariants.{This}
 use Rattle.expr_chains.specs.Variable.{variable_by}
 use Rattle.expr_chains.proofs.RootLaws.{root-this, root-other}
-use Rattle.expr_chains.proofs.WayLaws.{root-variable}
+use Rattle.expr_chains.proofs.VariableLaws.{root-variable}
 use Rattle.expr_chains.proofs.root_of.Goals as goal
 
 pub returns-then-k-eq-VARIABLE : goal.returns-then-k-eq-VARIABLE

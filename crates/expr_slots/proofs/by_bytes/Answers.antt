@@ -1,38 +1,17 @@
--- `expr_slots::by_bytes` meets its contract. Invariant: the answer among the locals left is the answer among all.
-use mathlib.Core.Path.{sym, ap, ◌∙◌}
-use Rattle.text.specs.Same.{same}
-use Rattle.sheet.specs.Text.{text}
-use Rattle.expr_slots.proofs.SlotLaws.{search-starts, search-finds, search-passes, search-ends}
+-- `expr_slots::by_bytes` meets its contract: the locals from the last one on.
+use Rattle.std.proofs.Common.{rules}
+use borrow.Author.Tests.{tests}
+use mathlib.Core.Path.{ap, ◌∙◌}
+use Rattle.lowering.specs.Slots.{resolve_below, resolve}
+use Rattle.expr_slots.specs.Found.{found}
+use Rattle.expr_slots.proofs.LastLaws.{test, found-down, last-found}
 use Rattle.expr_slots.proofs.by_bytes.Goals as goal
 
-pub loop-left-init : goal.loop-left-init
-loop-left-init c =
-    let a = c.args in
-    cc (search-starts a.sheet.now a.name.now)
-
-pub returns-then-same_bytes : goal.returns-then-same_bytes
-returns-then-same_bytes c =
-    let w = c.loop-left in
-    let a = c.args in
-    let s = a.sheet.now in
-    let name-is = c.text.ensures ∙ ap (text s) c.local_text.ensures in
-    let same-is = c.same_bytes.ensures ∙ ap (λ x. same x a.name.now) name-is in
-    sym
-    (sym w.invariant
-    ∙ search-finds s a.name.now w.left c.loop-left-test.true
-    (sym same-is ∙ c.if-same_bytes.true))
-
-pub loop-left-preserved : goal.loop-left-preserved
-loop-left-preserved c =
-    let w = c.loop-left in
-    let a = c.args in
-    let s = a.sheet.now in
-    let name-is = c.text.ensures ∙ ap (text s) c.local_text.ensures in
-    let same-is = c.same_bytes.ensures ∙ ap (λ x. same x a.name.now) name-is in
-    sym (search-passes s a.name.now w.left c.loop-left-test.true (sym same-is ∙ c.if-same_bytes.false)) ∙ w.invariant
-
 pub returns : goal.returns
+unfolding resolve
 returns c =
-    let w = c.loop-left in
-    let a = c.args in
-    sym (sym w.invariant ∙ search-ends a.sheet.now a.name.now w.left c.loop-left-test.false)
+    let s = c.args.sheet.now in
+    let name = c.args.name.now in
+    found-down (test s name) _ _ _ _ c.find.ensures.ran c.rev.ensures.source (λ x b q k. search (rules, tests))
+    ∙ last-found s name c.local_count.result
+    ∙ ap (λ n. found (resolve_below n s name)) c.local_count.ensures

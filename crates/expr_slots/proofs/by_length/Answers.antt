@@ -1,53 +1,27 @@
--- `expr_slots::by_length` meets its contract. Invariant: the answer among the locals left is the answer among all.
-use Prim.Native.Nat.{◌-◌}
-use mathlib.Core.Path.{sym, ◌∙◌}
-use Rattle.expr_slots.proofs.SlotLaws.{search-starts, search-finds, search-passes, search-ends}
-use Rattle.expr_slots.proofs.LengthLaws.{equal-length, other_length}
+-- `expr_slots::by_length` meets its contract: the locals from the last one on.
+use Rattle.std.proofs.Common.{rules}
+use Rattle.std.proofs.iter.Serving.{serving}
+use mathlib.Core.Path.{ap, ◌∙◌}
+use Rattle.lowering.specs.Slots.{resolve_below, resolve}
+use Rattle.expr_slots.specs.Found.{found}
+use Rattle.expr_slots.proofs.LengthLaws.{named-is, some-length}
+use Rattle.expr_slots.proofs.LastLaws.{test, found-down, last-found}
 use Rattle.expr_slots.proofs.by_length.Goals as goal
 
-pub loop-left-init : goal.loop-left-init
-loop-left-init c =
-    let a = c.args in
-    cc (search-starts a.sheet.now a.name.now)
-
-pub returns-then-same_part : goal.returns-then-same_part
-returns-then-same_part c =
-    let w = c.loop-left in
-    let a = c.args in
-    let s = a.sheet.now in
-    let name = a.name.now in
-    let same-is =
-    equal-length s name a.t (w.left - 1) c.requires.0 c.requires.1 c.text_length-n.ensures
-    c.lengths_at-lengths.ensures.0 c.locals_at-locals.ensures.0 c.word_at-k.ensures c.word_at.ensures
-    c.if-word_at-n.true c.bytes_at-bytes.ensures.0 c.text_start.ensures c.same_part.ensures in
-    sym (sym w.invariant ∙ search-finds s name w.left c.loop-left-test.true (sym same-is ∙ c.if-same_part.true))
-
-pub loop-left-preserved-else-same_part : goal.loop-left-preserved-else-same_part
-loop-left-preserved-else-same_part c =
-    let w = c.loop-left in
-    let a = c.args in
-    let s = a.sheet.now in
-    let name = a.name.now in
-    let same-is =
-    equal-length s name a.t (w.left - 1) c.requires.0 c.requires.1 c.text_length-n.ensures
-    c.lengths_at-lengths.ensures.0 c.locals_at-locals.ensures.0 c.word_at-k.ensures c.word_at.ensures
-    c.if-word_at-n.true c.bytes_at-bytes.ensures.0 c.text_start.ensures c.same_part.ensures in
-    sym (search-passes s name w.left c.loop-left-test.true (sym same-is ∙ c.if-same_part.false)) ∙ w.invariant
-
-pub loop-left-preserved : goal.loop-left-preserved
-loop-left-preserved c =
-    let w = c.loop-left in
-    let a = c.args in
-    let s = a.sheet.now in
-    let name = a.name.now in
-    let other =
-    other_length s name a.t (w.left - 1) c.requires.0 c.requires.1 c.text_length-n.ensures
-    c.lengths_at-lengths.ensures.0 c.locals_at-locals.ensures.0 c.word_at-k.ensures c.word_at.ensures
-    c.if-word_at-n.false in
-    sym (search-passes s name w.left c.loop-left-test.true other) ∙ w.invariant
+pub find-requires-clause-callable : goal.find-requires-clause-callable
+find-requires-clause-callable c =
+    let some = some-length c.args.sheet.now c.args.name.now c.args.t c.requires.0 c.requires.1 c.text_length-n.ensures in
+    search (rules, serving)
 
 pub returns : goal.returns
+unfolding resolve
 returns c =
-    let w = c.loop-left in
-    let a = c.args in
-    sym (sym w.invariant ∙ search-ends a.sheet.now a.name.now w.left c.loop-left-test.false)
+    let s = c.args.sheet.now in
+    let name = c.args.name.now in
+    found-down (test s name) _ _ _ _ c.find.ensures.ran c.rev.ensures.source
+    (λ x b q k.
+    let is = named-is s name c.args.t x c.requires.0 c.requires.1 c.text_length-n.ensures c.lengths_at-lengths.ensures.0
+    c.locals_at-locals.ensures.0 c.bytes_at.ensures.0 in
+    search rules)
+    ∙ last-found s name c.local_count.result
+    ∙ ap (λ n. found (resolve_below n s name)) c.local_count.ensures

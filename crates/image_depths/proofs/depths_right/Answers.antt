@@ -1,24 +1,36 @@
 -- `image_depths::depths_right` meets its contract.
+use mathlib.Core.Path.{ap, ◌∙◌}
 use native.Mathlib.Omega.{arith}
+use lib.ListN.{length}
+use Rattle.image_rule.specs.Marks.{mark, marks_there, marked, marks_right}
+use Rattle.image_depths.specs.Checked.{Checked}
 use Rattle.image_depths.proofs.CheckLaws.{room, marked-right, marked-wrong}
 use Rattle.image_depths.proofs.depths_right.Goals as goal
 
-pub returns-then-mark_all : goal.returns-then-mark_all
-returns-then-mark_all c =
-    let a = c.args in
+pub returns-then-scratch-there : goal.returns-then-scratch-there
+returns-then-scratch-there c =
+    let there = c.marks_there-there.ensures ∙ ap marks_there c.of-image.ensures in
+    λ K e. absurd (omega (arith, room c.args.image.now K, e, there, c.if-scratch-there.true))
+
+pub returns-then-not-mark_all : goal.returns-then-not-mark_all
+returns-then-not-mark_all c =
+    let same = c.of-image.ensures in
+    let image = c.of-image.result in
     λ K e.
-    let P = c.starts_of-o.ensures in
-    let fits = room a.image.now K in
-    let M = c.mark_all.ensures P K.named K.pooled (omega (arith, fits, e)) in
-    let C = c.count_runs.ensures P in
-    let R = C.runs (omega (arith, fits, e, c.mark_all.auto.scratch)) in
-    marked-right a.image.now _ _ _ _ M c.if-mark_all.true C (c.marks_right.ensures P K.pooled R)
+    let K' : Checked image.words.now = rw same K in
+    let M = c.mark_all.ensures K'.named K'.pooled (c.split_at_mut-found.ensures.front_len ∙ c.marks_there-there.ensures) in
+    marked-wrong image.words.now _ _ K' (omega (arith, image.sized.places)) M c.if-not-mark_all.true
+    ∙ ap (λ w. marks_right w (marked w (marks_there w) (mark w 0))) same
 
 pub returns : goal.returns
 returns c =
-    let a = c.args in
+    let same = c.of-image.ensures in
+    let image = c.of-image.result in
+    let parts = c.split_at_mut-found.ensures in
     λ K e.
-    let P = c.starts_of-o.ensures in
-    let fits = room a.image.now K in
-    let M = c.mark_all.ensures P K.named K.pooled (omega (arith, fits, e)) in
-    marked-wrong a.image.now _ _ K (omega (arith, P.places, c.starts_of-o.type_inv)) M c.if-mark_all.false
+    let K' : Checked image.words.now = rw same K in
+    let M = c.mark_all.ensures K'.named K'.pooled (parts.front_len ∙ c.marks_there-there.ensures) in
+    let fits = room image.words.now K' in
+    let R = c.count_runs.ensures (omega (arith, fits, e, ap length same, parts.back_len, c.marks_there-there.ensures, c.mark_all.auto.rows)) in
+    marked-right image.words.now _ _ _ M c.if-not-mark_all.false (c.marks_right.ensures K'.pooled R)
+    ∙ ap (λ w. marks_right w (marked w (marks_there w) (mark w 0))) same

@@ -1,20 +1,11 @@
 -- `image_depths::marks_right` meets its contract.
-use mathlib.Core.Path.{ap, ◌∙◌}
-use lib.ListN.{take}
-use Rattle.image_rule.specs.Marks as marks
-use Rattle.image_rows.specs.Scratch.{marks_of}
-use Rattle.image_rows.proofs.ScratchLaws.{size_is}
-use Prim.Native.Nat.{ℕ}
+use mathlib.Core.Path.{◌∙◌}
 use Rattle.image_depths.proofs.CheckLaws.{marks-by}
-use Rattle.image_depths.proofs.MarkLaws.{place-mark}
 use Rattle.image_depths.proofs.marks_right.Goals as goal
 
 pub returns : goal.returns
 returns c =
     let a = c.args in
-    let size = c.marks_there-size.ensures.value in
-    λ P Q R.
-    marks-by a.image.now (marks_of a.image.now a.scratch.now) _ _ _ _ _ _ P.places c.word_of.ensures
-    (c.places_right-places.ensures P) (c.tables_right-tables.ensures P Q R)
-    (place-mark a.image.now a.o _ _ _ a.scratch.now size c.mark_of.ensures P)
-    (c.most.ensures ∙ ap (λ (n : ℕ). marks.most (take n a.scratch.now) a.o.places) (size_is a.image.now a.o _ size P))
+    λ Q R.
+    marks-by a.image.now.words.now a.found.now _ _ _ _ _ _ a.image.now.sized.places (c.from-d.ensures ∙ c.word_of.ensures)
+    c.places_right.ensures (c.tables_right.ensures Q R) c.word_of-2.ensures (c.from.ensures ∙ c.most.ensures)

@@ -1,12 +1,15 @@
--- `image_depths::most` meets its contract. Invariant: x is the greatest of the marks 0 to i.
-use Rattle.image_depths.proofs.CheckLaws.{most-none, most-more, most-done}
+-- `image_depths::most` meets its contract: it is a fold of the marks.
+use Prim.Native.Nat.{◌+◌, max}
+use mathlib.Core.Path.{◌∙◌}
+use Rattle.std.proofs.Common.{rules, tests}
+use Rattle.std.proofs.lemmas.Iterator.{YieldsList-from_slice, YieldsList-from_take}
+use Rattle.std.proofs.lemmas.Iterator.Consumers.{fold_from_yields_List}
+use Rattle.image_depths.proofs.CheckLaws.{most-fold}
 use Rattle.image_depths.proofs.most.Goals as goal
 
-pub loop-i-init : goal.loop-i-init
-loop-i-init c = most-none _ _ c.mark_of-x.ensures
-
-pub loop-i-preserved : goal.loop-i-preserved
-loop-i-preserved c = most-more _ _ _ _ _ c.loop-i.invariant c.mark_of.ensures c.max-x.ensures
-
 pub returns : goal.returns
-returns c = most-done _ _ _ _ c.loop-i.auto.i-end c.loop-i-test.false c.loop-i.invariant
+returns c =
+    let l = c.args.found.now in
+    let n = c.args.n in
+    fold_from_yields_List _ max 0 _ c.fold.ensures.ran (YieldsList-from_take (n + 1) (YieldsList-from_slice l (cc)) (cc))
+    (λ a x b q k. search (rules, tests)) ∙ most-fold l n

@@ -11,12 +11,12 @@ pub returns-in-Operands-clause-value : goal.returns-in-Operands-clause-value
 unfolding popped count_of
 returns-in-Operands-clause-value c =
     let a = c.args in
-    λ P. c.chain_takes.ensures.value P ∙ ap (λ t. popped (count_of t) a.a a.b (chain_takes a.image.now a.a)) (sym c.in-Operands.is)
+    c.chain_takes.ensures.value ∙ ap (λ t. popped (count_of t) a.a a.b (chain_takes a.image.now.words.now a.a)) (sym c.in-Operands.is)
 
 pub returns-in-Nothing : goal.returns-in-Nothing
 returns-in-Nothing c =
     let a = c.args in
     let small = popped-small (count_of a.top) a.a a.b (omega (arith, c.ranges.a)) in record {
-      value = λ P. c.popped.ensures ∙ popped-rest a.top a.a a.b _ c.in-Nothing.is;
+      value = c.popped.ensures ∙ popped-rest a.top a.a a.b _ c.in-Nothing.is;
       small = omega (arith, small, c.popped.ensures);
     }

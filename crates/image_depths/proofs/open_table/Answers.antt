@@ -1,16 +1,13 @@
 -- `image_depths::open_table` meets its contract.
-use Rattle.image_depths.proofs.MarkLaws.{opened-old, opened-new}
+use Rattle.image_depths.proofs.MarkLaws.{open-switch, open-none}
 use Rattle.image_depths.proofs.open_table.Goals as goal
 
-pub returns-then-mark_of-ne0 : goal.returns-then-mark_of-ne0
-returns-then-mark_of-ne0 c =
+pub returns-in-Table : goal.returns-in-Table
+returns-in-Table c =
     let a = c.args in
-    λ P Q p. opened-old a.image.now a.o a.m a.i _ _ a.scratch.now c.marks_there-size.ensures.value
-    c.mark_of.ensures c.if-mark_of-ne0.true P
+    λ p. open-switch a.image.now.words.now a.c p a.m _ _ _ _ c.in-Table.is c.enter.ensures
 
-pub returns : goal.returns
-returns c =
+pub returns-in-Branch : goal.returns-in-Branch
+returns-in-Branch c =
     let a = c.args in
-    opened-new a.image.now a.o a.m a.i _ _ a.scratch.now c.marks_there-size.ensures.value c.mark_of.ensures
-    _ _ _ _
-    c.if-mark_of-ne0.false c.come_rows.ensures c.table_word-d.ensures c.come.ensures c.come-2.ensures
+    λ p R Q h. open-none a.image.now.words.now a.c p a.m _ _ c.in-Branch.is R

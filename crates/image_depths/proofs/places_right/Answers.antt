@@ -1,25 +1,17 @@
--- `image_depths::places_right` meets its contract. Invariant: the places below p are right.
-use mathlib.Core.Path.{sym, ◌∙◌}
-use Rattle.words.proofs.CountLaws.{all_none, all_more}
-use Rattle.image_rows.specs.Scratch.{marks_of}
-use Rattle.image_depths.proofs.CheckLaws.{places-fail, places-done}
+-- `image_depths::places_right` meets its contract: every place is looked at.
+use Rattle.std.proofs.Common.{rules}
+use borrow.Author.Tests.{tests}
+use mathlib.Core.Path.{refl, ap, ◌∙◌}
+use Rattle.words.specs.Count.{all_below}
+use Rattle.words.proofs.RangeLaws.{all_below-range}
+use Rattle.image_rule.specs.Marks.{mark, place_by}
+use Rattle.image_depths.specs.Passing.{places_right}
 use Rattle.image_depths.proofs.places_right.Goals as goal
 
-pub loop-p-init : goal.loop-p-init
-loop-p-init c = λ P. all_none _
-
-pub loop-p-preserved : goal.loop-p-preserved
-loop-p-preserved c = λ P. all_more _ _ (c.loop-p.invariant P) (sym (c.place_right.ensures P) ∙ c.if-not-place_right.false)
-
-pub returns-then-not-place_right : goal.returns-then-not-place_right
-returns-then-not-place_right c =
-    let a = c.args in
-    λ P.
-    places-fail a.image.now (marks_of a.image.now a.scratch.now) _ _ _ P.places c.loop-p-test.true
-    (c.place_right.ensures P) c.if-not-place_right.true
-
 pub returns : goal.returns
+unfolding places_right
 returns c =
-    let a = c.args in
-    λ P. places-done a.image.now (marks_of a.image.now a.scratch.now) _ _ P.places c.loop-p.auto.p-end c.loop-p-test.false
-    (c.loop-p.invariant P)
+    let w = c.args.image.now.words.now in
+    let l = c.args.found.now in
+    all_below-range (λ p. place_by (mark l p) w l p) _ _ _ _ c.all.ensures.ran refl (λ x b q k. search (rules, tests))
+    ∙ ap (λ n. all_below n (λ p. place_by (mark l p) w l p)) c.args.image.now.sized.places

@@ -1,32 +1,20 @@
--- `image_depths::tables_right` meets its contract. Invariant: the tables below i are right.
-use mathlib.Core.Path.{sym, ◌∙◌}
+-- `image_depths::tables_right` meets its contract: every table is looked at.
+use Rattle.std.proofs.Common.{rules}
+use borrow.Author.Tests.{tests}
+use mathlib.Core.Path.{refl, ap, ◌∙◌}
 use native.Mathlib.Omega.{arith}
-use Rattle.words.proofs.CountLaws.{all_none, all_more}
-use Rattle.image_rows.specs.Scratch.{marks_of}
-use Rattle.image_depths.proofs.CheckLaws.{tables-fail, tables-done}
+use Rattle.words.specs.Count.{all_below}
+use Rattle.image_rule.specs.Marks.{mark, table_by, table_node}
+use Rattle.image_read.proofs.BelowLaws.{all_below-under}
+use Rattle.image_depths.specs.Passing.{tables_right}
 use Rattle.image_depths.proofs.tables_right.Goals as goal
 
-pub loop-i-init : goal.loop-i-init
-loop-i-init c = λ P Q R. all_none _
-
-pub loop-i-preserved : goal.loop-i-preserved
-loop-i-preserved c =
-    let v = c.loop-i.invariant in
-    let test = c.loop-i-test.true in
-    let right = c.table_right.ensures in
-    λ P Q R. all_more _ _ (v P Q R) (sym (right P (Q _ (omega (arith, test, P.tables))) R) ∙ c.if-not-table_right.false)
-
-pub returns-then-not-table_right : goal.returns-then-not-table_right
-returns-then-not-table_right c =
-    let a = c.args in
-    let test = c.loop-i-test.true in
-    λ P Q R.
-    tables-fail a.image.now (marks_of a.image.now a.scratch.now) _ _ _ P.tables test
-    (c.table_right.ensures P (Q _ (omega (arith, test, P.tables))) R) c.if-not-table_right.true
-
 pub returns : goal.returns
+unfolding tables_right
 returns c =
-    let a = c.args in
-    let v = c.loop-i.invariant in
-    λ P Q R. tables-done a.image.now (marks_of a.image.now a.scratch.now) _ _ P.tables c.loop-i.auto.i-end c.loop-i-test.false
-    (v P Q R)
+    let w = c.args.image.now.words.now in
+    let l = c.args.found.now in
+    λ Q R.
+    all_below-under (λ i. table_by (mark l (table_node w i)) w l i) _ _ _ _ c.all.ensures.ran refl
+    (λ x b q k. (search (rules, tests), λ h. let P = Q x (omega (arith, h, c.args.image.now.sized.tables)) in search (rules, tests)))
+    ∙ ap (λ n. all_below n (λ i. table_by (mark l (table_node w i)) w l i)) c.args.image.now.sized.tables

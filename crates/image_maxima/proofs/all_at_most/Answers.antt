@@ -4,9 +4,6 @@ use native.Mathlib.Omega.{arith}
 use Rattle.image_maxima.proofs.LevelLaws.{level-first, level-above, level-fails, level-empty, no-leaves}
 use Rattle.image_maxima.proofs.all_at_most.Goals as goal
 
-pub returns-then-t-size : goal.returns-then-t-size
-returns-then-t-size c = λ T h. absurd (omega (arith, T.room))
-
 pub returns-then-size-b : goal.returns-then-size-b
 returns-then-size-b c = λ T h. absurd (omega arith)
 

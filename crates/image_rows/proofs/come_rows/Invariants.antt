@@ -2,14 +2,15 @@
 use Prim.Native.Nat.{◌≤◌, ◌<◌, ◌-◌}
 use mathlib.Core.Path.{◌≡◌}
 use lib.ListN.{length}
-use Rattle.image_rows.specs.AllRows.{Placed}
 use Rattle.image_rows.specs.Scratch.{Seen}
 use Rattle.image_rows.proofs.SeenLaws.{Going}
 use Rattle.image_rows.proofs.come_rows.Given as goal
 
 abbrev pub invariant-loop-r : goal.invariant-loop-r
 invariant-loop-r l =
-    (l.r ≤ l.rows) × (length l.scratch ≡ length l.initial.scratch) × (Placed l.image l.o → 0 < l.m → Seen l.image l.initial.scratch → Going l.image l.m l.first l.rows l.initial.scratch l.r l.scratch)
+    let w = l.image.words.now in
+    (l.r ≤ l.count) × (length l.found ≡ length l.initial.found) × (length l.rows ≡ length l.initial.rows)
+    × (0 < l.m → Seen w l.initial.found l.initial.rows → Going w l.m l.first l.count l.initial.found l.initial.rows l.r l.found l.rows)
 
 abbrev pub decreases-loop-r : goal.decreases-loop-r
-decreases-loop-r l = l.rows - l.r
+decreases-loop-r l = l.count - l.r

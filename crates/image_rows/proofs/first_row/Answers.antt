@@ -1,14 +1,10 @@
 -- `image_rows::first_row` meets its contract.
-use native.Mathlib.Omega.{arith}
 use Rattle.image_rows.proofs.ReadLaws.{first-of-cases, first-of-ranges}
 use Rattle.image_rows.proofs.first_row.Goals as goal
 
-pub returns-then-table_word-eq0 : goal.returns-then-table_word-eq0
-returns-then-table_word-eq0 c =
-    let a = c.args in
-    let first = c.table_word-first in record { first = first-of-cases a.image.now a.o a.i _ _ c.table_word.ensures c.if-table_word-eq0.true first.ensures; small = omega (arith, first.type_inv) }
+pub returns-in-Cases-clause-first : goal.returns-in-Cases-clause-first
+returns-in-Cases-clause-first c = first-of-cases _ c.args.i _ _ c.table_word.ensures c.table_word-first.ensures c.in-Cases.ensures
 
-pub returns : goal.returns
-returns c =
-    let a = c.args in
-    let first = c.table_word-first in record { first = first-of-ranges a.image.now a.o a.i _ _ c.table_word.ensures c.if-table_word-eq0.false first.ensures; small = omega (arith, first.type_inv) }
+pub returns-in-Ranges-clause-first : goal.returns-in-Ranges-clause-first
+returns-in-Ranges-clause-first c =
+    first-of-ranges _ c.args.i _ _ _ c.table_word.ensures c.table_word-first.ensures c.in-Ranges.ensures c.args.image.now.sized.cases

@@ -4,15 +4,17 @@ use Rattle.image_rows.proofs.row_target.Goals as goal
 
 pub returns-then-q-cases : goal.returns-then-q-cases
 returns-then-q-cases c =
-    let a = c.args in
-    row-case a.image.now a.o a.q _ c.if-q-cases.true c.word_from.ensures
+    let image = c.args.image.now in
+    row-case image.words.now c.args.q image.sizes.cases _ image.sized.cases c.if-q-cases.true c.case_word.ensures
 
-pub returns-then-j-o : goal.returns-then-j-o
-returns-then-j-o c =
-    let a = c.args in
-    row-range a.image.now a.o a.q _ c.if-q-cases.false c.if-j-o.true c.word_from-then-j-o.ensures
+pub returns-then-j-image : goal.returns-then-j-image
+returns-then-j-image c =
+    let image = c.args.image.now in
+    row-range image.words.now c.args.q image.sizes.cases image.sizes.ranges _ image.sized.cases image.sized.ranges c.if-q-cases.false
+    c.if-j-image.true c.range_word.ensures
 
 pub returns : goal.returns
 returns c =
-    let a = c.args in
-    row-none a.image.now a.o a.q c.if-q-cases.false c.if-j-o.false
+    let image = c.args.image.now in
+    row-none image.words.now c.args.q image.sizes.cases image.sizes.ranges image.sized.cases image.sized.ranges c.if-q-cases.false
+    c.if-j-image.false

@@ -1,28 +1,20 @@
--- `image_spans::chains_fit` meets its contract. Invariant: the first i chains have the operands of their steps.
-use Prim.Native.Nat.{◌<◌}
-use mathlib.Core.Path.{sym, ◌∙◌}
+-- `image_spans::chains_fit` meets its contract: every chain is looked at.
+use Rattle.std.proofs.Common.{rules}
+use borrow.Author.Tests.{tests}
+use mathlib.Core.Path.{refl, ap, ◌∙◌}
 use native.Mathlib.Omega.{arith}
-use Rattle.words.proofs.CountLaws.{all_none, all_more, all-fails}
+use Prim.Native.Nat.{◌<◌}
 use Rattle.image_rule.specs.Rules.{chains}
-use Rattle.image_spans.proofs.AllLaws.{all_done}
-use Rattle.image_spans.proofs.chains_fit.Goals.{In-loop-i}
+use Rattle.words.specs.Count.{all_below}
+use Rattle.image_rule.specs.Test.{operands_by}
+use Rattle.image_read.proofs.BelowLaws.{all_below-under}
 use Rattle.image_spans.proofs.chains_fit.Goals as goal
 
-inside : (c : In-loop-i) → c.loop-i.i < chains c.args.image.now.words.now
-inside c = omega (arith, c.loop-i-test.true, c.args.image.now.sized.chains)
-
-pub loop-i-init : goal.loop-i-init
-loop-i-init c = λ T. all_none _
-
-pub loop-i-preserved : goal.loop-i-preserved
-loop-i-preserved c =
-    let h = inside (goal.at.loop-i-preserved c).In-loop-i in
-    λ T. all_more _ _ (c.loop-i.invariant T) (sym (c.chain_fits.ensures T h) ∙ c.if-not-chain_fits.false)
-
-pub returns-then-not-chain_fits : goal.returns-then-not-chain_fits
-returns-then-not-chain_fits c =
-    let h = inside (goal.at.returns-then-not-chain_fits c).In-loop-i in
-    λ T. sym (all-fails _ _ _ h (sym (c.chain_fits.ensures T h) ∙ c.if-not-chain_fits.true))
-
 pub returns : goal.returns
-returns c = λ T. all_done _ _ _ _ c.args.image.now.sized.chains c.loop-i.auto.i-end c.loop-i-test.false (c.loop-i.invariant T)
+returns c =
+    let image = c.args.image.now in
+    let test = operands_by image.words.now in
+    λ T.
+    all_below-under test _ _ _ _ c.all.ensures.ran refl
+    (λ x b q k. (search (rules, tests), λ h. let inside : x < chains image.words.now = omega (arith, h, image.sized.chains) in search (rules, tests)))
+    ∙ ap (λ n. all_below n test) image.sized.chains

@@ -5,4 +5,4 @@ use Rattle.image_spans.specs.Needs.{NeedsIn}
 use Rattle.image_spans.proofs.put_needs.Given as goal
 
 abbrev pub invariant-loop-j : goal.invariant-loop-j
-invariant-loop-j l = (length l.scratch ≡ length l.initial.scratch) × NeedsIn l.image.words.now l.scratch l.j
+invariant-loop-j l = (length l.t ≡ length l.initial.t) × NeedsIn l.image.words.now l.t l.j

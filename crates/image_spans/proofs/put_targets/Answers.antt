@@ -5,11 +5,11 @@ use lib.ListN.{length-set}
 use Rattle.image_spans.proofs.PutLaws.{at_first, at_next, put-none, put-more}
 use Rattle.image_spans.proofs.put_targets.Goals as goal
 
-pub returns-then-scratch-n : goal.returns-then-scratch-n
-returns-then-scratch-n c = λ room. absurd (omega (arith, room, c.if-scratch-n.true))
+pub returns-then-t-n : goal.returns-then-t-n
+returns-then-t-n c = λ room. absurd (omega (arith, room, c.if-t-n.true))
 
-pub returns-then-scratch-n-2 : goal.returns-then-scratch-n-2
-returns-then-scratch-n-2 c = λ room. absurd (omega (arith, room, c.if-scratch-n-2.true))
+pub returns-then-t-n-2 : goal.returns-then-t-n-2
+returns-then-t-n-2 c = λ room. absurd (omega (arith, room, c.if-t-n-2.true))
 
 pub loop-j-init : goal.loop-j-init
 loop-j-init c = (refl, at_first _ _ _ c.targets_at-from.ensures.at c.targets_at-from.ensures.small, put-none _ _ _ _)

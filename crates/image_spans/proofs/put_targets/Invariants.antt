@@ -7,4 +7,4 @@ use Rattle.image_spans.proofs.PutLaws.{At}
 use Rattle.image_spans.proofs.put_targets.Given as goal
 
 abbrev pub invariant-loop-j : goal.invariant-loop-j
-invariant-loop-j l = (length l.scratch ≡ length l.initial.scratch) × At l.image (kind_of l.fn.pool) l.j l.from × Put l.image (kind_of l.fn.pool) l.at l.j l.initial.scratch l.scratch
+invariant-loop-j l = (length l.t ≡ length l.initial.t) × At l.image.words.now (kind_of l.fn.pool) l.j l.from × Put l.image.words.now (kind_of l.fn.pool) l.at l.j l.initial.t l.t

@@ -9,5 +9,5 @@ returns-then-p-eq4294967295 c = λ T small h. absurd (omega (arith, small, c.if-
 pub returns : goal.returns
 returns c =
     let image = c.args.image.now in
-    table-aims _ c.args.i _ _ _ _ _ _ _ _ image.sized.cases image.sized.ranges c.table_word.ensures c.of.ensures
+    table-aims _ c.args.i _ _ _ _ _ _ _ image.sized.cases c.table_word.ensures c.from.ensures
     c.rows_before-before.ensures.value c.table_word-2.ensures c.table_word-3.ensures c.table_word-4.ensures c.all_at_most.ensures

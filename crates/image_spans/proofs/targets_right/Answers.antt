@@ -1,9 +1,19 @@
 -- `image_spans::targets_right` meets its contract.
 use mathlib.Core.Path.{ap, ◌∙◌}
+use lib.Seq.{length-take-le}
+use native.Mathlib.Omega.{arith}
+use Rattle.image_rule.specs.Rules.{cases, ranges}
 use Rattle.image_read.specs.Pools.{kind_of}
 use Rattle.image_rule.specs.Test as test
-use Rattle.image_spans.proofs.PutLaws.{rows-built}
+use Rattle.image_spans.proofs.PutLaws.{rows-fit, rows-built}
 use Rattle.image_spans.proofs.targets_right.Goals as goal
+
+pub returns-then-scratch-size : goal.returns-then-scratch-size
+returns-then-scratch-size c =
+    let image = c.of-image.result in
+    let n = image.sized.cases ∙ ap cases c.of-image.ensures in
+    let m = image.sized.ranges ∙ ap ranges c.of-image.ensures in
+    λ s lie. absurd (omega (arith, rows-fit s, n, m, c.if-scratch-size.true))
 
 pub returns : goal.returns
 unfolding kind_of
@@ -12,11 +22,12 @@ returns c =
     let image = c.of-image.result in
     λ s lie. c.code_aims.ensures
     (rows-built _ _ image.sized.cases image.sized.ranges
-    c.put_targets.auto.scratch
-    c.put_targets-2.auto.scratch
+    (length-take-le _ _ c.if-scratch-size.false)
+    c.put_targets.auto.t
+    c.put_targets-2.auto.t
+    c.build.auto.t
     c.put_targets.ensures
     c.put_targets-2.ensures
     c.build.ensures
-    (rw same s)
     (rw same lie))
     ∙ ap (λ w. test.targets_right w) same

@@ -5,8 +5,8 @@ use mathlib.Core.Path.{refl}
 use Rattle.scratch_folds.proofs.SumsLaws.{to_front, to_block}
 use Rattle.scratch_folds.proofs.fold_to.Goals as goal
 
-pub returns-then-k-eq0 : goal.returns-then-k-eq0
-returns-then-k-eq0 c =
+pub returns-then-passed-eq0 : goal.returns-then-passed-eq0
+returns-then-passed-eq0 c =
     let a = c.args in
     to_front a.b.now a.at a.scratch.now a.i _ _ c.part.ensures c.fold_bytes.ensures
 

@@ -1,20 +1,13 @@
 -- `scratch_index::same_const` meets its contract.
-use Rattle.scratch_index.proofs.ConstLaws.{told_text, told-bytes, told-number, told-other}
+use Rattle.scratch_index.proofs.ConstLaws.{told-bytes, told-number, told-other}
 use Rattle.scratch_index.proofs.same_const.Goals as goal
-
-pub returns-then-a-d : goal.returns-then-a-d
-returns-then-a-d c =
-    let a = c.args in
-    told_text a.sheet.now a.i a.c c.kind-k.ensures c.kind.ensures
-    c.if-k-kind.true c.field_a-a.ensures c.field_a-d.ensures
-    c.if-k-eq-STRING.true c.if-a-d.true
 
 pub returns-then-k-eq-STRING : goal.returns-then-k-eq-STRING
 returns-then-k-eq-STRING c =
     let a = c.args in
     told-bytes a.sheet.now a.i a.c c.kind-k.ensures c.kind.ensures
     c.if-k-kind.true c.field_a-a.ensures c.field_a-d.ensures
-    c.if-k-eq-STRING.true c.text.ensures c.text-then-k-eq-STRING.ensures c.same_bytes.ensures
+    c.if-k-eq-STRING.true c.same_text.ensures
 
 pub returns-then-k-kind : goal.returns-then-k-kind
 returns-then-k-kind c =

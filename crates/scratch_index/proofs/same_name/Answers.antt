@@ -1,19 +1,11 @@
 -- `scratch_index::same_name` meets its contract: where the text numbers are the same, the marks tell.
-use Rattle.scratch_index.proofs.NameLaws.{name-marked, name-plain, name-compared}
+use Rattle.scratch_index.proofs.NameLaws.{name-alone, name-compared}
 use Rattle.scratch_index.proofs.same_name.Goals as goal
-
-pub returns-then-m : goal.returns-then-m
-returns-then-m c =
-    let a = c.args in
-    name-marked a.sheet.now a.t a.c a.m c.text_of-d.ensures c.if-t-d.true
-    c.is_marked-b.ensures
-    c.if-m.true
 
 pub returns-then-t-d : goal.returns-then-t-d
 returns-then-t-d c =
     let a = c.args in
-    name-plain a.sheet.now a.t a.c a.m c.text_of-d.ensures c.if-t-d.true c.is_marked-b.ensures
-    c.if-m.false
+    name-alone a.sheet.now a.t a.c a.m c.text_of-d.ensures c.if-t-d.true c.is_marked.ensures
 
 pub returns : goal.returns
 returns c =

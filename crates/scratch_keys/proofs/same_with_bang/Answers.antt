@@ -1,19 +1,21 @@
 -- `scratch_keys::same_with_bang` meets its contract: the last byte, and the bytes before it.
 use mathlib.Core.Path.{sym, ◌∙◌}
+use borrow.Author.Tests.{ne_eqb}
 use Rattle.scratch_keys.proofs.BangLaws.{bang-none, ends-other, ends-bang}
 use Rattle.scratch_keys.proofs.same_with_bang.Goals as goal
 
-pub returns-in_default : goal.returns-in_default
-returns-in_default c = let a = c.args in sym (bang-none a.x.now a.y.now c.in_default.ensures.cases)
+pub returns-in-None : goal.returns-in-None
+returns-in-None c = let a = c.args in sym (bang-none a.x.now a.y.now c.in-None.ensures.cases)
 
-pub returns-then-last-eq-BANG : goal.returns-then-last-eq-BANG
-returns-then-last-eq-BANG c =
+pub returns-then-last-eq33 : goal.returns-then-last-eq33
+returns-then-last-eq33 c =
     let a = c.args in
     let cut = c.in-Some.ensures.cases in
-    c.same_bytes.ensures ∙ sym (ends-bang a.x.now a.y.now c.in-Some.front.now c.in-Some.last.now cut.0 cut.1 c.if-last-eq-BANG.true)
+    c.same_bytes.ensures ∙ sym (ends-bang a.x.now a.y.now c.in-Some.front.now c.in-Some.last.now cut.0 cut.1 c.if-last-eq33.true)
 
-pub returns : goal.returns
-returns c =
+pub returns-else-last-eq33 : goal.returns-else-last-eq33
+returns-else-last-eq33 c =
     let a = c.args in
     let cut = c.in-Some.ensures.cases in
-    sym (ends-other a.x.now a.y.now c.in-Some.front.now c.in-Some.last.now cut.0 cut.1 c.if-last-eq-BANG.false)
+    ne_eqb _ _ c.if-last-eq33.false
+    ∙ sym (ends-other a.x.now a.y.now c.in-Some.front.now c.in-Some.last.now cut.0 cut.1 c.if-last-eq33.false)

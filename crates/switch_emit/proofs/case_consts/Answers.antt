@@ -10,32 +10,33 @@ use Rattle.std.proofs.Common.{refl, ap, ◌∙◌, arith}
 use Rattle.switch_emit.proofs.case_consts.Goals as goal
 
 pub loop-i-init : goal.loop-i-init
-loop-i-init c = (refl, refl, skip_first _ _, within_none _ _ _, λ l C. cases_begin _)
+loop-i-init c = (refl, skip_first _ _, within_none _ _ _, λ l C. cases_begin _)
 
 pub loop-i-preserved : goal.loop-i-preserved
 loop-i-preserved c =
     let s = c.args.sheet.now in
     let v = c.loop-i in
-    let here = v.invariant.2 ∙ ap (skip s v.i) c.first_case-j.ensures in
-    let n-is = count_is s _ _ c.capped-n.ensures c.field_b.ensures in (
-      c.add_const-p.auto.scratch ∙ v.invariant.0,
-      c.put.auto.scratch ∙ v.invariant.1,
-      skip_step _ _ _ v.invariant.2 c.next-j.ensures,
-      within_step _ v.invariant.3 (omega arith) c.put.ensures,
+    let here = v.invariant.1 ∙ ap (skip s v.i) c.first_case-j.ensures in
+    let n-is = count_is s _ _ c.min-n.ensures c.field_b.ensures in (
+      c.put.auto.scratch ∙ v.invariant.0,
+      skip_step _ _ _ v.invariant.1 c.next-j.ensures,
+      within_step _ v.invariant.2 (omega arith) c.put.ensures,
       λ l C.
-          cases_step (v.invariant.4 l C) _ _ _ C n-is (omega arith) here c.child.ensures
-          (case-key _ _ _ C (capped-below _ _ _ _ c.capped-n.ensures c.field_b.ensures (omega arith)) here
+          cases_step (v.invariant.3 l C) _ _ _ C n-is (omega arith) here c.child.ensures
+          (case-key _ _ _ C (capped-below _ _ _ _ c.min-n.ensures c.field_b.ensures (omega arith)) here
           c.child.ensures) (c.add_const-p.ensures l) c.put.ensures,
     )
 
-pub shape_of-scratch : goal.shape_of-scratch
-shape_of-scratch c = c.loop-i.invariant.0
-
 pub shape_of-flat : goal.shape_of-flat
-shape_of-flat c = c.loop-i.invariant.1
+shape_of-flat c = c.loop-i.invariant.0
 
 pub returns : goal.returns
 returns c =
     let s = c.args.sheet.now in
     let v = c.loop-i in
-    let n-is = count_is s _ _ c.capped-n.ensures c.field_b.ensures in record { fact = λ l C. cases-does (v.invariant.4 l C) _ C n-is (omega arith); fact_2 = λ l a C e h. cases-places (v.invariant.4 l C) _ C n-is (omega arith) a (v.invariant.1 ∙ e) h; within = λ e. v.invariant.3 }
+    let n-is = count_is s _ _ c.min-n.ensures c.field_b.ensures in
+    record {
+      does = λ l C. cases-does (v.invariant.3 l C) _ C n-is (omega arith);
+      consts = λ l a C e h. cases-places (v.invariant.3 l C) _ C n-is (omega arith) a (v.invariant.0 ∙ e) h;
+      within = v.invariant.2;
+    }

@@ -3,4 +3,4 @@ use Rattle.switch_heads.proofs.BandLaws.{BandFill}
 use Rattle.switch_heads.proofs.band_heads.Given as goal
 
 abbrev pub invariant-loop-i : goal.invariant-loop-i
-invariant-loop-i l = BandFill l.initial.flat l.n l.flat l.heads l.i
+invariant-loop-i l = BandFill l.initial.table.cells l.n l.table.cells l.heads l.i

@@ -1,13 +1,13 @@
--- `switch_intervals::closed` meets its contract, by the test.
-use Rattle.switch_intervals.proofs.JoiningLaws.{closed-made, closed-kept}
+-- `switch_intervals::closed` meets its contract, by whether a band is open.
+use Rattle.switch_intervals.proofs.JoiningLaws.{closed-some, closed-none}
 use Rattle.switch_intervals.proofs.closed.Goals as goal
 
-pub returns-then-o-i : goal.returns-then-o-i
-returns-then-o-i c =
-    let both = closed-made _ _ _ _ _ _ c.if-o-i.true c.put.ensures c.put-then-o-i.ensures in
-    record { value = both.0; flat_after = both.1 }
+pub returns-in-Some : goal.returns-in-Some
+returns-in-Some c =
+    let both = closed-some _ _ _ _ _ _ _ c.in-Some.is c.requires.before c.put.ensures c.put-in-Some.ensures in
+    record { value = both.0; table_after = both.1 }
 
-pub returns : goal.returns
-returns c =
-    let both = closed-kept _ _ _ _ c.if-o-i.false in
-    record { value = both.0; flat_after = both.1 }
+pub returns-in-None : goal.returns-in-None
+returns-in-None c =
+    let both = closed-none _ _ _ _ c.in-None.is in
+    record { value = both.0; table_after = both.1 }

@@ -1,7 +1,8 @@
--- `switch_intervals::put_bands` meets its contract. The invariant is `Joins`: the bands that end before the
+-- `switch_intervals::put_bands` meets its contract. The invariant is `OpenJoins`: the bands that end before the
 -- piece are there, with their hashes.
-use Rattle.switch_intervals.proofs.JoiningLaws.{Joins}
+use Rattle.switch_intervals.proofs.JoiningLaws.{OpenJoins}
+use lib.ListN.{length}
 use Rattle.switch_intervals.proofs.put_bands.Given as goal
 
 abbrev pub invariant-loop-i : goal.invariant-loop-i
-invariant-loop-i l = Joins l.initial.flat l.pieces l.marks l.flat l.o.bands l.o.band l.i
+invariant-loop-i l = OpenJoins l.initial.table.cells (length l.marks) l.marks l.table.cells l.o.0 l.o.1.0 l.i

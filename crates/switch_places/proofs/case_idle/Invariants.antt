@@ -3,4 +3,4 @@ use Rattle.switch_places.proofs.IdleLaws.{Idling}
 use Rattle.switch_places.proofs.case_idle.Given as goal
 
 abbrev pub invariant-loop-q : goal.invariant-loop-q
-invariant-loop-q l = Idling l.flat l.idle l.q
+invariant-loop-q l = Idling l.table.cells l.idle l.q

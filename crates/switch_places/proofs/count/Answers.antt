@@ -13,48 +13,39 @@ use Rattle.switch_places.proofs.KeptLaws.{tables-kept}
 use Rattle.switch_places.proofs.CountLaws.{default-in, most, second-most, head_of, exits_of, second-in, second-by, wanted-by}
 use Rattle.switch_places.proofs.CountLaws.{bodies-of}
 use Rattle.switch_places.proofs.CountLaws.{counted}
-use Rattle.switch_places.proofs.SmallLaws.{coded-of}
+use Rattle.switch_tables.proofs.KindLaws.{coded-of}
 use Rattle.switch_places.proofs.count.Goals as goal
 
 pub bodies-all-requires : goal.bodies-all-requires
 bodies-all-requires c =
-    omega (arith, c.capped-n.ensures)
-
-pub shape_of-flat : goal.shape_of-flat
-shape_of-flat c =
-    c.finish.auto.flat ∙ c.bodies-all.auto.flat ∙ c.band_chains-bands.auto.flat ∙ c.second-switched.auto.flat ∙ c.case_chains-cases.auto.flat
-    ∙ c.want_default.auto.flat
+    omega (arith, c.min-n.ensures)
 
 pub returns : goal.returns
-returns c l₀ ok k t₀ =
+returns c ok k t₀ =
     let a = c.args in
-    let s = a.sheet.now in
-    let t = tally_by (answer a.told.now s) max_depth s in
-    let n : c.capped-n.result ≡ block_count s =
-    omega (arith, c.capped-n.ensures, c.field_a.ensures, t₀.few_blocks) in
-    let few : c.capped-n.result ≤ max_entries = omega (arith, n, t₀.few_blocks) in
-    let d-is = c.field_c-number.ensures in
-    let def-is = coded-of _ _ c.checked_sub-def.ensures ∙ d-is in
-    let l₂ = c.case_chains-cases.auto.flat ∙ c.want_default.auto.flat ∙ l₀ in
-    let l₃ = c.second-switched.auto.flat ∙ l₂ in
-    let l₄ = c.band_chains-bands.auto.flat ∙ l₃ in
-    let p₁ = c.want_default.ensures l₀ few in
-    let t₁ = tables-kept t₀ p₁.1 (omega arith) in
+    let s = a.by.now.sheet.now in
+    let t = tally_by (answer a.by.now.told s) max_depth s in
+    let n : c.min-n.result ≡ block_count s =
+    omega (arith, c.min-n.ensures, c.field_a.ensures, t₀.few_blocks) in
+    let few : c.min-n.result ≤ max_entries = omega (arith, n, t₀.few_blocks) in
+    let def-is = coded-of _ _ c.checked_sub-def.ensures ∙ c.field_c.ensures in
+    let p₁ = c.want_default.ensures in
+    let t₁ = tables-kept t₀ p₁.within (omega arith) in
     let head =
     head_of t c.child.ensures c.tally.ensures c.instructions.ensures
     c.plus-head.ensures in
-    let p₂ = c.case_chains-cases.ensures t (c.want_default.auto.flat ∙ l₀) ok k t₁ (most _ head).0 (most _ head).1 in
+    let p₂ = c.case_chains-cases.ensures t ok k t₁ (most _ head).0 (most _ head).1 in
     let t₂ = tables-kept t₁ p₂.1 (omega arith) in
     let m₂ = most _ p₂.0.sum in
     let p₃ = second-by t₂ (c.second-switched.ensures s (case_lists s) (exits_of t₂ p₂.0) m₂.0) in
     let t₃ = tables-kept t₂ (second-in p₃) (omega arith) in
     let m₃ = second-most p₃ m₂ in
-    let p₄ = c.band_chains-bands.ensures s t l₃ ok k t₃ m₃.0 m₃.1 in
+    let p₄ = c.band_chains-bands.ensures s t ok k t₃ m₃.0 m₃.1 in
     let t₄ = tables-kept t₃ p₄.1 (omega arith) in
     let m₄ = most _ p₄.0.sum in
-    let wanted = wanted-by n few d-is p₁.0 p₂.0 (second-in p₃) p₄.0 in
+    let wanted = wanted-by n few def-is p₁.wanted p₂.0 (second-in p₃) p₄.0 in
     let p₅ =
-    bodies-of n t₄ (c.bodies-all.ensures (case_lists s ++ split_lists (entries s)) (default_block s) l₄ few m₄.0 m₄.1) wanted in
-    counted (default-in s ok k) def-is head p₂.0 p₃ l₂ p₄ wanted p₅ (tables-kept t₄ p₅.1 (omega arith)) c.finish.ensures.within
-    (c.finish.ensures.finished (c.bodies-all.auto.flat ∙ l₄)) c.closing.ensures c.instructions-2.ensures
+    bodies-of n t₄ (c.bodies-all.ensures (case_lists s ++ split_lists (entries s)) (default_block s) m₄.0 m₄.1) wanted in
+    counted (default-in s ok k) def-is head p₂.0 p₃ c.case_chains-cases.new.table.whole p₄ wanted p₅ (tables-kept t₄ p₅.1 (omega arith))
+    c.finish.ensures.within c.finish.ensures.finished c.closing.ensures c.instructions-2.ensures
     c.plus.ensures

@@ -7,4 +7,4 @@ pub returns-in-None : goal.returns-in-None
 returns-in-None c l = rw c.in-None.is (c.word.ensures l ∙ none 0 _ _ refl)
 
 pub returns-in-Some : goal.returns-in-Some
-returns-in-Some c l = rw c.in-Some.is (c.get.ensures ∙ default-some _ _ _)
+returns-in-Some c l = rw c.in-Some.is (c.at.ensures ∙ default-some _ _ _)

@@ -7,6 +7,5 @@ returns c =
     record {
       within = finish-within _ _ _ _ _ _ _ c.put.ensures c.put-2.ensures c.put-3.ensures;
       finished = finished _ _ _ _ _ _ _ c.put.ensures c.put-2.ensures c.put-3.ensures _ _ _ c.default_at-default.ensures
-          c.fallback_at-fallback.ensures
-          c.end_at.ensures;
+          c.fallback_at-fallback.ensures c.end_at.ensures c.args.table.now.whole;
     }

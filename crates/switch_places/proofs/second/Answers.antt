@@ -1,4 +1,5 @@
 -- `switch_places::second` meets its contract.
+use Rattle.std.proofs.Common.{rules}
 use mathlib.Core.Path.{ap}
 use mathlib.Core.Bool.{not}
 use borrow.Author.Tests.{eq-eqb, ne_eqb}
@@ -7,10 +8,10 @@ use Rattle.switch_places.proofs.second.Goals as goal
 
 pub returns-then-any : goal.returns-then-any
 returns-then-any c =
-    second-some _ _ _ _ _ _ _ c.get-any.ensures c.case_idle.ensures c.less-at.ensures c.word.ensures
-    c.put.ensures _ _ (ap not (ne_eqb c.get-any.result 0 c.if-any.true)) c.instructions.ensures c.plus.ensures
+    second-some _ _ _ _ _ _ _ c.at-any.ensures c.case_idle.ensures (search rules) c.word.ensures
+    c.put.ensures _ _ (ap not (ne_eqb c.at-any.result 0 c.if-any.true)) c.instructions.ensures c.plus.ensures
 
 pub returns : goal.returns
 returns c =
-    second_none _ _ _ _ _ _ _ c.get-any.ensures c.case_idle.ensures c.less-at.ensures c.word.ensures
-    c.put.ensures (ap not (eq-eqb c.get-any.result 0 c.if-any.false))
+    second_none _ _ _ _ _ _ _ c.at-any.ensures c.case_idle.ensures (search rules) c.word.ensures
+    c.put.ensures (ap not (eq-eqb c.at-any.result 0 c.if-any.false))

@@ -7,6 +7,6 @@ use Rattle.text.specs.Char.{char_length}
 use Rattle.text.proofs.CharLaws.{char_left}
 use Rattle.text.proofs.char_len.Given as goal
 
-abbrev pub invariant-loop-k : goal.invariant-loop-k
-invariant-loop-k l =
-    (l.k ≤ l.n) × (char_left l.s (l.n - l.k) l.low l.high (l.i + 1 + l.k) (l.n + 1) ≡ char_length (drop l.i l.s))
+abbrev pub invariant-loop-b : goal.invariant-loop-b
+invariant-loop-b l =
+    (l.b-index ≤ l.n) × (char_left l.s (l.n - l.b-index) l.low l.high (l.i + 1 + l.b-index) (l.n + 1) ≡ char_length (drop l.i l.s))

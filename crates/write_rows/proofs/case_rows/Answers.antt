@@ -1,6 +1,6 @@
 -- `write_rows::case_rows` meets its contract. Invariant: the first i rows are there.
 use Rattle.write_rows.proofs.Filled.{filled-start, filled_next, filled-end}
-use Rattle.write_rows.proofs.RowLaws.{case-two, case-words}
+use Rattle.write_rows.proofs.RowLaws.{case-two}
 use native.Mathlib.Omega.{arith}
 use Rattle.write_rows.proofs.case_rows.Goals as goal
 
@@ -9,8 +9,7 @@ loop-i-init c = let a = c.args in filled-start a.n a.out.now (case-two a.flat.no
 
 pub loop-i-preserved : goal.loop-i-preserved
 loop-i-preserved c =
-    let row = case-words _ c.loop-i.i _ _ c.target_of-t.ensures c.get.ensures in
-    filled_next c.loop-i.invariant _ c.loop-i-test.true (omega arith) row c.put_two.ensures
+    filled_next c.loop-i.invariant _ c.loop-i-test.true (omega arith) c.case_row.ensures c.put.ensures
 
 pub shape_of-out : goal.shape_of-out
 shape_of-out c = c.loop-i.invariant.kept

@@ -9,7 +9,7 @@ loop-i-init c = let a = c.args in filled-start a.n a.out.now (range-six a.flat.n
 
 pub loop-i-preserved : goal.loop-i-preserved
 loop-i-preserved c =
-    filled_next c.loop-i.invariant _ c.loop-i-test.true (omega arith) c.range_row.ensures c.put_six.ensures
+    filled_next c.loop-i.invariant _ c.loop-i-test.true (omega arith) c.range_row.ensures c.put.ensures
 
 pub shape_of-out : goal.shape_of-out
 shape_of-out c = c.loop-i.invariant.kept

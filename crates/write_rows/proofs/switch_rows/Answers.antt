@@ -4,9 +4,8 @@ use Rattle.write_rows.proofs.switch_rows.Goals as goal
 
 pub returns-then-ranges-gt0 : goal.returns-then-ranges-gt0
 returns-then-ranges-gt0 c =
-    tables-both c.args.out.now _ _ _ _ c.requires c.put_two.ensures c.put_two-2.ensures
-    c.if-ranges-gt0.true c.put_two-then-ranges-gt0.ensures c.put_two-then-ranges-gt0-2.ensures
+    tables-both c.args.out.now _ _ _ _ c.requires c.put.ensures c.if-ranges-gt0.true c.put-then-ranges-gt0.ensures
 
 pub returns-else-ranges-gt0 : goal.returns-else-ranges-gt0
 returns-else-ranges-gt0 c =
-    tables-one c.args.out.now _ _ _ _ c.requires c.put_two.ensures c.put_two-2.ensures c.if-ranges-gt0.false
+    tables-one c.args.out.now _ _ _ _ c.requires c.put.ensures c.if-ranges-gt0.false

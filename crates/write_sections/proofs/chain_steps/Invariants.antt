@@ -1,19 +1,17 @@
--- `write_sections::chain_steps` meets its contract. Invariant: the first i rows are the first i steps, and those from link c on are left.
-use Prim.Native.Nat.{◌≤◌, ◌*◌, ◌-◌}
-use mathlib.Core.Path.{◌≡◌}
-use lib.ListN.{length}
+-- `write_sections::chain_steps` meets its contract. Invariant: the rows of the links passed are their steps, and
+-- those of the links left are ahead.
+use Rattle.std.proofs.Common.{◌≡◌, ◌*◌, length}
 use Rattle.write_sections.specs.Written.{Written}
 use Rattle.scratch_index.specs.Held.{NamesHold, names_held}
-use Rattle.sheet.specs.Limits.{max_depth}
-use Rattle.write_sections.proofs.StepRows.{Left, step_rows}
+use Rattle.lowering.specs.Limits.{step_width}
+use Rattle.write_sections.proofs.StepRows.{Ahead, step_rows}
 use Rattle.write_sections.proofs.chain_steps.Given as goal
 
-abbrev pub invariant-loop-i : goal.invariant-loop-i
-invariant-loop-i l =
-    (l.k ≤ 255 * l.i)
-    × Left l.names.sheet.now (names_held l.names.sheet.now l.names.layout l.names.count l.names.scratch.now) l.j l.i l.k (max_depth - l.i)
-    l.c
-    × (length l.out ≡ length l.initial.out)
-    × (NamesHold l.names.sheet.now l.names.layout l.names.count l.names.scratch.now
-    → Written l.initial.out l.out
-    (step_rows l.names.sheet.now (names_held l.names.sheet.now l.names.layout l.names.count l.names.scratch.now) l.j l.i))
+abbrev pub invariant-loop-p : goal.invariant-loop-p
+invariant-loop-p l =
+    let it = l.names in
+    let s = it.sheet.now in
+    let ns = names_held s it.layout it.count it.scratch.now in
+    let i = length l.yielded in
+    Ahead s ns l.j i l.k l.p-iterator × (l.at ≡ step_width * i) × (length l.out ≡ length l.initial.out)
+    × (NamesHold s it.layout it.count it.scratch.now → Written l.initial.out l.out (step_rows s ns l.j i))

@@ -11,4 +11,4 @@ returns g c =
     let a = c.args in
     let n = g.row.N in
     let wide : a.at + n - a.at ≡ n = omega arith in
-    ap₂ (λ (k : ℕ) (ys : List ℕ). put_part a.out.now a.at k ys) wide c.copy_from_slice.ensures.after
+    ap₂ (λ (k : ℕ) (ys : List ℕ). put_part a.out.now a.at k ys) wide c.copy.ensures

@@ -15,7 +15,7 @@ returns-in-Index c =
     let it = a.names.now in
     let s = it.sheet.now in
     let ns = names_held s it.layout it.count it.scratch.now in
-    λ p _. step-index s ns a.c a.k 0 0 0 (sym (rule_told p c.in-Index.is)) (c.step_of.ensures p)
+    λ says _. step-index s ns a.p.link a.k 0 0 0 (sym (rule_told says c.in-Index.is)) (c.step_of.ensures says)
 
 pub returns-in-Property : goal.returns-in-Property
 returns-in-Property c =
@@ -23,12 +23,12 @@ returns-in-Property c =
     let it = a.names.now in
     let s = it.sheet.now in
     let ns = names_held s it.layout it.count it.scratch.now in
-    λ p h.
-    let name = named_by s ns a.c (field_a s) p.with_is c.field_a.ensures (placed c.place.ensures h) in
-    let getter = named_by s ns a.c (field_b s) p.with_is c.field_b.ensures
+    λ says h.
+    let name = named_by s ns a.p.link (field_a s) says.with_is c.field_a.ensures (placed c.place.ensures h) in
+    let getter = named_by s ns a.p.link (field_b s) says.with_is c.field_b.ensures
     (placed c.place-in-Property.ensures h) in
-    let setter = named_by s ns a.c (field_c s) p.with_is c.field_c.ensures (placed c.place-in-Property-2.ensures h) in
-    step-property s ns a.c a.k _ _ _ name getter setter (c.step_of-in-Property.ensures p)
+    let setter = named_by s ns a.p.link (field_c s) says.with_is c.field_c.ensures (placed c.place-in-Property-2.ensures h) in
+    step-property s ns a.p.link a.k _ _ _ name getter setter (c.step_of-in-Property.ensures says)
 
 pub returns-in-Method : goal.returns-in-Method
 unfolding step_rule_from
@@ -37,9 +37,9 @@ returns-in-Method c =
     let it = a.names.now in
     let s = it.sheet.now in
     let ns = names_held s it.layout it.count it.scratch.now in
-    λ p h.
-    let name = named_by s ns a.c (field_a s) p.with_is c.field_a-in-Method.ensures (placed c.place-in-Method.ensures h) in
-    step-method s ns a.c a.k _ 0 0 (sym (rule_told p c.in-Method.is)) name (c.step_of-in-Method.ensures p)
+    λ says h.
+    let name = named_by s ns a.p.link (field_a s) says.with_is c.field_a-in-Method.ensures (placed c.place-in-Method.ensures h) in
+    step-method s ns a.p.link a.k _ 0 0 (sym (rule_told says c.in-Method.is)) name (c.step_of-in-Method.ensures says)
 
 pub returns-in-Nothing : goal.returns-in-Nothing
 unfolding step_rule_from
@@ -48,4 +48,4 @@ returns-in-Nothing c =
     let it = a.names.now in
     let s = it.sheet.now in
     let ns = names_held s it.layout it.count it.scratch.now in
-    λ p _. step-none s ns a.c a.k 0 0 0 (sym (rule_told p c.in-Nothing.is)) (c.step_of-in-Nothing.ensures p)
+    λ says _. step-none s ns a.p.link a.k 0 0 0 (sym (rule_told says c.in-Nothing.is)) (c.step_of-in-Nothing.ensures says)

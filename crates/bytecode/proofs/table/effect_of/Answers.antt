@@ -1,24 +1,23 @@
--- `bytecode::table::effect_of` meets its contract: the table is the definition's.
-use mathlib.Core.Path.{◌≡◌, ap, ◌∙◌}
+-- `bytecode::table::effect_of` meets its contract: what is no kind has no effect.
+use mathlib.Core.Path.{sym, ap}
+use native.Mathlib.Omega.{arith}
 use Rattle.bytecode.specs.Coded.{count_of, flow_of}
-use Rattle.bytecode.specs.Effect.{effect}
-use Rattle.bytecode.proofs.CodedLaws.{coded, found, count-is, flow-is}
+use Rattle.bytecode.proofs.TableLaws.{no_effect}
 use Rattle.bytecode.proofs.table.effect_of.Goals as goal
 
-same : (c : goal.After-found) → c.found.result ≡ coded (effect c.args.kind)
-same c = found c.args.kind c.found.ensures
+pub returns-in_default-clause-pops : goal.returns-in_default-clause-pops
+returns-in_default-clause-pops c = sym (ap (λ e. e.pops) (no_effect _ (λ h. omega arith)))
 
-pub returns-clause-pops : goal.returns-clause-pops
-returns-clause-pops c = ap (λ e. e.pops) (same c)
+pub returns-in_default-clause-pushes : goal.returns-in_default-clause-pushes
+returns-in_default-clause-pushes c = sym (ap (λ e. e.pushes) (no_effect _ (λ h. omega arith)))
 
-pub returns-clause-pushes : goal.returns-clause-pushes
-returns-clause-pushes c = ap (λ e. e.pushes) (same c)
+pub returns-in_default-clause-keeps : goal.returns-in_default-clause-keeps
+returns-in_default-clause-keeps c = sym (ap (λ e. e.keeps) (no_effect _ (λ h. omega arith)))
 
-pub returns-clause-keeps : goal.returns-clause-keeps
-returns-clause-keeps c = ap (λ e. e.keeps) (same c)
+pub returns-in_default-clause-top : goal.returns-in_default-clause-top
+unfolding count_of
+returns-in_default-clause-top c = sym (ap (λ e. e.count) (no_effect _ (λ h. omega arith)))
 
-pub returns-clause-top : goal.returns-clause-top
-returns-clause-top c = ap (λ e. count_of e.top) (same c) ∙ count-is (effect c.args.kind).count
-
-pub returns-clause-flow : goal.returns-clause-flow
-returns-clause-flow c = ap (λ e. flow_of e.flow) (same c) ∙ flow-is (effect c.args.kind).flow
+pub returns-in_default-clause-flow : goal.returns-in_default-clause-flow
+unfolding flow_of
+returns-in_default-clause-flow c = sym (ap (λ e. e.flow) (no_effect _ (λ h. omega arith)))

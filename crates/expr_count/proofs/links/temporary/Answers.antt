@@ -1,16 +1,14 @@
--- `expr_count::links::temporary` meets its contract: one law for each way.
-use mathlib.Core.Path.{sym, ap, ◌∙◌}
-use mathlib.Core.Bool.{◌||◌}
+-- `expr_count::links::temporary` meets its contract: by the kind.
+use mathlib.Core.Path.{ap, ◌∙◌}
+use mathlib.Core.Bool.{◌&&◌, not}
 use lib.Dec.{eqb}
-use Rattle.expr_count.proofs.PlanLaws.{root-named, root-other}
+use mir.Val.{bool_byte}
+use Rattle.expr_count.proofs.PlanLaws.{root-lowered}
 use Rattle.expr_count.proofs.links.temporary.Goals as goal
 
-pub returns-then-k : goal.returns-then-k
-returns-then-k c =
+pub returns : goal.returns
+returns c =
     let a = c.args in
-    root-named a.sheet.now a.v (sym (ap (λ k. eqb k 9 || eqb k 10) c.kind-k.ensures) ∙ c.if-k.true)
-
-pub returns-else-k : goal.returns-else-k
-returns-else-k c =
-    let a = c.args in
-    root-other a.sheet.now a.v (sym (ap (λ k. eqb k 9 || eqb k 10) c.kind-k.ensures) ∙ c.if-k.false)
+    c.from.ensures
+    ∙ ap (λ k. bool_byte (not (eqb k 9) && not (eqb k 10))) c.kind-k.ensures
+    ∙ root-lowered a.sheet.now a.v

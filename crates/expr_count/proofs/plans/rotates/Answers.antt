@@ -1,9 +1,7 @@
--- `expr_count::plans::rotates` meets its contract: one law for each way.
-use Rattle.expr_count.proofs.PlanLaws.{rotates-none, rotates-some}
+-- `expr_count::plans::rotates` meets its contract: by whether there are others.
+use mathlib.Core.Path.{◌∙◌}
+use Rattle.expr_count.proofs.PlanLaws.{rotates-by}
 use Rattle.expr_count.proofs.plans.rotates.Goals as goal
 
-pub returns-then-others-eq0 : goal.returns-then-others-eq0
-returns-then-others-eq0 c = rotates-none c.args.others c.if-others-eq0.true
-
-pub returns-else-others-eq0 : goal.returns-else-others-eq0
-returns-else-others-eq0 c = rotates-some c.args.others c.if-others-eq0.false
+pub returns : goal.returns
+returns c = c.from.ensures ∙ rotates-by c.args.others

@@ -6,6 +6,6 @@ use Rattle.expr_emit.proofs.calls.call_token.Goals as goal
 pub returns : goal.returns
 returns c =
     λ l.
-    λ p n v t. call-token-does _ _ c.one_more.ensures (c.add_token-at.ensures l).place
+    λ p n v t. call-token-does _ _ (λ h. omega arith) (c.add_token-at.ensures l).place
     ((c.add_token-at.ensures l).does t)
     (c.call_as.ensures l p n (omega arith) v)

@@ -8,7 +8,7 @@ pub returns : goal.returns
 returns c =
     λ l.
     let s = c.args.sheet.now in
-    let others = c.one_less.ensures ∙ ap (λ (n : ℕ). n - 1) c.count.ensures in
+    let others = c.saturating_sub.ensures ∙ ap (λ (n : ℕ). n - 1) c.count.ensures in
     let at-pos = c.position.ensures ∙ ap (position s) c.child.ensures in
     λ p n v. close-named-does _ _ _ _ others at-pos (c.emit.ensures l _ tt) (c.rotate.ensures l _)
     (c.call_ref.ensures l p n v)

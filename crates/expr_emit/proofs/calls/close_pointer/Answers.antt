@@ -6,5 +6,5 @@ use Rattle.expr_emit.proofs.calls.close_pointer.Goals as goal
 pub returns : goal.returns
 returns c =
     λ l.
-    let others = c.one_less.ensures ∙ ap (λ (n : ℕ). n - 1) c.count.ensures in
+    let others = c.saturating_sub.ensures ∙ ap (λ (n : ℕ). n - 1) c.count.ensures in
     close-pointer-does _ _ _ _ others c.field_b.ensures c.position.ensures (c.emit.ensures l _ tt)

@@ -1,14 +1,15 @@
 -- One law for each kind of receiver.
+use Rattle.std.proofs.Common.{arith}
 use Rattle.expr_emit.proofs.WaySays.{first-variable, first-this, first-value}
 use Rattle.expr_emit.proofs.calls.way_first.Goals as goal
 
-pub returns-then-k-eq-VARIABLE : goal.returns-then-k-eq-VARIABLE
-returns-then-k-eq-VARIABLE c = λ h.
-    first-variable _ _ c.receiver_kind-k.ensures c.if-k-eq-VARIABLE.true c.child.ensures (c.local_of.ensures h)
+pub returns-in-9 : goal.returns-in-9
+returns-in-9 c = λ h.
+    first-variable _ _ c.receiver_kind.ensures c.in-9.is c.child.ensures (c.local_of.ensures (rw (c.words.ensures, c.layout-layout.ensures) h))
     c.way_variable.ensures
 
-pub returns-then-k-eq-THIS : goal.returns-then-k-eq-THIS
-returns-then-k-eq-THIS c = λ _. first-this _ _ c.receiver_kind-k.ensures c.if-k-eq-THIS.true
+pub returns-in-10 : goal.returns-in-10
+returns-in-10 c = λ _. first-this _ _ c.receiver_kind.ensures c.in-10.is
 
-pub returns : goal.returns
-returns c = λ _. first-value _ _ c.receiver_kind-k.ensures c.if-k-eq-VARIABLE.false c.if-k-eq-THIS.false
+pub returns-in_default : goal.returns-in_default
+returns-in_default c = λ _. first-value _ _ c.receiver_kind.ensures (λ e. omega arith) (λ e. omega arith)

@@ -1,11 +1,18 @@
 -- The decision, a jump behind the other one, and that one from the depth before.
-use Rattle.expr_emit.proofs.EndDoes.{decision-holds, held-at-depth}
+use Rattle.std.specs.Int.{from_bool}
+use Rattle.std.proofs.Common.{ℕ, ◌∙◌}
+use Rattle.bytecode.specs.declared.Op.TheVariants.{Bool}
+use Rattle.expr_model.specs.Made.{emit}
+use Rattle.expr_emit.proofs.Doing.{does_at}
+use Rattle.expr_emit.proofs.EndDoes.{decision-holds, held-at-depth, other-word}
 use Rattle.expr_emit.proofs.ends.decision.Goals as goal
 
 pub returns : goal.returns
 returns c =
     λ l.
     λ s a few h room.
-    decision-holds c.args.stop c.args.end c.args.d a few h room (c.emit.ensures l s tt)
-    (c.emit-2.ensures l s tt) (λ b g k. held-at-depth c.emit-2.new.state c.at_depth.ensures g k)
-    (c.emit-3.ensures l s tt)
+    let stop = c.args.stop in
+    decision-holds (from_bool stop) c.args.end c.args.d a few h room
+    (does_at (λ (n : ℕ). emit (Bool n) 0 0) (c.from.ensures ∙ other-word stop) (c.emit.ensures l s tt))
+    (c.emit-2.ensures l s tt) (λ b g k. held-at-depth c.emit-2.new.self.state c.at_depth.ensures g k)
+    (does_at (λ (n : ℕ). emit (Bool n) 0 0) c.from-2.ensures (c.emit-3.ensures l s tt))

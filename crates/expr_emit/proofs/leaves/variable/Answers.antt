@@ -8,7 +8,7 @@ returns-in-Some c =
     λ l.
     λ p v.
     does-held (λ a h.
-    variable-local _ _ _ (c.local_of-found.ensures (held-slots c.layout.ensures h))
+    variable-local _ _ _ (c.local_of.ensures (rw c.words.ensures (held-slots c.layout-layout.ensures h)))
     c.in-Some.is
     (c.emit.ensures l _ tt))
 
@@ -17,6 +17,6 @@ returns-in-None c =
     λ l.
     λ p v.
     does-held (λ a h.
-    variable-named _ _ (c.local_of-found.ensures (held-slots c.layout.ensures h))
+    variable-named _ _ (c.local_of.ensures (rw c.words.ensures (held-slots c.layout-layout.ensures h)))
     c.in-None.is
     (c.load_named.ensures l p v))

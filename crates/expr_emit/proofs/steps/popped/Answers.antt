@@ -1,10 +1,8 @@
 -- A chain has few operands, so the sum does not wrap.
-use Rattle.std.proofs.Common.{◌∙◌}
 use Rattle.expr_emit.proofs.StepDoes.{popped-is}
 use Rattle.expr_emit.proofs.steps.popped.Goals as goal
 
 pub returns : goal.returns
 returns c =
     let a = c.args in
-    λ e. c.wrapping_add_u32.ensures.value
-    ∙ popped-is a.sheet.now a.j a.n _ c.child.result e c.temporary.ensures c.child.ensures
+    λ e. popped-is a.sheet.now a.j a.n _ c.child.result e c.temporary.ensures c.child.ensures

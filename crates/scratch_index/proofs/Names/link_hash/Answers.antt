@@ -14,9 +14,9 @@ returns-in-Index c =
     let it = a.self.now in
     let s = it.sheet.now in
     let xs = it.scratch.now in
-    λ p.
-    link-read s it.layout it.count xs a.h a.c (rule_told p c.in-Index.is) p.flag_is c.more-g.ensures
-    (by-plain s it.layout it.count xs (c.index_hash.ensures p.with_is))
+    λ says.
+    link-read s it.layout it.count xs a.h a.p.link (rule_told says c.in-Index.is) says.flag_is c.more-g.ensures
+    (by-plain s it.layout it.count xs (c.index_hash.ensures says.with_is))
 
 pub returns-in-Property : goal.returns-in-Property
 unfolding step_rule_from step_hash
@@ -26,9 +26,9 @@ returns-in-Property c =
     let s = it.sheet.now in
     let xs = it.scratch.now in
     let held = names_held s it.layout it.count xs in
-    λ p.
-    link-read s it.layout it.count xs a.h a.c (rule_told p c.in-Property.is) p.flag_is c.more-g.ensures
-    (by-same s it.layout it.count xs (ap (property_hash s held c.more-g.result) p.with_is) c.property_hash.ensures)
+    λ says.
+    link-read s it.layout it.count xs a.h a.p.link (rule_told says c.in-Property.is) says.flag_is c.more-g.ensures
+    (by-same s it.layout it.count xs (ap (property_hash s held c.more-g.result) says.with_is) c.property_hash.ensures)
 
 pub returns-in-Method : goal.returns-in-Method
 unfolding step_rule_from step_hash
@@ -38,9 +38,9 @@ returns-in-Method c =
     let s = it.sheet.now in
     let xs = it.scratch.now in
     let held = names_held s it.layout it.count xs in
-    λ p.
-    link-read s it.layout it.count xs a.h a.c (rule_told p c.in-Method.is) p.flag_is c.more-g.ensures
-    (by-same s it.layout it.count xs (ap (method_hash s held c.more-g.result) p.with_is) c.method_hash.ensures)
+    λ says.
+    link-read s it.layout it.count xs a.h a.p.link (rule_told says c.in-Method.is) says.flag_is c.more-g.ensures
+    (by-same s it.layout it.count xs (ap (method_hash s held c.more-g.result) says.with_is) c.method_hash.ensures)
 
 pub returns-in-Nothing : goal.returns-in-Nothing
 unfolding step_rule_from step_hash
@@ -49,6 +49,6 @@ returns-in-Nothing c =
     let it = a.self.now in
     let s = it.sheet.now in
     let xs = it.scratch.now in
-    λ p.
-    link-read s it.layout it.count xs a.h a.c (rule_told p c.in-Nothing.is) p.flag_is c.more-g.ensures
+    λ says.
+    link-read s it.layout it.count xs a.h a.p.link (rule_told says c.in-Nothing.is) says.flag_is c.more-g.ensures
     (by-plain s it.layout it.count xs refl)

@@ -1,6 +1,7 @@
 -- `scratch_index::Names::place` meets its contract: by a memo that knows the text, else by a search.
+use Rattle.scratch_index.specs.Names.{name_hash}
 use Rattle.scratch_index.proofs.NameLaws.{with-plain}
-use Rattle.scratch_index.proofs.LookupLaws.{finds-at}
+use Rattle.scratch_index.proofs.LookupLaws.{finds-at, finds-as}
 use Rattle.scratch_index.proofs.HeldLaws.{name-told, name-searched, name-same}
 use Rattle.scratch_index.proofs.Names.place.Goals as goal
 
@@ -14,4 +15,4 @@ returns c =
     let it = c.args.self.now in
     name-same it.sheet.now it.layout it.count it.scratch.now (with-plain it.sheet.now c.args.t)
     (name-searched it.sheet.now it.layout it.count it.scratch.now _ _ _ c.name_hash-h.ensures
-    (finds-at c.name_index.ensures c.seek_name.ensures))
+    (finds-at c.name_index.ensures (finds-as c.unwrap_or.ensures (c.seek.ensures (name_hash it.sheet.now) it.count tt).found)))

@@ -4,11 +4,9 @@ use Rattle.lowering.specs.SwitchSheet.{block_count}
 use Rattle.switch_tables.specs.Table.{Guards}
 use Rattle.switch_emit.proofs.ArmDoes.{ArmLeft}
 use Rattle.switch_emit.specs.Ready.{Ready, Named}
-use Rattle.std.proofs.Common.{◌≡◌, ◌≤◌, length}
 use Rattle.switch_emit.proofs.arms.arm.Given as goal
 
 abbrev pub invariant-loop-b : goal.invariant-loop-b
 invariant-loop-b v =
-    (length v.scratch ≡ length v.initial.scratch)
-    × ((l : Layout) → Ready v.sheet → Guards v.sheet v.flat (block_count v.sheet) → Named v.sheet v.a
-    → ArmLeft v.sheet l v.initial.scratch v.initial.state v.flat v.tail.to v.tail.drop v.a v.scratch v.state v.any v.b-index)
+    (l : Layout) → Ready v.sheet → Guards v.sheet v.flat (block_count v.sheet) → Named v.sheet v.list
+    → ArmLeft v.sheet l v.initial.store.scratch.now v.initial.store.state v.flat v.tail.to v.tail.drop v.list v.store.scratch.now v.store.state v.any v.b-index

@@ -3,10 +3,8 @@ use Rattle.scratch.specs.declared.Layout.{Layout}
 use Rattle.switch_tables.specs.Planned.{Tables}
 use Rattle.switch_emit.proofs.BodyDoes.{BodiesLeft}
 use Rattle.switch_emit.specs.Ready.{Ready}
-use Rattle.std.proofs.Common.{◌≡◌, ◌≤◌, length}
 use Rattle.switch_emit.proofs.bodies.bodies.Given as goal
 
 abbrev pub invariant-loop-k : goal.invariant-loop-k
 invariant-loop-k v =
-    (length v.scratch ≡ length v.initial.scratch)
-    × ((l : Layout) → Ready v.sheet → Tables v.sheet v.flat → BodiesLeft v.sheet l v.initial.scratch v.initial.state v.flat v.falls v.n v.scratch v.state v.k)
+    (l : Layout) → Ready v.sheet → Tables v.sheet v.flat → BodiesLeft v.sheet l v.initial.store.scratch.now v.initial.store.state v.flat v.falls v.n v.store.scratch.now v.store.state v.k

@@ -5,5 +5,5 @@ use Rattle.switch_emit.proofs.bodies.close.Goals as goal
 pub returns : goal.returns
 returns c =
     λ l.
-    λ s. close-does c.args.state.now c.at_depth.ensures
+    λ s. close-does c.args.store.now.state c.at_depth.ensures
     (c.emit.ensures l s tt) (c.emit-2.ensures l s tt)

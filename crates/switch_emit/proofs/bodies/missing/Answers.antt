@@ -1,13 +1,14 @@
 -- `switch_emit::bodies::missing` meets its contract.
+use Rattle.std.proofs.Common.{rules}
 use Rattle.switch_emit.proofs.BodyDoes.{missing-does, missing-not}
 use Rattle.switch_emit.proofs.bodies.missing.Goals as goal
 
-pub returns-then-def-eq0 : goal.returns-then-def-eq0
-returns-then-def-eq0 c =
+pub returns-then-is_none : goal.returns-then-is_none
+returns-then-is_none c =
     λ l.
-    λ s. missing-does c.args.state.now _ c.if-def-eq0.true c.at_depth.ensures
+    λ s. missing-does c.args.store.now.state _ (search rules) c.at_depth.ensures
     (c.emit.ensures l s tt)
 
-pub returns-else-def-eq0 : goal.returns-else-def-eq0
-returns-else-def-eq0 c = λ l.
-    λ s. missing-not _ c.if-def-eq0.false
+pub returns-else-is_none : goal.returns-else-is_none
+returns-else-is_none c = λ l.
+    λ s. missing-not _ (search rules)

@@ -5,7 +5,7 @@ use Rattle.switch_emit.proofs.jumps.jump.Goals as goal
 pub returns-then-drop : goal.returns-then-drop
 returns-then-drop c =
     λ l.
-    λ s. dropped-does c.args.state.now _ _ c.if-drop.true c.dropped.ensures
+    λ s. dropped-does c.args.store.now.state _ _ c.if-drop.true c.dropped.ensures
 
 pub returns : goal.returns
 returns c =

@@ -1,8 +1,7 @@
 -- `switch_places::chained::chain_of` meets its contract. The invariant is `Chaining`: what is passed and what is left make the chain.
-use Prim.Native.Nat.{ℕ, ◌≤◌}
-use mathlib.Core.Path.{◌≡◌}
+use Prim.Native.Nat.{ℕ}
 use mathlib.Core.List.{List}
-use lib.ListN.{length, drop}
+use lib.ListN.{drop}
 use Rattle.switch_places.specs.GuardChain.{Reads}
 use Rattle.expr_count.specs.Count.{Rec}
 use Rattle.switch_places.proofs.ChainLaws.{Chaining}
@@ -10,6 +9,5 @@ use Rattle.switch_places.proofs.chained.chain_of.Given as goal
 
 abbrev pub invariant-loop-b : goal.invariant-loop-b
 invariant-loop-b v =
-    (v.b-index ≤ length v.list) × (length v.flat ≡ length v.initial.flat)
-    × ((s : List ℕ) (t : Rec) (l : List ℕ) → Reads s t v.initial.flat v.list l
-    → Chaining s t l v.initial.flat v.flat v.sum v.tried (drop v.b-index l))
+    (s : List ℕ) (t : Rec) (l : List ℕ) → Reads s t v.initial.table.cells v.list l
+    → Chaining s t l v.initial.table.cells v.table.cells v.sum v.tried (drop v.b-index l)

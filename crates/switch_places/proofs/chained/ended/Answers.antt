@@ -9,8 +9,8 @@ pub returns-then-tried : goal.returns-then-tried
 unfolding end_tally either
 returns-then-tried c =
     let yes = c.if-tried.true in
-    record { sum_value = λ l m. rw yes (rw c.instructions.ensures at c.plus.ensures); result_value = rw yes refl }
+    record { sum_value = λ l m. rw yes (rw c.instructions.ensures at c.plus.ensures); exit_value = rw yes refl }
 
 pub returns : goal.returns
 unfolding end_tally either
-returns c = record { sum_value = λ l m. rw c.if-tried.false (capped-none _ (l, m)); result_value = rw c.if-tried.false refl }
+returns c = record { sum_value = λ l m. rw c.if-tried.false (capped-none _ (l, m)); exit_value = rw c.if-tried.false refl }

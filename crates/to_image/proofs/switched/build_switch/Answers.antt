@@ -5,16 +5,14 @@ use Rattle.to_image.proofs.switched.build_switch.Goals as goal
 
 pub returns-then-image-n : goal.returns-then-image-n
 returns-then-image-n c =
-    let n = c.node_count.ensures in
-    λ R k z T P.
-    let S = c.held-st.ensures (record { ready = R; switch = k; nodes = n; sized = z; tables = T; placed = P }) in
-    left_out S _ _ c.field_b.ensures c.get.ensures _ _ _ c.tables_len.ensures
+    λ R k T P.
+    let S = c.held-store.ensures (record { ready = R; switch = k; nodes = c.node_count.ensures; tables = T; placed = P }) in
+    left_out S _ _ c.field_b.ensures c.at.ensures _ _ _ c.tables_len.ensures
     (λ a h. c.image_len-n.ensures _ _ _ a h) (omega (arith, c.if-image-n.true))
 
 pub returns : goal.returns
 returns c =
-    let n = c.node_count.ensures in
-    λ R k z T P.
-    let S = c.held-st.ensures (record { ready = R; switch = k; nodes = n; sized = z; tables = T; placed = P }) in
-    put_in S _ _ c.field_b.ensures c.get.ensures _ _ _ c.tables_len.ensures
+    λ R k T P.
+    let S = c.held-store.ensures (record { ready = R; switch = k; nodes = c.node_count.ensures; tables = T; placed = P }) in
+    put_in S _ _ c.field_b.ensures c.at.ensures _ _ _ c.tables_len.ensures
     (λ a h. c.image_len-n.ensures _ _ _ a h) (omega (arith, c.if-image-n.false)) (c.write.ensures _ S)

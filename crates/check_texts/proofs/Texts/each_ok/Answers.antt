@@ -1,0 +1,15 @@
+-- `check_texts::Texts::each_ok` meets its contract: every text is read. Assumes nothing.
+use Rattle.std.proofs.Common.{rules}
+use borrow.Author.Tests.{tests}
+use mathlib.Core.Path.{refl, ap, ◌∙◌}
+use Rattle.words.specs.Count.{all_below}
+use Rattle.words.proofs.RangeLaws.{all_below-range}
+use Rattle.check_texts.specs.Texts.{text_ok, texts_by}
+use Rattle.check_texts.proofs.Texts.each_ok.Goals as goal
+
+pub returns : goal.returns
+unfolding texts_by
+returns c =
+    let test = text_ok c.args.self.now.sheet.now in
+    all_below-range test _ _ _ _ c.all.ensures.ran refl (λ x b q k. search (rules, tests))
+    ∙ ap (λ n. all_below n test) c.args.self.now.read.count_is

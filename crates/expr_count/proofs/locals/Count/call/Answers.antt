@@ -1,0 +1,49 @@
+-- `expr_count::locals::Count::call` meets its contract, receiver by receiver.
+use mathlib.Core.Path.{sym, ap, ◌∙◌}
+use native.Mathlib.Omega.{arith}
+use Prim.Native.Nat.{◌+◌, ◌-◌}
+use Rattle.expr_rules.proofs.InverseLaws.{first_from}
+use Rattle.expr_count.proofs.PlanLaws.{call_at, rotates-least}
+use Rattle.expr_count.specs.Locals.{answer}
+use Rattle.expr_count.specs.Plan.{all_args, other_args, rotates, call_by}
+use Rattle.expr_count.proofs.locals.Count.call.Goals as goal
+
+pub overflow_add-rotates : goal.overflow_add-rotates
+overflow_add-rotates c = omega (arith, c.rotates.ensures, rotates-least c.saturating_sub.result)
+
+pub returns-in-Local : goal.returns-in-Local
+unfolding call_by first_from
+returns-in-Local c =
+    let a = c.args in
+    let it = a.self.now in
+    c.others.ensures ∙ call_at it.sheet.now a.j (answer it.told it.sheet.now) _
+    (sym c.receiver.ensures ∙ c.in-Local.is)
+
+pub returns-in-Named : goal.returns-in-Named
+unfolding call_by first_from
+returns-in-Named c =
+    let a = c.args in
+    let it = a.self.now in
+    let s = it.sheet.now in
+    let others-is = c.saturating_sub.ensures ∙ ap (λ n. n - 1) c.count.ensures in
+    c.others-in-Named.ensures
+    ∙ ap (λ n. other_args s a.j (2 + n)) (c.rotates.ensures ∙ ap rotates others-is)
+    ∙ call_at s a.j (answer it.told s) _
+    (sym c.receiver.ensures
+    ∙ c.in-Named.is)
+
+pub returns-in-This : goal.returns-in-This
+unfolding call_by first_from
+returns-in-This c =
+    let a = c.args in
+    let it = a.self.now in
+    c.others-in-This.ensures ∙ call_at it.sheet.now a.j (answer it.told it.sheet.now) _
+    (sym c.receiver.ensures ∙ c.in-This.is)
+
+pub returns-in-Value : goal.returns-in-Value
+unfolding call_by all_args first_from
+returns-in-Value c =
+    let a = c.args in
+    let it = a.self.now in
+    c.operands.ensures ∙ call_at it.sheet.now a.j (answer it.told it.sheet.now) _
+    (sym c.receiver.ensures ∙ c.in-Value.is)

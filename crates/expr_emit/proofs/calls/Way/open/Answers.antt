@@ -1,0 +1,21 @@
+-- One law for each way with something before the arguments, and one for the others.
+use Rattle.std.proofs.Common.{ap, ◌∙◌, lit<}
+use Rattle.sheet.specs.Node.{position}
+use Rattle.expr_emit.proofs.CallDoes.{open-named, open-this, open-none}
+use Rattle.expr_emit.proofs.calls.Way.open.Goals as goal
+
+pub returns-in-Named : goal.returns-in-Named
+returns-in-Named c =
+    λ l.
+    let named = c.add_name.ensures l in
+    open-named _ _ _ _ c.in-Named.is c.child.ensures (named.0 (lit< tt))
+    (λ a u h. named.1 a (lit< tt) u h)
+
+pub returns-in-This : goal.returns-in-This
+returns-in-This c =
+    λ l.
+    let at-pos = c.position.ensures ∙ ap (position c.args.sheet.now) c.child-in-This.ensures in
+    open-this _ _ _ c.in-This.is at-pos (c.emit.ensures l _ tt)
+
+pub returns-in-FnPtr : goal.returns-in-FnPtr
+returns-in-FnPtr c = λ l. open-none _ _ c.in-FnPtr.is

@@ -1,0 +1,2 @@
+-- What a read adds to what was read.
+mod ReadLaws

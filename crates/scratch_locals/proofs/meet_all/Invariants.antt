@@ -1,8 +1,0 @@
--- `scratch_locals::meet_all` meets its contract: each turn is a law.
-use Rattle.std.proofs.Common.{◌≡◌, length}
-use Rattle.scratch_locals.specs.Pass.{Met}
-use Rattle.scratch_locals.proofs.meet_all.Given as goal
-
-abbrev pub invariant-loop-j : goal.invariant-loop-j
-invariant-loop-j l =
-    (length l.scratch ≡ length l.initial.scratch) × (Met l.sheet l.layout 0 0 l.initial.scratch → Met l.sheet l.layout l.j l.n l.scratch)
