@@ -1,2 +1,4 @@
 -- Laws of the table of effects.
 pub mod TableLaws
+pub mod RowLaws
+pub mod NamedLaws

@@ -1,6 +1,8 @@
 // The records of an image: instructions, chains and their steps, switch tables. specs/ gives the words of each.
-// Kept: `Bool`, `capture`, `flags`, `ranged`, `inclusive` and `op` (a token's index plus 1, or 0) are words. They come and go as words, and
-// a bool or an Option would be made and unmade. `Switch`, `SwitchCase`, `SwitchRange` are named by definitions alone: no code makes one.
+// Kept: `Bool`, `capture`, `flags`, `ranged`, `inclusive` are words. A node's field goes into them, and the definition
+// (`op_words`) answers for every word there, for which a bool has no place. `op` is a token's index plus 1, or 0: `op_words` has
+// that word, and from an Option it would be made in scratch_store, its one reader. `Switch`, `SwitchCase`, `SwitchRange` are named
+// by definitions alone: no code makes one.
 #![tactic(auto)]
 
 mod table;

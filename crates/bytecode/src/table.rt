@@ -160,9 +160,7 @@ static BY_KIND: [Effect; 25] = [
     PUSH, // EvalAst
 ];
 
-#[tactic(auto, unfolding(crate::specs::Effect::effect, crate::specs::Coded::count_of, crate::specs::Coded::flow_of))]
-// What a kind does: 1 to 24 are the kinds, any other does nothing. The table is read at each kind by itself, so that its numbers are
-// constants where the kind is known.
+// What a kind does: 1 to 24 are the kinds, any other does nothing.
 pub fn effect_of(kind: u32) -> Effect
     ensures pops { result.pops ≡ (effects.effect kind).pops }
     ensures pushes { result.pushes ≡ (effects.effect kind).pushes }
@@ -170,33 +168,7 @@ pub fn effect_of(kind: u32) -> Effect
     ensures top { count_of result.top ≡ (effects.effect kind).count }
     ensures flow { flow_of result.flow ≡ (effects.effect kind).flow }
 {
-    match kind {
-        1 => BY_KIND[1],
-        2 => BY_KIND[2],
-        3 => BY_KIND[3],
-        4 => BY_KIND[4],
-        5 => BY_KIND[5],
-        6 => BY_KIND[6],
-        7 => BY_KIND[7],
-        8 => BY_KIND[8],
-        9 => BY_KIND[9],
-        10 => BY_KIND[10],
-        11 => BY_KIND[11],
-        12 => BY_KIND[12],
-        13 => BY_KIND[13],
-        14 => BY_KIND[14],
-        15 => BY_KIND[15],
-        16 => BY_KIND[16],
-        17 => BY_KIND[17],
-        18 => BY_KIND[18],
-        19 => BY_KIND[19],
-        20 => BY_KIND[20],
-        21 => BY_KIND[21],
-        22 => BY_KIND[22],
-        23 => BY_KIND[23],
-        24 => BY_KIND[24],
-        _ => BY_KIND[0],
-    }
+    BY_KIND.get(kind as usize).copied().unwrap_or(NONE)
 }
 
 #[tactic(auto, unfolding(crate::specs::Effect::ref_argc))]

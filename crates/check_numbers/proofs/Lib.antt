@@ -1,1 +1,2 @@
 pub mod ReadLaws
+mod NamedLaws

@@ -1,10 +1,9 @@
 -- Laws of the numbers' checks on what the code has read, each in the form of one answer.
 use Prim.Native.Nat.{ℕ, ◌+◌, ◌<◌, ◌≤◌}
-use mathlib.Core.Path.{◌≡◌, ap, sym, subst, ◌∙◌}
+use mathlib.Core.Path.{◌≡◌, refl, ap, sym, subst, ◌∙◌}
 use mathlib.Core.Bool.{Bool, true, false, ◌&&◌, ◌||◌, not}
 use mathlib.Core.List.{List}
 use native.Mathlib.Omega.{arith}
-use borrow.Author.Tests.{lt-ltb, le-ltb}
 use lib.Dec.{leb, ltb, eqb}
 use Rattle.words.specs.Word.{word}
 use Rattle.words.specs.Count.{all_below}
@@ -31,14 +30,10 @@ pub among-read : (s : List ℕ) (X K n : ℕ) {k a b c : ℕ} {r : Bool} → k �
 unfolding number_by
 among-read s X K n hk ha hb hc h = cc
 
--- the test of the name of local l, as it was read
-pub local_more : (s : List ℕ) (l : ℕ) {x at r : ℕ} → x ≡ text_count s → at ≡ locals_at s → r ≡ word s (at + l) → r < x → local_ok s l ≡ true
+-- the test of the name of local l, as it is read
+pub local-read : (s : List ℕ) (l : ℕ) {x at : ℕ} → x ≡ text_count s → at ≡ locals_at s → ltb (word s (at + l)) x ≡ local_ok s l
 unfolding local_by local_text_by
-local_more s l hx ha hr h = rw (← ha, ← hr, ← hx) (lt-ltb _ _ h)
-
-pub local-fails : (s : List ℕ) (l : ℕ) {x at r : ℕ} → x ≡ text_count s → at ≡ locals_at s → r ≡ word s (at + l) → x ≤ r → false ≡ local_ok s l
-unfolding local_by local_text_by
-local-fails s l hx ha hr h = sym (rw (← ha, ← hr, ← hx) (le-ltb _ _ h))
+local-read s l hx ha = rw (hx, ha) refl
 
 -- A test of each number below m, which was read as the count k.
 module _ (f : ℕ → Bool) {m k : ℕ} (read : m ≡ k) where

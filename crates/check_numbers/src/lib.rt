@@ -52,13 +52,7 @@ pub fn locals_ok(sheet: &[u8]) -> bool
     let x = text_count(sheet);
     let at = locals_at(sheet);
     let m = local_count(sheet);
-    for l in 0..m {
-        let name = word_at(sheet, at + (l as usize));
-        if x <= name {
-            return false;
-        }
-    }
-    true
+    (0..m).all(|l| word_at(sheet, at + (l as usize)) < x)
 }
 
 // Nothing of refusal 4.

@@ -5,8 +5,8 @@ use mathlib.Core.Path.{◌≡◌, refl, ap, sym, subst}
 use mathlib.Core.Bool.{Bool, true, false, ◌&&◌}
 use native.Mathlib.Omega.{arith}
 use lib.Dec.{ltb, eqb}
-use mathlib.Core.List.{[], ◌∷◌}
-use lib.ListN.{get_or}
+use mathlib.Core.List.{List, [], ◌∷◌}
+use lib.ListN.{get_or, set}
 use Rattle.check_shape.specs.Rows.{numbers}
 use Rattle.check_shape.specs.declared.Bounds as code
 use borrow.Author.Tests.{le-leb, lt-ltb, eq-eqb, ne_eqb, eqb-true, eqb-false}
@@ -15,7 +15,7 @@ use Rattle.check_shape.specs.Kinds.{any, bound}
 use Rattle.check_shape.specs.Shape.{within_bounds_by, within_bounds}
 use Rattle.check_numbers.specs.Numbers.{names_text, exist}
 use Rattle.check_support.specs.Support.{refused_kind}
-use Rattle.check_pass.specs.Limits.{none, last, any_of, limits, Row}
+use Rattle.check_pass.specs.Limits.{none, last, any_of, row_, name_rows, limits, Row}
 
 -- any word, or none
 pub any_none : (x : ℕ) → x ≡ 0 → 0 ≡ any_of x
@@ -26,21 +26,22 @@ pub any_some : (x : ℕ) → (x ≡ 0 → ⊥) → any ≡ any_of x
 unfolding any_of
 any_some x h = sym (rw (ne_eqb x 0 h, any_of))
 
--- the table's rows, as the code writes them
-abbrev row_ : ℕ → ℕ → ℕ → ℕ → ℕ → code.Bounds
-row_ l m a b c = record { least = l; most = m; a = a; b = b; c = c }
-
-pub limits-read : (x K : ℕ) {n m t z b : ℕ} → n ≡ none x → m ≡ any_of x → t ≡ last x → z ≡ none K → b ≡ last K
-    → numbers (
-    row_ 1 0 0 0 0 ∷ row_ 0 0 1 0 0 ∷ row_ 0 0 0 0 0 ∷ row_ 0 0 any any 0 ∷ row_ 0 0 any any 0
+-- the rows of kinds that name a text, as the code writes them
+pub names-read : (x : ℕ) {n m t : ℕ} → n ≡ none x → m ≡ any_of x → t ≡ last x
+    → row_ 1 0 0 0 0 ∷ row_ 0 0 1 0 0 ∷ row_ 0 0 0 0 0 ∷ row_ 0 0 any any 0 ∷ row_ 0 0 any any 0
     ∷ row_ 0 0 any 0 0 ∷ row_ n 0 t 0 0 ∷ row_ 0 any 0 0 0 ∷ row_ 0 any 0 0 0 ∷ row_ n 0 t 0 0
     ∷ row_ 0 0 0 0 0 ∷ row_ n 0 t t t ∷ row_ n m t 0 0 ∷ row_ n m t 1 65535 ∷ row_ 2 2 3 0 0
-    ∷ row_ 2 2 3 0 0 ∷ row_ 1 any 0 0 0 ∷ row_ 1 any 0 0 0 ∷ row_ 1 any 0 0 0 ∷ row_ 1 any any any K
-    ∷ row_ 1 any 0 0 0 ∷ row_ (2 + z) 2 1 b 0 ∷ row_ z 0 b 0 0 ∷ row_ 1 0 0 0 0 ∷ row_ 1 0 0 0 0
+    ∷ row_ 2 2 3 0 0 ∷ row_ 1 any 0 0 0 ∷ row_ 1 any 0 0 0 ∷ row_ 1 any 0 0 0 ∷ row_ 1 any any any any
+    ∷ row_ 1 any 0 0 0 ∷ row_ 2 2 1 any 0 ∷ row_ 0 0 any 0 0 ∷ row_ 1 0 0 0 0 ∷ row_ 1 0 0 0 0
     ∷ row_ 1 0 0 0 0 ∷ []
-    ) ≡ limits x K
+    ≡ name_rows x
+names-read x hn hm ht = rw (hn, hm, ht) refl
+
+-- and with those of kinds that name a block
+pub limits-read : (x K : ℕ) {t : List code.Bounds} {z b : ℕ} → t ≡ name_rows x → z ≡ none K → b ≡ last K
+    → numbers (set (set (set t 19 (row_ 1 any any any K)) 21 (row_ (2 + z) 2 1 b 0)) 22 (row_ z 0 b 0 0)) ≡ limits x K
 unfolding numbers
-limits-read x K hn hm ht hz hb = rw (hn, hm, ht, hz, hb) refl
+limits-read x K ht hz hb = rw (ht, hz, hb) refl
 
 -- a count that is within it, and at least 1 where there are none: there are some
 some_of : (x m : ℕ) → none x ≤ m → m ≤ any_of x → (m ≤ any) × (0 < x)

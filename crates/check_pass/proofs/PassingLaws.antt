@@ -275,17 +275,6 @@ closed-to fs n f d k h l a =
     let e : d ≡ suc (k + (d - (k + 1))) = omega arith in
     closed-down k (d - (k + 1)) f (subst (λ i. Closed fs n f d f i) e stay) h a (omega arith)
 
--- one more is done, as the code counts what is left
-pub all_more_done : {fs : List Open} {n d : ℕ} (k j : ℕ) → AllDone fs n j d → done (get_or fs k no_node) n ≡ true → k + 1 ≡ j → AllDone fs n k d
-all_more_done {fs} {n} {d} k j a h e = record { each = λ i l u. by i l u (ℕ_discrete i k) }
-  where
-    by : (i : ℕ) → k ≤ i → i < d → Dec (i ≡ k) → done (get_or fs i no_node) n ≡ true
-    by i l u (yes y) = subst (λ x. done (get_or fs x no_node) n ≡ true) (sym y) h
-    by i l u (no z) = a.each i (omega arith) u
-
-pub all_done_none : (fs : List Open) (n d : ℕ) → AllDone fs n d d
-all_done_none fs n d = record { each = λ j l u. absurd (omega arith) }
-
 -- what is known of the first d open nodes, by themselves
 pub first_done : (fs : List Open) (n k d : ℕ) → d ≤ length fs → AllDone (take d fs) n k (length (take d fs)) → AllDone fs n k d
 first_done fs n k d h a = record { each = λ j l u. by j l u }
@@ -294,6 +283,7 @@ first_done fs n k d h a = record { each = λ j l u. by j l u }
     by j l u =
         subst (λ o. done o n ≡ true) (get_or-take d fs j no_node u) (a.each j l (omega (arith, length-take-le d fs h)))
 
-pub first_inner : (fs : List Open) (n k d : ℕ) → d ≤ length fs → (k < length (take d fs)) × AllDone (take d fs) n (k + 1) (length (take d fs))
+pub first_inner : (fs : List Open) (n k d : ℕ) → d ≤ length fs
+    → (k < length (take d fs)) × AllDone (take d fs) n (k + 1) (length (take d fs))
     → (k < d) × AllDone fs n (k + 1) d
 first_inner fs n k d h a = (omega (arith, a.0, length-take-le d fs h), first_done fs n (k + 1) d h a.1)

@@ -79,6 +79,9 @@ module _ {s : List ℕ} {total K B : ℕ} {t : List ℕ} {fs : List Open} {f : O
     pub end_fits : Fits w32 (n + w)
     end_fits = let h = state-inside in omega (arith, fit-ends.1, sizes-small S.sizes)
 
+    pub next_fits : Fits w32 (n + 1)
+    next_fits = let h = state-inside in omega (arith, fit-ends.0, fit-ends.1, sizes-small S.sizes)
+
     module _ (due : f.passed < f.count) where
       pub state-leaf : m₁ ≡ 0 → w ≡ 1 → State s total K B t fs (more f) (n + 1) d
       state-leaf z q = record {

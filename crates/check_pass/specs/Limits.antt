@@ -3,6 +3,7 @@ use Rattle.std.specs.Prelude.{ℕ, ◌+◌, ◌*◌, ◌-◌, ◌≤◌, ◌≡�
 use Rattle.text.specs.Keyword.{is_curry}
 use Rattle.sheet.specs.Text.{text}
 use Rattle.sheet.specs.Kinds.{char_kind, fn_call_kind, last_kind}
+use Rattle.check_shape.specs.declared.Bounds.{Bounds}
 use Rattle.check_shape.specs.Kinds.{bound_words, most_count, most_a, most_b, most_c, any, scalar}
 
 -- 1 where there are none
@@ -16,6 +17,20 @@ last x = x - 1
 -- any 32-bit word, 0 where there are none
 unfoldable pub any_of : ℕ → ℕ
 any_of x = elim (eqb x 0) [ true ↦ 0 | false ↦ any ]
+
+-- a row by its numbers
+abbrev pub row_ : ℕ → ℕ → ℕ → ℕ → ℕ → Bounds
+row_ l m a b c = record { least = l; most = m; a = a; b = b; c = c }
+
+-- The bounds of each kind where only the texts are told, x of them: those of kinds that name a block are open.
+abbrev pub name_rows : ℕ → List Bounds
+name_rows x =
+    row_ 1 0 0 0 0 ∷ row_ 0 0 1 0 0 ∷ row_ 0 0 0 0 0 ∷ row_ 0 0 any any 0 ∷ row_ 0 0 any any 0
+    ∷ row_ 0 0 any 0 0 ∷ row_ (none x) 0 (last x) 0 0 ∷ row_ 0 any 0 0 0 ∷ row_ 0 any 0 0 0 ∷ row_ (none x) 0 (last x) 0 0
+    ∷ row_ 0 0 0 0 0 ∷ row_ (none x) 0 (last x) (last x) (last x) ∷ row_ (none x) (any_of x) (last x) 0 0
+    ∷ row_ (none x) (any_of x) (last x) 1 65535 ∷ row_ 2 2 3 0 0 ∷ row_ 2 2 3 0 0 ∷ row_ 1 any 0 0 0 ∷ row_ 1 any 0 0 0
+    ∷ row_ 1 any 0 0 0 ∷ row_ 1 any any any any ∷ row_ 1 any 0 0 0 ∷ row_ 2 2 1 any 0 ∷ row_ 0 0 any 0 0 ∷ row_ 1 0 0 0 0
+    ∷ row_ 1 0 0 0 0 ∷ row_ 1 0 0 0 0 ∷ []
 
 -- For each kind: the least and the greatest count of children, and the greatest a, b and c. As the kinds' bounds; but what names a text
 -- or a block is below their number, and a row is empty where there is none, and of a kind that is refused.

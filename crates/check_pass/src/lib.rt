@@ -2,7 +2,7 @@
 // where it says false, nothing is known.
 #![tactic(auto)]
 
-ghost use Rattle.std.specs.Prelude.{◌≡◌, true, not, ◌+◌, ◌*◌, ◌<◌, ◌≤◌, length};
+ghost use Rattle.std.specs.Prelude.{◌≡◌, true, not, ◌+◌, ◌*◌, ◌<◌, ◌≤◌, length, IfSome};
 ghost use Rattle.text.specs.Keyword.{is_curry};
 ghost use Rattle.sheet.specs.Text.{text};
 ghost use Rattle.check_shape.specs.Kinds as kinds;
@@ -53,6 +53,7 @@ fn node(sheet: &[u8], n: u32) -> Node
 }
 
 // 1 where there are none of `x`.
+// Kept: a number. It is the least count of a row that nothing of that kind may meet.
 fn none(x: u32) -> u32
     ensures { result ≡ limit.none x }
 {
@@ -77,10 +78,10 @@ fn any_of(x: u32) -> u32
     ANY
 }
 
-// The bounds of each kind, in a sheet of `x` texts and `blocks` blocks. What names a text or a block is below their number; a kind that is
-// refused, or that names what there is none of, has an empty row.
-fn limits(x: u32, blocks: u32) -> [Bounds; 26]
-    ensures { numbers result ≡ limit.limits x blocks }
+// The bounds of each kind, in a sheet of `x` texts. What names a text is below their number; a kind that is refused, or that names a text
+// where there is none, has an empty row.
+fn name_limits(x: u32) -> [Bounds; 26]
+    ensures { result ≡ limit.name_rows x }
 {
     let mut t = BOUNDS;
     let most = any_of(x);
@@ -106,6 +107,17 @@ fn limits(x: u32, blocks: u32) -> [Bounds; 26]
         c: 65535,
         ..named
     };
+    t[MAP as usize] = EMPTY;
+    t[BLOCK as usize] = EMPTY;
+    t[DYNAMIC_CONSTANT as usize] = EMPTY;
+    t
+}
+
+// The same in a sheet of `blocks` blocks: what names a block is below their number, and has an empty row where there is none.
+fn limits(x: u32, blocks: u32) -> [Bounds; 26]
+    ensures { numbers result ≡ limit.limits x blocks }
+{
+    let mut t = name_limits(x);
     let none = none(blocks);
     let block = last(blocks);
     t[SWITCH as usize] = Bounds {
@@ -129,9 +141,6 @@ fn limits(x: u32, blocks: u32) -> [Bounds; 26]
         b: 0,
         c: 0,
     };
-    t[MAP as usize] = EMPTY;
-    t[BLOCK as usize] = EMPTY;
-    t[DYNAMIC_CONSTANT as usize] = EMPTY;
     t
 }
 
@@ -219,6 +228,7 @@ fn opened(v: Node, end: u32) -> Open
 }
 
 // Node `v` may stand at `n`, as the next child of `p`, in a sheet whose Switch has fields `a` and `b`.
+// Kept: `a` and `b` as two words, here and in check_shape: `child_kind` answers for a node of any kind with any fields.
 fn child_words(p: Open, a: u32, b: u32, n: u32, v: Node) -> bool
     ensures { result ≡ true → shapes.child_words p.kind a b p.end p.passed n v.kind v.span ≡ true }
 {
@@ -249,33 +259,37 @@ fn innermost(around: &[Open], n: u32) -> Option<usize>
     ensures { MatchOption result (AllDone around.now n 0 (length around.now))
         (λ k. (k < length around.now) × AllDone around.now n (k + 1) (length around.now)) }
 {
-    for k in (0..around.len()).rev() {
-        if !around[k].done(n) {
-            return Some(k);
-        }
-    }
-    None
+    around.iter().rposition(|o| !o.done(n))
 }
 
-// Where node `n` is next: the nodes that are done are closed, but not all of them. Most often a child of the innermost node is next.
-fn settled(around: &[Open; 62], at: Level, n: u32) -> Level
+// Where node `n` is next: the nodes that are done are closed, but not all of them, and `n` is a child of the innermost; None where no open
+// node has a child left there. Most often the innermost node has one.
+fn settled(around: &[Open; 62], at: Level, n: u32) -> Option<Level>
     requires { at.d ≤ 62 }
-    ensures { Closed around.now n at.top at.d result.top result.d }
+    ensures { IfSome result (λ to. Closed around.now n at.top at.d to.top to.d × (to.top.passed < to.top.count)) }
 {
     if at.top.passed < at.top.count {
-        return at;
+        return Some(at);
     }
     if !at.top.done(n) {
-        return at;
+        return None;
     }
     match innermost(&around[..at.d], n) {
-        Some(d) => Level { top: around[d], d },
-        None => at,
+        Some(d) => {
+            let top = around[d];
+            if top.count <= top.passed {
+                return None;
+            }
+            Some(Level { top, d })
+        }
+        None => None,
     }
 }
 
 // The pass over the nodes behind the root, of `total` nodes. `at` is the innermost open node, and those around it are in `around`.
 // Kept: the stack is an array with its height beside it: there is no heap, and std's Vec is of the heap.
+// It is not drawn into `check`, whose values would share the loop's registers.
+#[inline(never)]
 fn walk(sheet: &[u8], t: &[Bounds; 26], total: u32, root: Node) -> bool
     requires sizes { Sizes sheet.now total root.a root.b (numbers t.now) }
     requires root { Root sheet.now root.kind root.span root.count root.a root.b root.c }
@@ -285,10 +299,10 @@ fn walk(sheet: &[u8], t: &[Bounds; 26], total: u32, root: Node) -> bool
     let mut around = [NONE; 62];
     let mut at = Level { top, d: 0 };
     for n in 1..total {
-        at = settled(&around, at, n);
-        if at.top.count <= at.top.passed {
+        let Some(to) = settled(&around, at, n) else {
             return false;
-        }
+        };
+        at = to;
         let v = node(sheet, n);
         if !child_words(at.top, root.a, root.b, n, v) {
             return false;

@@ -208,6 +208,8 @@ pub fn root_ok(sheet: &[u8]) -> bool
 }
 
 // Node `j` may be child `i` of node `p`, and its subtree ends at `e` or before.
+// Kept: two comparisons that stand in `self_ok` too, and in `child_words` of check_pass, which has a node by
+// its words and not by its number.
 fn child_ok(sheet: &[u8], p: Node, e: u32, i: u32, j: u32) -> bool
     ensures { result ≡ shape.child_fits sheet.now p.kind p.a p.b e i j }
 {

@@ -15,7 +15,6 @@ use Rattle.sheet.specs.Kinds.{string_kind}
 use Rattle.sheet.specs.Node.{kind, field_a, field_b, child, next}
 use Rattle.sheet.specs.Text.{text}
 use Rattle.sheet.specs.Walk.{siblings_by, siblings, skip}
-use Rattle.sheet.proofs.WalkLaws.{skip-add}
 use Rattle.check_switches.specs.Switch.{apart_by, distinct_by, same_value, apart, distinct}
 use Rattle.check_switches.proofs.SwitchLaws.{value-kinds, value-text, value-bits}
 use Rattle.check_switches.specs.Key.{text_key, value_key}
@@ -41,7 +40,8 @@ module _ (s : List ℕ) (v : ℕ) where
   unfolding value_key
   bits-valued h = rw (ne_eqb (kind s v) string_kind h, value_key)
 
-  pub text-key : {a k r : ℕ} {x : List ℕ} → a ≡ field_a s v → k ≡ kind s v → k ≡ string_kind → x ≡ text s a → r ≡ text_key x → r ≡ value_key s v
+  pub text-key : {a k r : ℕ} {x : List ℕ} → a ≡ field_a s v → k ≡ kind s v → k ≡ string_kind → x ≡ text s a → r ≡ text_key x
+      → r ≡ value_key s v
   text-key ha hk six hx hr = hr ∙ ap text_key (hx ∙ ap (text s) ha) ∙ text-valued (sym hk ∙ six)
 
   pub bits_key : {a b k : ℕ} → a ≡ field_a s v → k ≡ kind s v → (k ≡ string_kind → ⊥) → b ≡ field_b s v → a + 4294967296 * b ≡ value_key s v
@@ -87,35 +87,34 @@ module _ (s : List ℕ) where
       let first = siblings-all (apart s p) m (next s p) (λ b h. f 0 (suc b) (omega arith) (omega arith)) in
       rw (first, distinct_by) (pairs-distinct m (next s p) (λ a b h k. f (suc a) (suc b) (omega arith) (omega arith)))
 
--- The numbers of i cases from node at on are in k, each another; node j is next.
-pub record Keys (s : List ℕ) (at i j : ℕ) (k : List ℕ) : Type 0 where
-  pub here : j ≡ skip s i at
+-- The numbers of i cases from node at on are in k, each another.
+pub record Keys (s : List ℕ) (at i : ℕ) (k : List ℕ) : Type 0 where
   pub kept : (a : ℕ) → a < i → get_or k a 0 ≡ value_key s (child (skip s a at))
   pub differ : (a b : ℕ) → a < b → b < i → value_key s (child (skip s a at)) ≡ value_key s (child (skip s b at)) → ⊥
 
+-- no number of the first i in k is v
+abbrev pub Other : ℕ → List ℕ → ℕ → Type 0
+Other i k v = (a : ℕ) → a < length (take i k) → get_or (take i k) a 0 ≡ v → ⊥
+
 module _ (s : List ℕ) (at : ℕ) where
-  pub keys-start : (k : List ℕ) → Keys s at 0 at k
-  unfolding skip
-  keys-start k = record {
-    here = refl;
+  pub keys-start : (i : ℕ) (k : List ℕ) → i ≡ 0 → Keys s at i k
+  keys-start i k z = record {
     kept = λ a h. absurd (omega arith);
     differ = λ a b h g. absurd (omega arith);
   }
 
-  pub keys-end : {i j : ℕ} {k : List ℕ} (m : ℕ) → Keys s at i j k → m ≤ i → distinct s m at ≡ true
+  pub keys-end : {i : ℕ} {k : List ℕ} (m : ℕ) → Keys s at i k → i ≡ m → distinct s m at ≡ true
   keys-end m K h = pairs-distinct s m at (λ a b f g. cases_differ s _ _ (K.differ a b f (omega arith)))
 
-  pub keys_step : {i j : ℕ} {k : List ℕ} {c v n : ℕ} → Keys s at i j k → i < length k → c ≡ child j → v ≡ value_key s c → n ≡ next s j
-      → ((a : ℕ) → a < length (take i k) → get_or (take i k) a 0 ≡ v → ⊥) → Keys s at (i + 1) n (set k i v)
-  unfolding skip
-  keys_step {i} {j} {k} {c} {v} {n} K h hc hv hn other = record {
-    here = hn ∙ ap (next s) K.here ∙ sym (skip-add s i 1 at);
+  pub keys_step : {i j : ℕ} {k : List ℕ} {c v : ℕ} → Keys s at i k → i < length k → j ≡ skip s i at → c ≡ child j → v ≡ value_key s c
+      → Other i k v → Keys s at (i + 1) (set k i v)
+  keys_step {i} {j} {k} {c} {v} K h hj hc hv other = record {
     kept = λ a g. keeps a g (dec_lt a i);
     differ = λ a b f g. differs a b f (dec_lt b i) g;
   }
     where
       new : v ≡ value_key s (child (skip s i at))
-      new = hv ∙ ap (λ x. value_key s x) (hc ∙ ap child K.here)
+      new = hv ∙ ap (λ x. value_key s x) (hc ∙ ap child hj)
 
       keeps : (a : ℕ) → a < i + 1 → Dec (a < i) → get_or (set k i v) a 0 ≡ value_key s (child (skip s a at))
       keeps a g (yes f) = get_or-set_other k i a v 0 (λ e. omega arith) ∙ K.kept a f

@@ -2,3 +2,4 @@
 pub mod KeyLaws
 mod ReadLaws
 pub mod SwitchLaws
+mod NamedLaws

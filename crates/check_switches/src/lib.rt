@@ -69,8 +69,9 @@ pub fn entries_ok(sheet: &[u8]) -> bool
 }
 
 // Nodes `v` and `w` have equal kind and value.
-// Kept: a function of its own beside scratch_index's `same_const`. That one asks first whether two text numbers are the same, as they
-// mostly are where a constant is found again; no two cases may be, so here it would be one more question for each two.
+// Kept: beside `same_const` of scratch_index. The definitions are two (`same_value` of refusal 7, `same_const_of` of the pools). For one
+// function `same_text` would have to come down here from expr_chains, and each pair of cases would be asked first whether its numbers
+// are equal, which they hardly are.
 fn same_value(sheet: &[u8], v: u32, w: u32) -> bool
     ensures { result ≡ switches.same_value sheet.now v w }
 {
@@ -151,9 +152,8 @@ fn among(k: &[u64], key: u64) -> bool
 }
 
 // Some Cases, not too few and not too many, from node `at` on differ already by their numbers.
-// Kept: count and first Case apart: whether there are 6 to 64 is asked first, which an iterator does not tell. And `j` beside `n`: the loop
-// over `Siblings` with `enumerate` was written and its goals looked at, but no invariant was found in the time that there was: it would
-// have to tie `n`, `j` and the iterator's state to `Keys`.
+// Kept: count and first Case apart: whether there are 6 to 64 is asked first, which an iterator does not tell. The keys lie in an array,
+// `n` of them in front: there is no heap.
 fn keys_apart(sheet: &[u8], m: u32, at: u32) -> bool
     ensures { result ≡ true → switches.distinct sheet.now m at ≡ true }
 {
@@ -164,14 +164,13 @@ fn keys_apart(sheet: &[u8], m: u32, at: u32) -> bool
         return false;
     }
     let mut k = [0u64; 64];
-    let mut j = at;
-    for n in 0..m as usize {
+    let cases = Siblings::new(sheet, m, at);
+    for (n, j) in cases.enumerate() {
         let key = value_key(sheet, child(j));
         if among(&k[..n], key) {
             return false;
         }
         k[n] = key;
-        j = next(sheet, j);
     }
     true
 }

@@ -48,7 +48,11 @@ reading-whole s {r} h = by (ℕ_discrete r (length s))
 -- a run up to a place where no tail byte stands
 run-cut : {s : List ℕ} {i j k : ℕ} → Characters s i k → i ≤ j → j ≤ k → no_tail (slice j k s) ≡ true → Characters s i j
 run-cut {s} {i} {j} {k} f h l n =
-    record { least = h; most = omega arith; good = ap utf8 (sym front) ∙ ((utf8-sync (take (j - i) whole) (drop (j - i) whole) n').0 both).0 }
+    record {
+      least = h;
+      most = omega arith;
+      good = ap utf8 (sym front) ∙ ((utf8-sync (take (j - i) whole) (drop (j - i) whole) n').0 both).0;
+    }
   where
     whole : List ℕ
     whole = slice i k s
@@ -68,25 +72,25 @@ run-cut {s} {i} {j} {k} f h l n =
     both : utf8 (take (j - i) whole ++ drop (j - i) whole) ≡ true
     both = ap utf8 (take-append-drop (j - i) whole) ∙ f.good
 
--- a byte below 80 and one above BF are no tail bytes
+-- a byte that is no tail byte, as one above BF
 no-tail : (s : List ℕ) (j k : ℕ) → j < k → k ≤ length s → (within 0x80 0xBF (get_or s j 0) ≡ false) → no_tail (slice j k s) ≡ true
 no-tail s j k h l e = ap no_tail (slice-cons j k s 0 h l) ∙ ap not e
-
-pub low-cut : {s : List ℕ} {i j k : ℕ} → Characters s i k → i ≤ j → j < k → get_or s j 0 < 0x80 → Characters s i j
-low-cut {s} {i} {j} {k} f h l b =
-    run-cut f h (omega arith) (no-tail s j k l f.most (rw (lt-leb 0x80 (get_or s j 0) b)))
 
 pub high_cut : {s : List ℕ} {i j k : ℕ} → Characters s i k → i ≤ j → j < k → 0xBF < get_or s j 0 → Characters s i j
 high_cut {s} {i} {j} {k} f h l b =
     let out : within 0x80 0xBF (get_or s j 0) ≡ false = rw (lt-leb (get_or s j 0) 0xBF b) (and-false (leb 0x80 (get_or s j 0))) in
     run-cut f h (omega arith) (no-tail s j k l f.most out)
 
+pub tail-cut : {s : List ℕ} {i j k : ℕ} → Characters s i k → i ≤ j → j < k → not (within 0x80 0xBF (get_or s j 0)) ≡ true → Characters s i j
+tail-cut {s} {i} {j} {k} f h l e = run-cut f h (omega arith) (ap no_tail (slice-cons j k s 0 l f.most) ∙ e)
+
 -- a mark that holds is a run
 pub mark-run : {b : List ℕ} {e v : ℕ} → Holds b e v → (i : ℕ) → mark_from e v ≡ i → i ≤ mark_to v → mark_to v ≤ length b
     → Characters b i (mark_to v)
 mark-run {b} {e} {v} h i f l m = record { least = l; most = m; good = rw (← f) (h.whole (omega arith) m) }
 
-pub mark-end : {b : List ℕ} {e v : ℕ} → Holds b e v → (i j : ℕ) → mark_from e v ≡ i → i ≤ j → mark_to v ≡ j → j ≤ length b → Characters b i j
+pub mark-end : {b : List ℕ} {e v : ℕ} → Holds b e v → (i j : ℕ) → mark_from e v ≡ i → i ≤ j → mark_to v ≡ j → j ≤ length b
+    → Characters b i j
 mark-end {b} {e} {v} h i j f l g m = subst (λ x. Characters b i x) g (mark-run h i f (omega arith) (omega arith))
 
 -- the mark of a run holds

@@ -80,6 +80,7 @@ module _ (s q : List ℕ) (here : q ≡ text_bytes s) (p : PlainTo q (length q))
   plain-texts h = all_same (text_ok s) (inside s) (text_count s) (λ t l. plain-text t) ∙ h
 
 -- as the code reads it
-pub inside-read : (s : List ℕ) (t : ℕ) {a l b : ℕ} → a ≡ text_start s t → l ≡ text_length s t → b ≡ byte_count s → leb (a + l) b ≡ inside s t
+pub inside-read : (s : List ℕ) (t : ℕ) {a l b : ℕ} → a ≡ text_start s t → l ≡ text_length s t → b ≡ byte_count s
+    → leb (a + l) b ≡ inside s t
 unfolding inside
 inside-read s t ha hl hb = cc

@@ -3,9 +3,9 @@ use Prim.Native.Nat.{ℕ, ◌+◌, ◌*◌, ◌≤◌, ◌<◌}
 use mathlib.Core.Path.{◌≡◌, refl, ap, subst, sym, ◌∙◌}
 use mathlib.Core.Bool.{Bool, true, false, true≢false}
 use mathlib.Core.List.{List}
-use native.Mathlib.Decide.{ℕ_discrete, dec_lt}
+use native.Mathlib.Decide.{dec_lt}
 use native.Mathlib.Omega.{arith}
-use lib.ListN.{length, take, drop, length-take}
+use lib.ListN.{length, get_or, take, drop, length-take}
 use lib.Seq.{slice, take-take, drop-drop}
 use borrow.Author.Tests.{le-leb, lt-leb, leb-true, leb-false}
 use Rattle.words.proofs.CountLaws.{all-fails, all-at, all_of}
@@ -17,6 +17,9 @@ use Rattle.sheet.specs.Text.{text_start, text_length, text_by, text}
 use Rattle.check_texts.specs.Texts.{text_ok_by, texts_by, text_ok, texts_ok}
 use Rattle.check_texts.specs.Marks.{text_bytes, Characters, Due, Right, AllDue, Done}
 use Rattle.check_texts.specs.Plain.{inside}
+use Rattle.std.specs.Bool.{MatchBool}
+use Rattle.std.specs.List.{range_with_len, AllWithin, HoldsAt}
+use Rattle.std.proofs.lemmas.List.FromFn.{length-range_with_len, get_or-range_with_len}
 
 -- a text within the bytes is right where it is well-formed
 pub text-within : (s : List ℕ) (t : ℕ) → text_start s t + text_length s t ≤ byte_count s → text_ok s t ≡ utf8 (text s t)
@@ -84,23 +87,28 @@ pub due_all : {s : List ℕ} {base limit : ℕ} (t : ℕ) → t ≡ text_count s
 due_all {s} {base} {limit} t e p =
     record { right = λ h. subst (λ n. Right s base limit n) e p; wrong = λ h. absurd (true≢false h) }
 
--- the texts due are right so far
-pub due-none : (s : List ℕ) (base limit : ℕ) → Right s base limit 0
-due-none s base limit = record { each = λ t l. absurd (omega arith) }
+-- what a chain over the numbers of all texts answers
+item : (n j : ℕ) → j < n → get_or (range_with_len 0 n) j 0 ≡ j
+item n j h = omega (arith, get_or-range_with_len 0 n j 0 h)
 
-pub due-more : {s : List ℕ} {base limit : ℕ} (t : ℕ) {r : Bool} → Right s base limit t → Due s t base limit r → r ≡ true
-    → Right s base limit (t + 1)
-due-more {s} {base} {limit} t {r} p d e = record { each = λ k l. by k l (ℕ_discrete k t) }
+pub due-chain : {s : List ℕ} {base limit : ℕ} (n : ℕ) → n ≡ text_count s → (r : Bool)
+    → MatchBool r (AllWithin (λ t. Due s t base limit true) (range_with_len 0 n) 0 (length (range_with_len 0 n)))
+    ((k : ℕ) × (k < length (range_with_len 0 n)) × HoldsAt (λ t. Due s t base limit false) (range_with_len 0 n) k)
+    → AllDue s base limit r
+due-chain {s} {base} {limit} n e true h = due_all n e (record { each = λ t l f g. (at t l).right refl f g })
   where
-    by : (k : ℕ) → k < t + 1 → Dec (k ≡ t) → base ≤ text_start s k → text_start s k < limit → text_ok s k ≡ true
-    by k l (yes y) = subst (λ j. base ≤ text_start s j → text_start s j < limit → text_ok s j ≡ true) (sym y) (d.right e)
-    by k l (no n) = p.each k (omega arith)
+    at : (t : ℕ) → t < n → Due s t base limit true
+    at t l = subst (λ x. Due s x base limit true) (item n t l) (h t 0 (omega arith) (omega (arith, length-range_with_len 0 n, l)))
+due-chain {s} {base} {limit} n e false h =
+    let less : h.0 < n = omega (arith, h.1, length-range_with_len 0 n) in
+    due-fails h.0 (omega arith) (subst (λ x. Due s x base limit false) (item n h.0 less) (h.2 0)) refl
 
 -- the texts from a limit on are right, and all where the limit is 0
 pub done-start : (s : List ℕ) (n : ℕ) → n ≡ byte_count s → all_below (text_count s) (inside s) ≡ true → Done s (n + 1)
 unfolding inside
 done-start s n e h = record {
-  each = λ t l f. absurd (omega (arith, leb-true (text_start s t + text_length s t) (byte_count s) (all-at (inside s) (text_count s) t h l)));
+  each =
+      λ t l f. absurd (omega (arith, leb-true (text_start s t + text_length s t) (byte_count s) (all-at (inside s) (text_count s) t h l)));
 }
 
 pub done-late : {s : List ℕ} {limit late : ℕ} → Done s limit → limit ≤ late → Done s late

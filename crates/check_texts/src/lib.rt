@@ -5,9 +5,9 @@
 // characters stand from there on. A text that starts in the stretch is read to the end of its first block, and goes on by its mark.
 #![tactic(auto)]
 
-ghost use Rattle.std.specs.Prelude.{◌≡◌, true, ◌+◌, ◌*◌, ◌^◌, ◌≤◌, ◌<◌, length};
+ghost use Rattle.std.specs.Prelude.{◌≡◌, true, not, ◌+◌, ◌*◌, ◌^◌, ◌≤◌, ◌<◌, length};
 ghost use Rattle.words.specs.Count.{all_below};
-ghost use Rattle.text.specs.Utf8.{utf8};
+ghost use Rattle.text.specs.Utf8.{utf8, within};
 ghost use Rattle.sheet.specs.Sections.{text_count};
 ghost use Rattle.sheet.specs.Text.{text_start, text_length};
 ghost use Rattle.check_texts.specs.Texts.{text_ok, texts_ok};
@@ -54,24 +54,28 @@ fn run(sheet: &[u8], i: usize, stop: usize) -> usize
     r
 }
 
+// No tail byte of a character.
+fn no_tail(x: u8) -> bool
+    ensures { result ≡ not (within 0x80 0xBF x) }
+{
+    (x < 0x80) | (0xBF < x)
+}
+
 // A place at or after `p` for reading to start again: the first byte that is no tail byte, if it is one of the next three.
 fn restart(b: &[u8], p: usize) -> usize
     requires { p ≤ length b.now }
     ensures { (p ≤ result) × (result ≤ length b.now) }
 {
     let last = b.len().min(p + 3);
-    for r in p..last {
-        if b[r] < 0x80 {
-            return r;
-        }
-        if 0xBF < b[r] {
-            return r;
-        }
-    }
-    last
+    b[p..last]
+        .iter()
+        .position(|x| no_tail(*x))
+        .map_or(last, |k| p + k)
 }
 
 // Two places between which there are whole characters.
+// Kept: that there are (`Characters`) is a premise of those that go on from them. As a ghost fact it would name the bytes, which would then
+// be a field, though each of those has them.
 #[derive(Clone, Copy)]
 struct Far {
     from: usize,
@@ -123,6 +127,8 @@ fn mark(e: usize, p: usize, far: usize) -> u32
 }
 
 // The marks of the stretch that starts at `base`, from its last block to its first; `from` is known from the stretch behind it.
+// Kept: by index. Tried, `marks.iter_mut().enumerate().rev()`: of that loop the invariant has the iterator and not the marks, so it cannot
+// say that those of the blocks passed are true.
 fn keep(b: &[u8], base: usize, from: Far, marks: &mut [u32; BLOCKS]) -> Far
     requires base_bound { (base < 2 ^ 33) × (length marks.old ≡ blocks) }
     requires characters { Characters b.now from.from from.to }
@@ -162,10 +168,7 @@ fn leaps(b: &[u8], e: usize, v: usize, i: usize, end: usize) -> bool
     if far == end {
         return true;
     }
-    if b[end] < 0x80 {
-        return true;
-    }
-    0xBF < b[end]
+    no_tail(b[end])
 }
 
 // A mark as a number.
@@ -288,6 +291,8 @@ impl<'a> Texts<'a> {
     }
 
     // The lengths of all texts together.
+    // Kept: not `.map(..).sum()`, which asks that the sum of what the chain gives is below 2^64: a law over that list would show what the
+    // loop's invariant says in one line.
     fn total(&self) -> u64 {
         let mut sum: u64 = 0;
         for t in 0..self.count {
@@ -374,12 +379,7 @@ impl<'a> Stretch<'a> {
     fn all_ok(&self) -> bool
         ensures { AllDue self.now.texts.sheet.now self.now.base (self.now.base + stretch) result }
     {
-        for t in 0..self.texts.count {
-            if !self.due_ok(t) {
-                return false;
-            }
-        }
-        true
+        (0..self.texts.count).all(|t| self.due_ok(t))
     }
 }
 

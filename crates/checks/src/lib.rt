@@ -1,7 +1,7 @@
 // The check of a sheet: refusals 1 to 8 in ascending number. Any bytes are answered, nothing is written, and no memory is used but locals.
 #![tactic(auto)]
 
-ghost use Rattle.std.specs.Prelude.{◌≡◌};
+ghost use Rattle.std.specs.Prelude.{◌≡◌, true, false, Ok, Err};
 ghost use Rattle.checks.specs.Checked as answers;
 ghost use Rattle.checks.specs.Rest.{rest_checked};
 
@@ -15,41 +15,34 @@ use check_switches::{cases_ok, entries_ok};
 use check_texts::texts_ok;
 use refusals::Refusal;
 
+// The refusal `by`, where a test did not pass. With `?` behind it the next test is made only where this one passed.
+fn asked(ok: bool, by: Refusal) -> Result<(), Refusal>
+    ensures { result ≡ elim ok [ true ↦ Ok tt | false ↦ Err by ] }
+{
+    if ok {
+        return Ok(());
+    }
+    Err(by)
+}
+
 // From refusal 5 on.
 fn tree(sheet: &[u8]) -> Result<(), Refusal>
     ensures { result ≡ answers.tree_checked sheet.now }
 {
-    if !depth_ok(sheet) {
-        return Err(Refusal::Depth); // 5
-    }
-    if !entries_ok(sheet) {
-        return Err(Refusal::Arms); // 6
-    }
-    if !cases_ok(sheet) {
-        return Err(Refusal::Twice); // 7
-    }
-    if !supported_ok(sheet) {
-        return Err(Refusal::Unsupported); // 8
-    }
-    Ok(())
+    asked(depth_ok(sheet), Refusal::Depth)?; // 5
+    asked(entries_ok(sheet), Refusal::Arms)?; // 6
+    asked(cases_ok(sheet), Refusal::Twice)?; // 7
+    asked(supported_ok(sheet), Refusal::Unsupported) // 8
 }
 
 // The answer for any byte string, refusal by refusal.
 fn by_number(sheet: &[u8]) -> Result<(), Refusal>
     ensures { result ≡ answers.checked sheet.now }
 {
-    if !sizes_ok(sheet) {
-        return Err(Refusal::Size); // 1
-    }
-    if !shape_ok(sheet) {
-        return Err(Refusal::Shape); // 2
-    }
-    if !texts_ok(sheet) {
-        return Err(Refusal::Text); // 3
-    }
-    if !numbers_ok(sheet) {
-        return Err(Refusal::Number); // 4
-    }
+    asked(sizes_ok(sheet), Refusal::Size)?; // 1
+    asked(shape_ok(sheet), Refusal::Shape)?; // 2
+    asked(texts_ok(sheet), Refusal::Text)?; // 3
+    asked(numbers_ok(sheet), Refusal::Number)?; // 4
     tree(sheet)
 }
 
@@ -57,20 +50,10 @@ fn by_number(sheet: &[u8]) -> Result<(), Refusal>
 fn rest(sheet: &[u8]) -> Result<(), Refusal>
     ensures { result ≡ rest_checked sheet.now }
 {
-    let texts = texts_ok(sheet);
-    if !texts {
-        return Err(Refusal::Text);
-    }
-    if !locals_ok(sheet) {
-        return Err(Refusal::Number);
-    }
-    if !entries_ok(sheet) {
-        return Err(Refusal::Arms);
-    }
-    if !cases_ok(sheet) {
-        return Err(Refusal::Twice);
-    }
-    Ok(())
+    asked(texts_ok(sheet), Refusal::Text)?;
+    asked(locals_ok(sheet), Refusal::Number)?;
+    asked(entries_ok(sheet), Refusal::Arms)?;
+    asked(cases_ok(sheet), Refusal::Twice)
 }
 
 // Nothing refuses, or the first cause that fits, for any byte string: in one pass over the nodes where all of them are well, and refusal
@@ -78,9 +61,7 @@ fn rest(sheet: &[u8]) -> Result<(), Refusal>
 pub fn check(sheet: &[u8]) -> Result<(), Refusal>
     ensures { result ≡ answers.checked sheet.now }
 {
-    if !sizes_ok(sheet) {
-        return Err(Refusal::Size);
-    }
+    asked(sizes_ok(sheet), Refusal::Size)?;
     if passes(sheet) {
         return rest(sheet);
     }

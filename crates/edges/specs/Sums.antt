@@ -1,8 +1,7 @@
--- Checksums, needs and lengths of the edges.
+-- Checksums and lengths of the edges.
 use Rattle.std.specs.Prelude.{ℕ, ◌+◌, ◌*◌, ◌%◌, List}
 use Rattle.std.specs.List.{fold}
 use Rattle.sheet.specs.Limits.{header_words, node_words}
-use Rattle.lowering.specs.Limits.{scratch_per_emitted, scratch_per_node, scratch_besides}
 
 -- a checksum with one word more
 abbrev pub mixed : ℕ → ℕ → ℕ
@@ -14,10 +13,6 @@ mixed_all sum ws = fold mixed sum ws
 
 abbrev pub checksum : List ℕ → ℕ
 checksum ws = mixed_all 0 ws
-
--- the scratch for e instructions and n nodes
-abbrev pub needed : ℕ → ℕ → ℕ
-needed e n = scratch_per_emitted * e + scratch_per_node * n + scratch_besides
 
 -- the bytes of a sheet of n nodes and x texts of up to four bytes, without locals
 abbrev pub sheet_bytes : ℕ → ℕ → ℕ

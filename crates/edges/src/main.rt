@@ -9,7 +9,7 @@ ghost use Rattle.edges.specs.Sums as sums;
 mod sheets;
 
 use lowering::SIZES;
-use needs::{BESIDES, PER_EMITTED, PER_NODE};
+use needs::scratch_words;
 use refusals::{Refusal, number};
 use replay_records::{put_noise, word};
 use sheet::node_count;
@@ -95,12 +95,11 @@ fn checksum(words: &[u32]) -> u32
     words.iter().fold(0, |sum, word| mixed(sum, *word))
 }
 
-// The twelve sizes of an image.
+// The twelve sizes of an image, as far as it goes.
 // Kept: printed one by one. Display would need a type of its own around the slice, for this one line.
 fn print_sizes(rt: &impl Print, image: &[u32]) -> io::Result<()> {
     print!(rt; ", sizes")?;
-    for i in 0..SIZES {
-        let size = word(image, i);
+    for size in image.iter().take(SIZES) {
         print!(rt; " {size}")?;
     }
     Ok(())
@@ -158,13 +157,6 @@ fn within(
     Ok(())
 }
 
-// The scratch that a sheet of so many nodes asks for.
-fn needed(emitted: u32, nodes: u32) -> usize
-    ensures { result ≡ sums.needed emitted nodes }
-{
-    PER_EMITTED as usize * emitted as usize + PER_NODE as usize * nodes as usize + BESIDES as usize
-}
-
 // The buffers that a sheet asks for: an image that is exactly full with a scratch that is exactly enough; then each with one word less.
 // Word 10 is what was emitted, where that is not capped.
 fn rooms(
@@ -178,7 +170,7 @@ fn rooms(
         return Ok(());
     };
     let x = edge(rt, "ranges 20", sheet, image, scratch)?.unwrap_or(0);
-    let y = needed(word(image, 10), node_count(sheet));
+    let y = scratch_words(word(image, 10), node_count(sheet)) as usize;
     let label = "image exactly full, scratch exactly enough";
     within(rt, label, sheet, image.get_mut(..x), scratch.get_mut(..y))?;
     let short = x.saturating_sub(1);

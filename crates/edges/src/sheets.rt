@@ -24,13 +24,6 @@ fn put(sheet: &mut [u8], i: usize, w: u32) {
     }
 }
 
-// The words from `from` up to `to`, without `to`, as 0.
-fn put_zeros(sheet: &mut [u8], from: usize, to: usize) {
-    for i in from..to {
-        put(sheet, i, 0);
-    }
-}
-
 // Node `n`, with no fields but `a` and `b`.
 fn put_node(sheet: &mut [u8], n: u32, kind: u32, span: u32, count: u32, a: u32, b: u32) {
     let at = HEADER_WORDS + NODE_WORDS * n as usize;
@@ -39,7 +32,7 @@ fn put_node(sheet: &mut [u8], n: u32, kind: u32, span: u32, count: u32, a: u32, 
     put(sheet, at + 2, count);
     put(sheet, at + 3, a);
     put(sheet, at + 4, b);
-    put_zeros(sheet, at + 5, at + NODE_WORDS);
+    put(sheet, at + 5, 0);
 }
 
 // The nodes from `from` up to `to`, without `to`, as leaves of a kind.
@@ -199,7 +192,8 @@ pub(crate) enum Made {
 
 impl Made {
     // Writes the sheet to the front of `sheet`, and answers how many bytes it has.
-    // Kept: sheets are data in a table of edges; a closure for each would be a type of its own for each row.
+    // Kept: a row says its sheet as data, which maker and which numbers. In a table of closures or of `fn` each row would be a function
+    // that says the same, and `rooms` makes one of its own.
     pub(crate) fn put(self, sheet: &mut [u8]) -> usize {
         match self {
             Made::Deep(last) => size(deep(sheet, last.min(MOST)), 0),

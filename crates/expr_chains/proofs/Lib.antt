@@ -18,3 +18,4 @@ mod TestLaws
 mod VariableLaws
 pub mod WalkLaws
 pub mod WordsLaws
+mod NamedLaws

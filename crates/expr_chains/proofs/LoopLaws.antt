@@ -10,12 +10,11 @@ use Rattle.lowering.proofs.ChainNodesLaws.{links-more, links-last, links-none}
 use Rattle.lowering.specs.Limits.{max_args}
 use Rattle.lowering.specs.Flatten as flatten
 use Rattle.lowering.specs.Flatten.{StepRule, index, property, method, rest_of, goes_on, step_rule, links}
-use Rattle.lowering.specs.Pools.{Name}
 use Rattle.expr_rules.specs.declared.chains.Read.{Read}
 use Rattle.expr_rules.specs.declared.chains.Links.{Links}
 use Rattle.expr_rules.specs.Links.{links_left, nodes_left}
 use Rattle.expr_rules.proofs.LinksLaws.{Left, links-turn, links-over}
-use Rattle.expr_chains.specs.Steps.{step_as, width_by, step_operands, steps_in, operands_of}
+use Rattle.expr_chains.specs.Steps.{width_by, step_operands, operands_of}
 use Rattle.expr_chains.specs.Same.{same_step, same_steps}
 
 module _ (s : List ℕ) where
@@ -32,22 +31,6 @@ module _ (s : List ℕ) where
   pub operands-done : (n left c : ℕ) → left ≤ 0 → n + operands_of s (links left s c) ≡ n
   unfolding operands_of
   operands-done n left c h = omega (arith, ap (operands_of s) (links-none s left c h))
-
-  -- the steps, with n operands before
-  pub steps-more : (ns : List Name) (n left c : ℕ) → 0 < left → goes_on s c ≡ true
-      → steps_in s ns n (links left s c)
-      ≡ step_as (step_rule s c) s ns c n ∷ steps_in s ns (n + step_operands s c) (links (left - 1) s (rest_of s c))
-  unfolding steps_in
-  steps-more ns n left c h g = ap (steps_in s ns n) (links-more s left c h g)
-
-  pub steps-last : (ns : List Name) (n left c : ℕ) → 0 < left → goes_on s c ≡ false
-      → steps_in s ns n (links left s c) ≡ step_as (step_rule s c) s ns c n ∷ []
-  unfolding steps_in
-  steps-last ns n left c h g = ap (steps_in s ns n) (links-last s left c h g)
-
-  pub steps-done : (ns : List Name) (n left c : ℕ) → left ≤ 0 → steps_in s ns n (links left s c) ≡ []
-  unfolding steps_in
-  steps-done ns n left c h = ap (steps_in s ns n) (links-none s left c h)
 
   few-by : (r : StepRule) (c : ℕ) → width_by r s c ≤ max_args
   unfolding width_by

@@ -1,15 +1,12 @@
 -- Laws of the tests of two steps, in the shapes of the code.
 use Prim.Native.Nat.{ℕ}
-use mathlib.Core.Path.{◌≡◌, refl, ap, ◌∙◌}
-use mathlib.Core.Bool.{Bool, true, false, ◌&&◌, not}
+use mathlib.Core.Path.{◌≡◌, refl}
+use mathlib.Core.Bool.{true, false, ◌&&◌}
 use mathlib.Core.List.{List}
 use lib.Dec.{eqb}
 use Rattle.text.proofs.SameLaws.{same_refl}
 use Rattle.sheet.specs.Text.{text}
-use Rattle.lowering.specs.Flatten.{negated, step_rule, has_step}
-use Rattle.expr_rules.specs.declared.chains.Read.{Read}
-use Rattle.expr_rules.specs.Reads.{Reads}
-use Rattle.expr_rules.proofs.ReadsLaws.{rule_told}
+use Rattle.lowering.specs.Flatten.{negated, step_rule}
 use denote.Enum.Bare.{sameb}
 use Rattle.expr_rules.specs.contracts.chains.StepRule.{the_type}
 use Rattle.expr_rules.specs.declared.chains.StepRule as StepRules
@@ -35,18 +32,6 @@ rules-same StepRules.TheVariants.Nothing StepRules.TheVariants.Index = refl
 rules-same StepRules.TheVariants.Nothing StepRules.TheVariants.Property = refl
 rules-same StepRules.TheVariants.Nothing StepRules.TheVariants.Method = refl
 rules-same StepRules.TheVariants.Nothing StepRules.TheVariants.Nothing = refl
-
--- a link has a step where its rule is not the last
-some-rule : (r : StepRules.StepRule) → not (sameb the_type r StepRules.TheVariants.Nothing) ≡ has_step (step_rule_from r)
-unfolding has_step step_rule_from
-some-rule StepRules.TheVariants.Index = refl
-some-rule StepRules.TheVariants.Property = refl
-some-rule StepRules.TheVariants.Method = refl
-some-rule StepRules.TheVariants.Nothing = refl
-
-pub some-step : {s : List ℕ} {p : Read} {b : Bool} → Reads s p.link p → b ≡ not (sameb the_type p.rule StepRules.TheVariants.Nothing)
-    → b ≡ has_step (step_rule s p.link)
-some-step {p = p} says e = e ∙ some-rule p.rule ∙ ap has_step (rule_told says refl)
 
 module _ (s : List ℕ) where
   pub text-one : (a b : ℕ) → a ≡ b → same_text s a b ≡ true

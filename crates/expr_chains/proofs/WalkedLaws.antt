@@ -7,15 +7,19 @@ use native.Mathlib.Omega.{arith}
 use lib.ListN.{length}
 use Rattle.std.proofs.lemmas.List.{length-map}
 use Rattle.sheet.specs.Limits.{max_depth}
-use Rattle.lowering.specs.Flatten.{step_rule, links, has_step, flattens}
+use Rattle.lowering.specs.Flatten.{StepRule, step_rule, links, has_step, flattens}
 use Rattle.expr_rules.specs.declared.chains.Read.{Read}
 use Rattle.expr_rules.specs.declared.chains.Links.{Links}
 use Rattle.expr_rules.specs.Reads.{read_of}
 use Rattle.expr_rules.specs.Links.{links_left, nodes_left}
 use Rattle.expr_rules.proofs.LinksLaws.{Left, Begun, Turn}
 use Rattle.expr_chains.specs.Steps.{step_operands, operands_of, chain_operands, link_count}
-use Rattle.expr_chains.specs.Lowers.{step_lowers, all_lower, lowers}
-use Rattle.expr_chains.specs.Walked.{Counted, Comes}
+use Rattle.expr_chains.specs.Lowers.{lowers_by, step_lowers, all_lower, lowers}
+use Rattle.std.specs.Ordering.{ord_min}
+use Rattle.expr_chains.specs.contracts.DistanceOrd.TheImpl as Order
+use Rattle.expr_chains.specs.declared.Distance.{Distance}
+use Rattle.expr_chains.specs.declared.Distance.TheVariants.{Nowhere, TakenBack, Whole}
+use Rattle.expr_chains.specs.Walked.{Counted, Grades, Comes, flattens_at, lowers_at}
 use Rattle.expr_chains.proofs.LoopLaws.{width_few}
 use Rattle.expr_chains.proofs.LinkLaws.{links-most}
 
@@ -98,16 +102,51 @@ module _ (s : List ℕ) (c : ℕ) (cs : List ℕ) where
       by true h = rw (h, all_lower)
       by false h = rw (h, all_lower)
 
--- f and l tell of the links passed
-pub record FarLeft (s : List ℕ) (j : ℕ) (f l : Bool) (m : ℕ) (it : Links) : Type 0 where
+-- a chain comes as far with a link as the link alone lets it
+pub grades-by : {s : List ℕ} {c : ℕ} {r : StepRule} {d : Distance} → r ≡ step_rule s c → flattens_at d ≡ has_step r
+    → lowers_at d ≡ lowers_by r s c
+    → Grades s c d
+unfolding step_lowers
+grades-by {s} {c} e f l = record { flattens_is = f ∙ ap has_step e; lowers_is = l ∙ ap (λ r. lowers_by r s c) e }
+
+-- the lesser of two
+lesser : Distance → Distance → Distance
+lesser a b = ord_min (Order.cmp-value).it a b
+
+lesser-flattens : (a b : Distance) → flattens_at (lesser a b) ≡ (flattens_at a && flattens_at b)
+unfolding flattens_at lesser
+lesser-flattens Nowhere Nowhere = refl
+lesser-flattens Nowhere TakenBack = refl
+lesser-flattens Nowhere Whole = refl
+lesser-flattens TakenBack Nowhere = refl
+lesser-flattens TakenBack TakenBack = refl
+lesser-flattens TakenBack Whole = refl
+lesser-flattens Whole Nowhere = refl
+lesser-flattens Whole TakenBack = refl
+lesser-flattens Whole Whole = refl
+
+lesser-lowers : (a b : Distance) → lowers_at (lesser a b) ≡ (lowers_at a && lowers_at b)
+unfolding lowers_at lesser
+lesser-lowers Nowhere Nowhere = refl
+lesser-lowers Nowhere TakenBack = refl
+lesser-lowers Nowhere Whole = refl
+lesser-lowers TakenBack Nowhere = refl
+lesser-lowers TakenBack TakenBack = refl
+lesser-lowers TakenBack Whole = refl
+lesser-lowers Whole Nowhere = refl
+lesser-lowers Whole TakenBack = refl
+lesser-lowers Whole Whole = refl
+
+-- so far it comes with the links passed
+pub record FarLeft (s : List ℕ) (j : ℕ) (d : Distance) (m : ℕ) (it : Links) : Type 0 where
   pub left : Left s it
-  pub flat : (f && flattens s (nodes_left it)) ≡ flattens s (links max_depth s j)
-  pub low : (l && all_lower s (nodes_left it)) ≡ lowers s j
+  pub flat : (flattens_at d && flattens s (nodes_left it)) ≡ flattens s (links max_depth s j)
+  pub low : (lowers_at d && all_lower s (nodes_left it)) ≡ lowers s j
   pub taking : Taking s j m (nodes_left it)
 
 module _ {s : List ℕ} {j : ℕ} {it : Links} where
-  pub far-begins : Begun s it (links max_depth s j) → FarLeft s j true true 0 it
-  unfolding lowers
+  pub far-begins : Begun s it (links max_depth s j) → FarLeft s j Whole 0 it
+  unfolding lowers flattens_at lowers_at
   far-begins b = record {
     left = b.left;
     flat = ap (flattens s) b.nodes;
@@ -115,29 +154,34 @@ module _ {s : List ℕ} {j : ℕ} {it : Links} where
     taking = subst (Taking s j 0) (sym b.nodes) (taking-begins s j);
   }
 
-  module _ {f l : Bool} {m : ℕ} (R : FarLeft s j f l m it) where
+  module _ {d : Distance} {m : ℕ} (R : FarLeft s j d m it) where
     pub far-goes :
-        {p : Read} {t : Links} {a b : Bool} {w : ℕ} → Turn s it p t → a ≡ has_step (step_rule s p.link) → b ≡ step_lowers s p.link
-        → w ≡ step_operands s p.link → FarLeft s j (f && a) (l && b) (m + w) t
-    far-goes {p} {t} {a} {b} u a_is b-is e =
+        {p : Read} {t : Links} {g e : Distance} {w : ℕ} → Turn s it p t → Grades s p.link g → e ≡ ord_min (Order.cmp-value).it d g
+        → w ≡ step_operands s p.link → FarLeft s j e (m + w) t
+    unfolding lesser
+    far-goes {p} {t} {g} {e} u G e-is w-is =
         let c = p.link in
         let ds = nodes_left t in record {
           left = u.left;
           flat =
-              and_assoc f a (flattens s ds)
-              ∙ ap (λ x. f && x) (ap (λ x. x && flattens s ds) a_is ∙ sym (flat-and s c ds) ∙ ap (flattens s) (sym u.nodes))
+              ap (λ x. x && flattens s ds) (ap flattens_at e-is ∙ lesser-flattens d g)
+              ∙ and_assoc (flattens_at d) (flattens_at g) (flattens s ds)
+              ∙ ap (λ x. flattens_at d && x)
+              (ap (λ x. x && flattens s ds) G.flattens_is ∙ sym (flat-and s c ds) ∙ ap (flattens s) (sym u.nodes))
               ∙ R.flat;
           low =
-              and_assoc l b (all_lower s ds)
-              ∙ ap (λ x. l && x) (ap (λ x. x && all_lower s ds) b-is ∙ sym (lower-and s c ds) ∙ ap (all_lower s) (sym u.nodes))
+              ap (λ x. x && all_lower s ds) (ap lowers_at e-is ∙ lesser-lowers d g)
+              ∙ and_assoc (lowers_at d) (lowers_at g) (all_lower s ds)
+              ∙ ap (λ x. lowers_at d && x)
+              (ap (λ x. x && all_lower s ds) G.lowers_is ∙ sym (lower-and s c ds) ∙ ap (all_lower s) (sym u.nodes))
               ∙ R.low;
-          taking = taking-goes R.taking u.nodes e;
+          taking = taking-goes R.taking u.nodes w-is;
         }
 
-    pub far-ends : nodes_left it ≡ [] → Comes s j (record { flattens = f; lowers = l; operands = m })
+    pub far-ends : nodes_left it ≡ [] → Comes s j (record { distance = d; operands = m })
     unfolding flattens all_lower
     far-ends e = record {
-      flattens_is = sym (and-true f) ∙ ap (λ ls. f && flattens s ls) (sym e) ∙ R.flat;
-      lowers_is = sym (and-true l) ∙ ap (λ ls. l && all_lower s ls) (sym e) ∙ R.low;
+      flattens_is = sym (and-true (flattens_at d)) ∙ ap (λ ls. flattens_at d && flattens s ls) (sym e) ∙ R.flat;
+      lowers_is = sym (and-true (lowers_at d)) ∙ ap (λ ls. lowers_at d && all_lower s ls) (sym e) ∙ R.low;
       operands_are = taking-ends R.taking e;
     }

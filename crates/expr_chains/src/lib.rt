@@ -14,12 +14,11 @@ ghost use Rattle.expr_rules.specs.Reads.{Reads};
 ghost use Rattle.expr_slots.specs.Found as founds;
 ghost use Rattle.expr_chains.specs.Variable as roots;
 ghost use Rattle.expr_chains.specs.Steps as chains;
-ghost use Rattle.expr_chains.specs.Walked.{Counted, Comes};
+ghost use Rattle.expr_chains.specs.Walked.{Counted, Grades, Comes};
 ghost use Rattle.expr_chains.specs.Same as sames;
 ghost use Rattle.expr_chains.specs.Same.{RootLocal};
 ghost use Rattle.sheet.specs.Node as nodes;
 ghost use Rattle.sheet.specs.Text as texts;
-ghost use Rattle.expr_chains.specs.Lowers as lowering;
 
 use bytecode::{Chain, Root, Step};
 use expr_rules::chains::{Read, StepRule, is_lowerable_method, links_of};
@@ -35,11 +34,18 @@ struct Counts {
     pub operands: u32,
 }
 
-// Whether each link of a chain has a step, whether each step lowers, and how many operands the steps take.
+// How far a chain comes: nowhere, where a link has no step; as far as code that is taken back, where a step does not lower; or to its end.
+#[derive(Clone, Copy, PartialEq, Eq, PartialOrd, Ord)]
+pub enum Distance {
+    Nowhere,
+    TakenBack,
+    Whole,
+}
+
+// How far a chain comes with all its links, and how many operands their steps take.
 #[derive(Clone, Copy)]
 pub struct Far {
-    pub flattens: bool,
-    pub lowers: bool,
+    pub distance: Distance,
     pub operands: u32,
 }
 
@@ -113,6 +119,8 @@ fn same_step(sheet: &[u8], p: Read, q: Read) -> bool
 }
 
 // The steps of the chains of nodes `i` and `j` are the same.
+// Kept: the second iterator is moved on by hand. `zip` ends with the shorter of two, so both chains would be walked along again for their
+// lengths.
 fn same_steps(sheet: &[u8], i: u32, j: u32) -> bool
     ensures { result ≡ sames.same_links max_depth sheet.now i j }
 {
@@ -131,6 +139,7 @@ fn same_steps(sheet: &[u8], i: u32, j: u32) -> bool
 }
 
 #[tactic(auto, unfolding(crate::specs::Same::same_variable))]
+// Kept: `local` beside the node, here and below: a chain is compared with many, and who compares has looked it up once.
 // The variables `v` and `w` are the same root, where `local` tells whether `v` is a local.
 fn same_variable(sheet: &[u8], v: u32, w: u32, local: bool) -> bool
     ensures { local ≡ sames.is_local sheet.now v → result ≡ sames.same_variable sheet.now v w }
@@ -185,16 +194,13 @@ pub fn root_of(sheet: &[u8], v: u32, name: u32, found: Option<u32>) -> Root
         ((nodes.kind sheet v ≡ variable_kind → found ≡ founds.found (locals.resolve sheet (texts.text sheet (nodes.field_a sheet v))))
         → result ≡ chains.root_with sheet v name) }
 {
-    let k = kind(sheet, v);
-    if k == VARIABLE {
-        return variable_root(found, name, position(sheet, v));
-    }
-    if k == THIS {
-        return Root::This {
+    match kind(sheet, v) {
+        VARIABLE => variable_root(found, name, position(sheet, v)),
+        THIS => Root::This {
             pos: position(sheet, v),
-        };
+        },
+        _ => Root::Temporary,
     }
-    Root::Temporary
 }
 
 // How many operands the step of a link takes, which says `p`. Arguments are cut to as many as lower.
@@ -230,36 +236,31 @@ pub fn link_count(sheet: &[u8], j: u32) -> u32
     links_of(sheet, j).count() as u32
 }
 
-// The step of a link lowers, which says `p`.
+// How far a chain comes with the link that says `p`.
 // Kept: only a method is asked anything; closures would be chosen by this same match.
-fn step_lowers(sheet: &[u8], p: Read) -> bool
-    ensures { let sheet = sheet.now in ((c : ℕ) → Reads sheet c p → result ≡ lowering.step_lowers sheet c) }
+fn distance_with(sheet: &[u8], p: Read) -> Distance
+    ensures { let sheet = sheet.now in ((c : ℕ) → Reads sheet c p → Grades sheet c result) }
 {
     match p.rule {
-        StepRule::Index => true,
-        StepRule::Property => true,
-        StepRule::Method => is_lowerable_method(sheet, p.with),
-        StepRule::Nothing => false,
+        StepRule::Index => Distance::Whole,
+        StepRule::Property => Distance::Whole,
+        StepRule::Method if is_lowerable_method(sheet, p.with) => Distance::Whole,
+        StepRule::Method => Distance::TakenBack,
+        StepRule::Nothing => Distance::Nowhere,
     }
 }
 
-// How far the chain of node `j` comes, and how many operands its steps take.
+// How far the chain of node `j` comes with all its links, and how many operands their steps take.
 pub fn far_of(sheet: &[u8], j: u32) -> Far
     ensures { Comes sheet.now j result }
 {
-    let mut flattens = true;
-    let mut lowers = true;
+    let mut distance = Distance::Whole;
     let mut operands: u32 = 0;
     for p in links_of(sheet, j) {
-        flattens &= p.rule != StepRule::Nothing;
-        lowers &= step_lowers(sheet, p);
+        distance = distance.min(distance_with(sheet, p));
         operands += width(sheet, p);
     }
-    Far {
-        flattens,
-        lowers,
-        operands,
-    }
+    Far { distance, operands }
 }
 
 // The chain of node `j` with this root, and `first` steps before it.
@@ -276,6 +277,7 @@ pub fn chain_of(sheet: &[u8], j: u32, root: Root, first: u32) -> Chain
 }
 
 // The step of the link that says `p`, with `n` operands before it and its names at these places.
+// Kept: zeros but for the operand for `Nothing`, as the definition has it: no chain that is lowered has such a link.
 pub fn step_of(sheet: &[u8], p: Read, n: u32, name: u32, getter: u32, setter: u32) -> Step
     ensures { let sheet = sheet.now in
         (Reads sheet p.link p → result ≡ chains.step_with (flatten.step_rule sheet p.link) sheet p.link n name getter setter) }
@@ -313,7 +315,8 @@ pub fn step_of(sheet: &[u8], p: Read, n: u32, name: u32, getter: u32, setter: u3
 }
 
 #[tactic(auto, unfolding(bytecode::specs::Chain::step_words))]
-// The words of a step.
+// The words of a step. Its numbers stand here, where they are written, and in `StepKind::of` of image_read, where they are read; so with
+// those of roots (`chain_words`, `RootKind::of`).
 // Kept: no `From`. It would have to stand beside the type in crate bytecode, below `lowering`, whose STEP_WIDTH it would write as a number.
 pub fn step_words(x: Step) -> [u32; STEP_WIDTH]
     ensures { result ≡ step_words x }

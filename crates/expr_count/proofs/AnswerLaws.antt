@@ -1,12 +1,16 @@
 -- Laws of the count by the answers of the code: each result that the code reads is given by an equation.
-use Prim.Native.Nat.{ℕ, ◌+◌, ◌*◌, ◌-◌, ◌≤◌, ◌<◌, min}
+use Prim.Native.Nat.{ℕ, zero, suc, ◌+◌, ◌*◌, ◌-◌, ◌≤◌, ◌<◌}
 use mathlib.Core.Path.{◌≡◌, refl, sym, ap, ap₂, ◌∙◌}
 use mathlib.Core.Bool.{Bool, true}
-use mathlib.Core.List.{List, []}
+use mathlib.Core.List.{List, [], ◌∷◌}
 use native.Mathlib.Omega.{arith}
+use lib.ListN.{length}
 use Rattle.sheet.specs.Limits.{max_depth}
 use Rattle.sheet.specs.Node.{count, child, next}
-use Rattle.sheet.specs.Walk.{skip}
+use Rattle.sheet.specs.Rest.{rest}
+use Rattle.sheet.specs.Walk.{skip, sibling_list}
+use Rattle.sheet.specs.declared.Siblings.{Siblings}
+use Rattle.sheet.proofs.WalkedLaws.{siblings-long}
 use Rattle.lowering.specs.Limits.{max_elements}
 use Rattle.lowering.specs.Flatten.{links}
 use Rattle.expr_rules.specs.declared.chains.Read.{Read}
@@ -22,14 +26,11 @@ use Rattle.expr_count.specs.Tally.{instructions, nothing, plus, taken_back, capp
 use Rattle.expr_count.proofs.TallyLaws.{nothing-plus, capped-capped}
 use Rattle.expr_count.specs.Plan.{operands, array, plan}
 use Rattle.expr_count.proofs.PlanLaws.{array-few, array-many}
-use Rattle.std.specs.Ordering.{ord_min}
-use Rattle.expr_count.specs.contracts.links.DistanceOrd.TheImpl as Order
-use Rattle.expr_count.specs.declared.links.Distance.{Distance}
-use Rattle.expr_count.specs.declared.links.Distance.TheVariants as Distances
-use Rattle.expr_count.specs.Link.{is_plain, link, grade, least, temporary, reach_number}
-use Rattle.expr_count.proofs.LinkLaws.{plain-chain, reach-starts, reach-more, reach-done}
+use Rattle.expr_count.specs.Link.{is_plain, link, least, temporary}
+use Rattle.expr_count.proofs.LinkLaws.{plain-chain, reach-on, reach-none}
 use Rattle.expr_count.specs.Count.{Rec, siblings, coalesce, walk, chain, tally_by}
 use Rattle.expr_count.proofs.CodeLaws.{
+  summed,
   one-capped,
   nothing-capped,
   sum-starts,
@@ -66,64 +67,61 @@ sum-cut a b h = ap capped h ∙ capped-capped (plus a b) ∙ sym h
 nothing-cut : {a : Tally} → a ≡ nothing → capped a ≡ a
 nothing-cut e = ap capped e ∙ nothing-capped ∙ sym e
 
--- ---- siblings: i of n are passed, with node j next; `leaves` of them are leaves, and a is the sum of the others, without the gaps
+-- ---- siblings: ys are left; `leaves` of those passed are leaves, and a is the sum of the others, without the gaps
 
-pub record SumLeft (s : List ℕ) (t : Rec) (gap n from : ℕ) (a : Tally) (leaves i j : ℕ) : Type 0 where
-  pub few : leaves ≤ i
-  pub within : i ≤ n
-  pub rest : capped (plus a (plus (instructions (leaves + gap * i)) (siblings s t gap (n - i) j))) ≡ capped (siblings s t gap n from)
+pub record SumLeft (s : List ℕ) (t : Rec) (gap n from : ℕ) (a : Tally) (leaves : ℕ) (ys : List ℕ) : Type 0 where
+  pub few : leaves + length ys ≤ n
+  pub rest : capped (plus a (plus (instructions (leaves + gap * n)) (summed t ys))) ≡ capped (siblings s t gap n from)
+
+-- a walk begins with all of them
+pub rest-is : {w v : Siblings} {s : List ℕ} {n j : ℕ} → w ≡ v → v.sheet.now ≡ s → v.left ≡ n → v.at ≡ j → rest w ≡ sibling_list s n j
+rest-is e a b c = rw (e, a, b, c) refl
 
 module _ (s : List ℕ) (t : Rec) (gap n from : ℕ) where
-  pub sum-begins : {a : Tally} → a ≡ nothing → SumLeft s t gap n from a 0 0 from
-  sum-begins e =
+  pub sum-begins : {a : Tally} {ys : List ℕ} → a ≡ nothing → ys ≡ sibling_list s n from → SumLeft s t gap n from a 0 ys
+  sum-begins e is =
       record {
-        few = omega arith;
-        within = omega arith;
+        few = omega (arith, ap length is, siblings-long s n from);
         rest =
-            ap (λ (x : Tally). capped (plus x (plus (instructions (0 + gap * 0)) (siblings s t gap (n - 0) from)))) e
+            ap₂ (λ (x : Tally) (zs : List ℕ). capped (plus x (plus (instructions (0 + gap * n)) (summed t zs)))) e is
             ∙ sum-starts s t gap n from;
       }
 
-  module _ (leaves i j : ℕ) (a : Tally) (S : SumLeft s t gap n from a leaves i j) where
+  module _ {leaves : ℕ} {a : Tally} {ys : List ℕ} (S : SumLeft s t gap n from a leaves ys) where
+    pub sum-more : {j : ℕ} {zs : List ℕ} → ys ≡ j ∷ zs → leaves < n
+    sum-more is = omega (arith, ap length is, S.few)
+
     pub sum-passes :
-        {b : Tally} {m k : ℕ} → i < n → t j ≡ instructions 1 → b ≡ a → m ≡ leaves + 1 → k ≡ next s j → SumLeft s t gap n from b m (i + 1) k
-    sum-passes {k = k} h one b_is m-is k-is =
+        {j : ℕ} {zs : List ℕ} {b : Tally} {m : ℕ} → ys ≡ j ∷ zs → t j ≡ instructions 1 → b ≡ a → m ≡ leaves + 1
+        → SumLeft s t gap n from b m zs
+    sum-passes {zs = zs} is one b_is m-is =
+        let more : leaves + 1 + gap * n ≡ leaves + gap * n + 1 = omega arith in
         record {
-          few = omega (arith, S.few, m-is);
-          within = omega arith;
+          few = omega (arith, S.few, ap length is, m-is);
           rest =
-              ap₂
-              (λ (x : Tally) (l : ℕ). capped (plus x (plus (instructions (l + gap * (i + 1))) (siblings s t gap (n - (i + 1)) k))))
-              b_is m-is
-              ∙ ap (λ r. capped (plus a (plus (instructions (leaves + 1 + gap * (i + 1))) (siblings s t gap (n - (i + 1)) r)))) k-is
-              ∙ sum-leaf s t gap n leaves i j a h one
+              ap₂ (λ (x : Tally) (l : ℕ). capped (plus x (plus (instructions (l + gap * n)) (summed t zs)))) b_is m-is
+              ∙ ap (λ (l : ℕ). capped (plus a (plus (instructions l) (summed t zs)))) more
+              ∙ sum-leaf t (leaves + gap * n) a is one
               ∙ S.rest;
         }
 
     pub sum_goes :
-        {u b : Tally} {m k : ℕ} → i < n → u ≡ capped (t j) → b ≡ capped (plus a u) → m ≡ leaves → k ≡ next s j
-        → SumLeft s t gap n from b m (i + 1) k
-    sum_goes {m = m} {k = k} h u-is b_is m-is k-is =
+        {j : ℕ} {zs : List ℕ} {u b : Tally} {m : ℕ} → ys ≡ j ∷ zs → u ≡ capped (t j) → b ≡ capped (plus a u) → m ≡ leaves
+        → SumLeft s t gap n from b m zs
+    sum_goes {zs = zs} is u-is b_is m-is =
         let all = b_is ∙ ap (λ (x : Tally). capped (plus a x)) u-is in
         record {
-          few = omega (arith, S.few, m-is);
-          within = omega arith;
+          few = omega (arith, S.few, ap length is, m-is);
           rest =
-              ap₂
-              (λ (x : Tally) (l : ℕ). capped (plus x (plus (instructions (l + gap * (i + 1))) (siblings s t gap (n - (i + 1)) k))))
-              all m-is
-              ∙ ap
-              (λ r. capped (plus (capped (plus a (capped (t j)))) (plus (instructions (leaves + gap * (i + 1))) (siblings s t gap (n - (i + 1)) r))))
-              k-is
-              ∙ sum-node s t gap n leaves i j a h
+              ap₂ (λ (x : Tally) (l : ℕ). capped (plus x (plus (instructions (l + gap * n)) (summed t zs)))) all m-is
+              ∙ sum-node t (leaves + gap * n) a is
               ∙ S.rest;
         }
 
-    pub sum-ends :
-        {g b : Tally} → n ≤ i → g ≡ instructions (leaves + gap * n) → b ≡ capped (plus a g)
+    pub sum-ends : {g b : Tally} → ys ≡ [] → g ≡ instructions (leaves + gap * n) → b ≡ capped (plus a g)
         → b ≡ capped (siblings s t gap n from)
-    sum-ends h g-is b_is =
-        b_is ∙ ap (λ (x : Tally). capped (plus a x)) g-is ∙ sum_done s t gap n leaves i j a h S.within ∙ S.rest
+    sum-ends is g-is b_is =
+        b_is ∙ ap (λ (x : Tally). capped (plus a x)) g-is ∙ sum_done t (leaves + gap * n) a is ∙ S.rest
 
 -- ---- links: a is the sum of those passed
 
@@ -171,63 +169,30 @@ module _ {s : List ℕ} {t : Rec} {j : ℕ} {a : Tally} {it : Links} where
     pub walk_ends : nodes_left it ≡ [] → a ≡ capped (walk s t (links max_depth s j))
     walk_ends e = walk-done s t a e W.cut ∙ W.rest
 
--- ---- how far a chain comes: a with those passed
+-- ---- how far a chain comes: those passed all lower, so it comes as far as those left let it
 
-pub record ReachLeft (s : List ℕ) (j a : ℕ) (it : Links) : Type 0 where
+pub record ReachLeft (s : List ℕ) (j : ℕ) (it : Links) : Type 0 where
   pub left : Left s it
-  pub low : a ≤ 2
-  pub rest : min a (least s (nodes_left it)) ≡ least s (links max_depth s j)
-
-lesser-low : (a g : ℕ) {b : ℕ} → a ≤ 2 → b ≡ min a g → b ≤ 2
-lesser-low a g h e = omega arith
-
--- the lesser of two answers of the code
-pub reach-min : (a b : Distance) → reach_number (ord_min (Order.cmp-value).it a b) ≡ min (reach_number a) (reach_number b)
-unfolding reach_number
-reach-min Distances.Nowhere Distances.Nowhere = refl
-reach-min Distances.Nowhere Distances.TakenBack = refl
-reach-min Distances.Nowhere Distances.Whole = refl
-reach-min Distances.TakenBack Distances.Nowhere = refl
-reach-min Distances.TakenBack Distances.TakenBack = refl
-reach-min Distances.TakenBack Distances.Whole = refl
-reach-min Distances.Whole Distances.Nowhere = refl
-reach-min Distances.Whole Distances.TakenBack = refl
-reach-min Distances.Whole Distances.Whole = refl
-
--- a link that lowers comes to the end
-pub lowers-two : {l : Link} {n from : ℕ} → l ≡ Lowers n from → 2 ≡ grade l
-unfolding grade
-lowers-two e = sym (ap grade e)
+  pub rest : least s (nodes_left it) ≡ least s (links max_depth s j)
 
 module _ {s : List ℕ} {j : ℕ} {it : Links} where
-  pub reach-begins : Begun s it (links max_depth s j) → ReachLeft s j 2 it
-  reach-begins b = record {
-    left = b.left;
-    low = omega arith;
-    rest = ap (λ cs. min 2 (least s cs)) b.nodes ∙ reach-starts s (links max_depth s j);
-  }
+  pub reach-begins : Begun s it (links max_depth s j) → ReachLeft s j it
+  reach-begins b = record { left = b.left; rest = ap (least s) b.nodes }
 
-  module _ {a : ℕ} (R : ReachLeft s j a it) where
+  module _ (R : ReachLeft s j it) where
     pub reach-goes :
-        {p : Read} {k : Links} {l : Link} {g b : ℕ} → Turn s it p k → l ≡ link s p.link → g ≡ grade l → b ≡ min a g → ReachLeft s j b k
-    reach-goes {k = k} {g = g} turn l-is g-is b_is =
-        let all = b_is ∙ ap (min a) (g-is ∙ ap grade l-is) in
-        record {
-          left = turn.left;
-          low = lesser-low a g R.low b_is;
-          rest = ap (λ (x : ℕ). min x (least s (nodes_left k))) all ∙ reach-more s a turn.nodes ∙ R.rest;
-        }
+        {p : Read} {k : Links} {l : Link} {n from : ℕ} → Turn s it p k → l ≡ link s p.link → l ≡ Lowers n from → ReachLeft s j k
+    reach-goes turn l-is told =
+        record { left = turn.left; rest = sym (reach-on s turn.nodes (sym l-is ∙ told)) ∙ R.rest }
 
     -- a link without a step
     pub reach-lost : {p : Read} {k : Links} {l : Link} → Turn s it p k → l ≡ link s p.link → l ≡ Nowhere
         → 0 ≡ least s (links max_depth s j)
-    unfolding least grade
-    reach-lost turn l-is told =
-        let none : least s (nodes_left it) ≡ 0 = rw (turn.nodes, sym l-is ∙ told) (omega arith) in
-        omega (arith, R.rest, none)
+    reach-lost turn l-is told = sym (reach-none s turn.nodes (sym l-is ∙ told)) ∙ R.rest
 
-    pub reach-ends : nodes_left it ≡ [] → a ≡ least s (links max_depth s j)
-    reach-ends e = sym (reach-done s a e R.low) ∙ R.rest
+    pub reach-ends : nodes_left it ≡ [] → 2 ≡ least s (links max_depth s j)
+    unfolding least
+    reach-ends e = sym (ap (least s) e) ∙ R.rest
 
 -- ---- nodes
 

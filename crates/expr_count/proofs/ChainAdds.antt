@@ -1,7 +1,7 @@
 -- A chain adds what its tally says: its operands up to a link that does not lower, and, where all lower, its root and Chain.
 use Prim.Native.Nat.{ℕ, ◌+◌, ◌≤◌, ◌<◌, min}
 use mathlib.Core.Path.{◌≡◌, refl, sym}
-use mathlib.Core.Bool.{Bool, true, false, true≢false}
+use mathlib.Core.Bool.{Bool, true, false}
 use mathlib.Core.Option.{Option, none, some}
 use mathlib.Core.List.{List, [], ◌∷◌, ◌++◌}
 use native.Mathlib.Omega.{arith}
@@ -22,7 +22,8 @@ use Rattle.lowering.specs.Slots.{resolve}
 use Rattle.lowering.specs.Operands.{operands}
 use Rattle.lowering.specs.Flatten as Flatten
 use Rattle.lowering.specs.Flatten.{operand_of, links, StepRule, step_rule, has_step, flattens}
-use Rattle.lowering.specs.Steps.{Stepped, stepped, failed, index_step, property_step, is_lowerable_method, method_after, method_step, step_by}
+use Rattle.lowering.specs.Steps.{Stepped, stepped, failed, index_step, property_step, is_lowerable_method, method_after, method_step}
+use Rattle.lowering.specs.Steps.{step_by}
 use Rattle.lowering.specs.Steps.{Walked, walked, stopped, onto, steps}
 use Rattle.lowering.specs.Chain.{variable_root, root_of, root_pools, on_stack, root_code, chain_of}
 use Rattle.lowering.specs.Chain as Chain
@@ -34,6 +35,7 @@ use Rattle.expr_count.specs.Link.{link_by, link, grade, least, temporary}
 use Rattle.expr_count.specs.Count.{siblings, walk_on, walk, chain_by, chain}
 use Rattle.expr_count.specs.Count as Count
 use Rattle.expr_count.proofs.CodeLaws.{by-nowhere, by-failed, by_whole}
+use Rattle.expr_count.proofs.FarLaws.{flattens-far, flattens-not}
 use Rattle.expr_count.proofs.Adds.{Adds, OutAdds, Counts, Alike, adds_none, adds-emits, adds-seq, adds-length, adds-from, adds-into}
 use Rattle.expr_count.proofs.SiblingsAdd.{operands-add, single-adds}
 use Rattle.expr_count.proofs.PlanAdds.{name-alike, residual-adds}
@@ -145,47 +147,6 @@ module _ (s : List ℕ) (rec : Rec) (t : Count.Rec) (C : Counts rec t) where
       by Fails (failed q) e f g ih = rw (e, f, walk, least, steps) (omega arith, nothing-back p q g)
       by Nowhere (stepped code x k q) e f g ih = absurd g
       by Nowhere (failed q) e f g ih = rw (e, f, walk, least, steps) (omega arith, nothing-back p q g)
-
--- ---- a chain that does not flatten
-
-module _ (s : List ℕ) where
-  some-step : (r : StepRule) (x : ℕ) → has_step r ≡ true → 1 ≤ grade (link_by r s x)
-  unfolding has_step link_by grade
-  some-step Flatten.index x h = omega arith
-  some-step Flatten.property x h = omega arith
-  some-step Flatten.method x h = by (is_lowerable_method s x) refl
-    where
-      by : (l : Bool) → is_lowerable_method s x ≡ l → 1 ≤ grade (link_by Flatten.method s x)
-      by true e = rw (e, link_by) (omega arith)
-      by false e = rw (e, link_by) (omega arith)
-  some-step Flatten.none x h = absurd (true≢false (sym h))
-
-  no-step : (r : StepRule) (x : ℕ) → has_step r ≡ false → grade (link_by r s x) ≡ 0
-  unfolding has_step link_by grade
-  no-step Flatten.index x h = absurd (true≢false h)
-  no-step Flatten.property x h = absurd (true≢false h)
-  no-step Flatten.method x h = absurd (true≢false h)
-  no-step Flatten.none x h = refl
-
-  flattens-far : (ls : List ℕ) → flattens s ls ≡ true → 1 ≤ least s ls
-  unfolding flattens least link
-  flattens-far [] h = omega arith
-  flattens-far (c ∷ cs) h = by (has_step (step_rule s c)) refl (flattens-far cs) h
-    where
-      by : (l : Bool) → has_step (step_rule s c) ≡ l → (flattens s cs ≡ true → 1 ≤ least s cs) → flattens s (c ∷ cs) ≡ true
-          → 1 ≤ least s (c ∷ cs)
-      by true e ih = rw (e, flattens) (λ h. let k = some-step (step_rule s c) (operand_of s c) e in let i = ih h in omega arith)
-      by false e ih = rw (e, flattens) (λ h. absurd (true≢false (sym h)))
-
-  flattens-not : (ls : List ℕ) → flattens s ls ≡ false → least s ls ≡ 0
-  unfolding flattens least link
-  flattens-not [] h = absurd (true≢false h)
-  flattens-not (c ∷ cs) h = by (has_step (step_rule s c)) refl (flattens-not cs) h
-    where
-      by : (l : Bool) → has_step (step_rule s c) ≡ l → (flattens s cs ≡ false → least s cs ≡ 0) → flattens s (c ∷ cs) ≡ false
-          → least s (c ∷ cs) ≡ 0
-      by true e ih = rw (e, flattens) (λ h. let i = ih h in omega arith)
-      by false e ih = λ h. let k = no-step (step_rule s c) (operand_of s c) e in omega arith
 
 -- ---- the root
 

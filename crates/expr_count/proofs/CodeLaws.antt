@@ -4,10 +4,9 @@ use mathlib.Core.Path.{◌≡◌, refl, sym, ap, ◌∙◌}
 use mathlib.Core.Bool.{Bool, true, ◌||◌, or-false}
 use mathlib.Core.List.{List, [], ◌∷◌}
 use native.Mathlib.Omega.{arith}
-use native.Mathlib.Nat.{sub-zero}
 use Rattle.sheet.specs.Limits.{max_depth}
 use Rattle.sheet.specs.Node.{kind, count, child, next}
-use Rattle.sheet.specs.Walk.{skip}
+use Rattle.sheet.specs.Walk.{skip, sibling_list}
 use Rattle.lowering.specs.Flatten.{links}
 use Rattle.expr_count.specs.declared.tallies.Tally.{Tally}
 use Rattle.expr_count.specs.declared.plans.Plan.TheVariants.{Parts, Coalesce, Chain}
@@ -44,22 +43,42 @@ capped-more a b c =
 capped-none : (a : Tally) → capped a ≡ a → a ≡ capped (plus a nothing)
 capped-none a h = sym h ∙ ap capped (sym (plus-nothing a))
 
--- ---- siblings: i of n are passed, with node j next; `leaves` of them are leaves, and a is the sum of the others, without the gaps
+-- ---- siblings: the gaps of all of them, and their own sum
 
--- a leaf and its gap
-spaced-leaf :
-    (p gap : ℕ) (x : Tally)
-    → plus (instructions (p + (1 + gap))) x ≡ plus (instructions p) (plus (plus (instructions 1) (instructions gap)) x)
-unfolding plus instructions
-spaced-leaf p gap x = tally-path (omega arith) (omega arith) refl
+-- the sum of these nodes, without gaps
+unfoldable pub summed : Rec → List ℕ → Tally
+summed t [] = nothing
+summed t (j ∷ js) = plus (t j) (summed t js)
 
--- another node and its gap
-spaced-node :
-    (p gap : ℕ) (u x : Tally)
-    → plus u (plus (instructions (p + gap)) x) ≡ plus (instructions p) (plus (plus u (instructions gap)) x)
+-- one more, with its gap
+gap-first :
+    (k m gap : ℕ) (u x : Tally) → m ≡ gap + k
+    → plus (plus u (instructions gap)) (plus (instructions k) x) ≡ plus (instructions m) (plus u x)
 unfolding plus instructions
-spaced-node p gap u x =
-    tally-path (omega arith) (omega arith) (ap (λ b. b || x.defeated) (sym (or-false u.defeated)))
+gap-first k m gap u x e = tally-path (omega arith) (omega arith) (ap (λ b. b || x.defeated) (or-false u.defeated))
+
+-- all gaps before
+siblings-summed :
+    (s : List ℕ) (t : Rec) (gap n j : ℕ)
+    → siblings s t gap n j ≡ plus (instructions (gap * n)) (summed t (sibling_list s n j))
+unfolding siblings summed sibling_list nothing
+siblings-summed s t gap zero j =
+    let e : 0 ≡ gap * 0 = omega arith in
+    sym (nothing-plus (instructions 0)) ∙ ap (λ m. plus (instructions m) (instructions 0)) e
+siblings-summed s t gap (suc n) j =
+    let e : gap * suc n ≡ gap + gap * n = omega arith in
+    ap (plus (plus (t j) (instructions gap))) (siblings-summed s t gap n (next s j))
+    ∙ gap-first (gap * n) (gap * suc n) gap (t j) (summed t (sibling_list s n (next s j))) e
+
+-- a leaf, with p instructions before
+leaf-first : (p : ℕ) (x : Tally) → plus (instructions (p + 1)) x ≡ plus (instructions p) (plus (instructions 1) x)
+unfolding plus instructions
+leaf-first p x = tally-path (omega arith) (omega arith) refl
+
+-- another node
+node-first : (p : ℕ) (u x : Tally) → plus u (plus (instructions p) x) ≡ plus (instructions p) (plus u x)
+unfolding plus instructions
+node-first p u x = tally-path (omega arith) (omega arith) refl
 
 module _ (s : List ℕ) (t : Rec) (gap n : ℕ) where
   -- where there are none
@@ -72,60 +91,40 @@ module _ (s : List ℕ) (t : Rec) (gap n : ℕ) where
 
   pub sum-starts :
       (j : ℕ)
-      → capped (plus nothing (plus (instructions (0 + gap * 0)) (siblings s t gap (n - 0) j))) ≡ capped (siblings s t gap n j)
-  unfolding nothing
+      → capped (plus nothing (plus (instructions (0 + gap * n)) (summed t (sibling_list s n j)))) ≡ capped (siblings s t gap n j)
   sum-starts j =
-      let e : 0 + gap * 0 ≡ 0 = omega arith in
-      let rest = siblings s t gap (n - 0) j in
-      ap capped (nothing-plus (plus (instructions (0 + gap * 0)) rest))
-      ∙ ap (λ m. capped (plus (instructions m) rest)) e
-      ∙ ap capped (nothing-plus rest)
-      ∙ ap (λ m. capped (siblings s t gap m j)) (sub-zero n)
+      let e : 0 + gap * n ≡ gap * n = omega arith in
+      ap (λ m. capped (plus nothing (plus (instructions m) (summed t (sibling_list s n j))))) e
+      ∙ ap capped (nothing-plus (plus (instructions (gap * n)) (summed t (sibling_list s n j))))
+      ∙ ap capped (sym (siblings-summed s t gap n j))
 
-  sibling-next :
-      (i j : ℕ) → i < n
-      → plus (plus (t j) (instructions gap)) (siblings s t gap (n - (i + 1)) (next s j)) ≡ siblings s t gap (n - i) j
-  unfolding siblings
-  sibling-next i j h = let e : n - i ≡ suc (n - (i + 1)) = omega arith in rw e refl
+-- ys are left, the next of them j; p instructions are of leaves and gaps, and a is the sum of the other nodes
+module _ (t : Rec) (p : ℕ) (a : Tally) {ys : List ℕ} where
+  module _ {j : ℕ} {zs : List ℕ} (is : ys ≡ j ∷ zs) where
+    next-summed : summed t ys ≡ plus (t j) (summed t zs)
+    unfolding summed
+    next-summed = ap (summed t) is
 
-  module _ (leaves i j : ℕ) (a : Tally) where
-    abbrev passed : Tally
-    passed = instructions (leaves + gap * i)
+    pub sum-leaf : t j ≡ instructions 1
+        → capped (plus a (plus (instructions (p + 1)) (summed t zs))) ≡ capped (plus a (plus (instructions p) (summed t ys)))
+    sum-leaf one =
+        ap (λ x. capped (plus a x)) (leaf-first p (summed t zs))
+        ∙ ap (λ x. capped (plus a (plus (instructions p) (plus x (summed t zs))))) (sym one)
+        ∙ ap (λ x. capped (plus a (plus (instructions p) x))) (sym next-summed)
 
-    pub sum-leaf : i < n → t j ≡ instructions 1
-        → capped (plus a (plus (instructions (leaves + 1 + gap * (i + 1))) (siblings s t gap (n - (i + 1)) (next s j))))
-        ≡ capped (plus a (plus (instructions (leaves + gap * i)) (siblings s t gap (n - i) j)))
-    sum-leaf h one =
-        let e : leaves + 1 + gap * (i + 1) ≡ leaves + gap * i + (1 + gap) = omega arith in
-        let rest = siblings s t gap (n - (i + 1)) (next s j) in
-        ap (λ m. capped (plus a (plus (instructions m) rest))) e
-        ∙ ap (λ x. capped (plus a x)) (spaced-leaf (leaves + gap * i) gap rest)
-        ∙ ap (λ u. capped (plus a (plus passed (plus (plus u (instructions gap)) rest)))) (sym one)
-        ∙ ap (λ x. capped (plus a (plus passed x))) (sibling-next i j h)
+    pub sum-node :
+        capped (plus (capped (plus a (capped (t j)))) (plus (instructions p) (summed t zs)))
+        ≡ capped (plus a (plus (instructions p) (summed t ys)))
+    sum-node =
+        capped-more a (t j) (plus (instructions p) (summed t zs))
+        ∙ ap (λ x. capped (plus a x)) (node-first p (t j) (summed t zs))
+        ∙ ap (λ x. capped (plus a (plus (instructions p) x))) (sym next-summed)
 
-    pub sum-node : i < n
-        → capped
-        (plus (capped (plus a (capped (t j))))
-        (plus (instructions (leaves + gap * (i + 1))) (siblings s t gap (n - (i + 1)) (next s j))))
-        ≡ capped (plus a (plus (instructions (leaves + gap * i)) (siblings s t gap (n - i) j)))
-    sum-node h =
-        let e : leaves + gap * (i + 1) ≡ leaves + gap * i + gap = omega arith in
-        let rest = siblings s t gap (n - (i + 1)) (next s j) in
-        capped-more a (t j) (plus (instructions (leaves + gap * (i + 1))) rest)
-        ∙ ap (λ m. capped (plus a (plus (t j) (plus (instructions m) rest)))) e
-        ∙ ap (λ x. capped (plus a x)) (spaced-node (leaves + gap * i) gap (t j) rest)
-        ∙ ap (λ x. capped (plus a (plus passed x))) (sibling-next i j h)
-
-    pub sum_done : n ≤ i → i ≤ n
-        → capped (plus a (instructions (leaves + gap * n)))
-        ≡ capped (plus a (plus (instructions (leaves + gap * i)) (siblings s t gap (n - i) j)))
-    unfolding siblings
-    sum_done h l =
-        let e : n - i ≡ 0 = omega arith in
-        let k : n ≡ i = omega arith in
-        ap (λ m. capped (plus a (instructions (leaves + gap * m)))) k
-        ∙ ap (λ x. capped (plus a x)) (sym (plus-nothing passed))
-        ∙ ap (λ m. capped (plus a (plus passed (siblings s t gap m j)))) (sym e)
+  pub sum_done : ys ≡ [] → capped (plus a (instructions p)) ≡ capped (plus a (plus (instructions p) (summed t ys)))
+  unfolding summed
+  sum_done is =
+      ap (λ x. capped (plus a x)) (sym (plus-nothing (instructions p)))
+      ∙ ap (λ zs. capped (plus a (plus (instructions p) (summed t zs)))) (sym is)
 
 -- a leaf is one instruction, with any number of levels
 pub leaf-tally : (here : ℕ → Bool) (levels : ℕ) (s : List ℕ) (j : ℕ) → is_leaf (kind s j) ≡ true → tally_by here levels s j ≡ instructions 1

@@ -1,5 +1,5 @@
 -- Laws of a chain's links, in the shapes of a loop over them: at most `left` more, the next of them c.
-use Prim.Native.Nat.{ℕ, ◌-◌, ◌≤◌, ◌<◌, min}
+use Prim.Native.Nat.{ℕ, ◌-◌, ◌≤◌, ◌<◌}
 use mathlib.Core.Path.{◌≡◌, refl, sym, ap, ◌∙◌}
 use mathlib.Core.Bool.{Bool, true, false, ◌&&◌, true≢false, and-eq-true_iff}
 use mathlib.Core.List.{List, [], ◌∷◌}
@@ -14,39 +14,31 @@ use Rattle.lowering.specs.Kinds.{property_kind, dot_kind}
 use Rattle.lowering.specs.Flatten.{rest_of, goes_on, operand_of, links, property, dot_rule, step_rule}
 use Rattle.expr_count.specs.Tally.{instructions, nothing, plus}
 use Rattle.expr_count.specs.Count.{Rec, siblings, walk_on, walk, chain_by, chain}
-use Rattle.expr_count.specs.declared.links.Link.{Link}
-use Rattle.expr_count.specs.declared.links.Link.TheVariants.{Lowers, Fails, Nowhere}
+use Rattle.expr_count.specs.declared.links.Link.TheVariants.{Lowers, Nowhere}
 use Rattle.expr_count.specs.Link.{link_by, link, grade, least, temporary, is_plain}
 
 module _ (s : List ℕ) where
   -- c is the first of them
   pub links-some : (left c : ℕ) → 0 < left → (cs : List ℕ) × (links left s c ≡ c ∷ cs)
   unfolding links
-  links-some left c h = (elim (goes_on s c) [ true ↦ links (left - 1) s (rest_of s c) | false ↦ [] ], ap (λ n. links n s c) (one_less left h))
+  links-some left c h =
+      (elim (goes_on s c) [ true ↦ links (left - 1) s (rest_of s c) | false ↦ [] ], ap (λ n. links n s c) (one_less left h))
 
-grade-least : (l : Link) → grade l ≤ 2
-unfolding grade
-grade-least (Lowers n from) = omega arith
-grade-least Fails = omega arith
-grade-least Nowhere = omega arith
-
--- `a` is how far the chain comes with the links passed
-module _ (s : List ℕ) (a : ℕ) {cs : List ℕ} where
-  pub reach-more : {c : ℕ} {ds : List ℕ} → cs ≡ c ∷ ds → min (min a (grade (link s c))) (least s ds) ≡ min a (least s cs)
-  unfolding least
-  reach-more is = rw is (omega arith)
-
-  pub reach-done : cs ≡ [] → a ≤ 2 → min a (least s cs) ≡ a
-  unfolding least
-  reach-done e g = rw e (omega arith)
-
+-- how far a chain comes is at most its end
 least-least : (s ls : List ℕ) → least s ls ≤ 2
 unfolding least
 least-least s [] = omega arith
 least-least s (c ∷ cs) = let h = least-least s cs in omega arith
 
-pub reach-starts : (s ls : List ℕ) → min 2 (least s ls) ≡ least s ls
-reach-starts s ls = omega (arith, least-least s ls)
+-- with the links cs it comes as far as behind a first one that lowers, and nowhere with one that has no step
+module _ (s : List ℕ) {c : ℕ} {cs ds : List ℕ} (is : cs ≡ c ∷ ds) where
+  pub reach-on : {n from : ℕ} → link s c ≡ Lowers n from → least s cs ≡ least s ds
+  unfolding least grade
+  reach-on h = rw (is, h) (omega (arith, least-least s ds))
+
+  pub reach-none : link s c ≡ Nowhere → least s cs ≡ 0
+  unfolding least grade
+  reach-none h = rw (is, h) (omega arith)
 
 -- a plain chain has one link, without operands, and a root that is not lowered
 module _ (s : List ℕ) (t : Rec) (j : ℕ) where
@@ -88,7 +80,8 @@ module _ (s : List ℕ) (t : Rec) (j : ℕ) where
           → chain s t j ≡ instructions 1
       by true e q = absurd (true≢false (sym q))
       by false e q =
-          let a = (and-eq-true_iff (eqb (kind s j) dot_kind && eqb (kind s (rest_of s j)) property_kind) (eqb (temporary s (child j)) 0)).0 q in
+          let a =
+          (and-eq-true_iff (eqb (kind s j) dot_kind && eqb (kind s (rest_of s j)) property_kind) (eqb (temporary s (child j)) 0)).0 q in
           let b = (and-eq-true_iff (eqb (kind s j) dot_kind) (eqb (kind s (rest_of s j)) property_kind)).0 a.0 in
           lone-chain e (eqb-true (kind s j) dot_kind b.0) (eqb-true (kind s (rest_of s j)) property_kind b.1)
           (eqb-true (temporary s (child j)) 0 a.1)

@@ -5,8 +5,8 @@ use Rattle.lowering.specs.Kinds.{variable_kind, this_kind, property_kind, dot_ki
 use Rattle.lowering.specs.Flatten.{rest_of, goes_on, operand_of, StepRule, index, property, method, none, step_rule}
 use Rattle.lowering.specs.Steps.{is_lowerable_method}
 use Rattle.expr_count.specs.declared.links.Link.{Link}
-use Rattle.expr_count.specs.declared.links.Distance.{Distance}
-use Rattle.expr_count.specs.declared.links.Distance.TheVariants as Distances
+use Rattle.expr_chains.specs.declared.Distance.{Distance}
+use Rattle.expr_chains.specs.declared.Distance.TheVariants as Distances
 use Rattle.expr_count.specs.declared.links.Link.TheVariants.{Lowers, Fails, Nowhere}
 
 -- n operands from a node on; a method that does not lower; no step at all

@@ -15,15 +15,17 @@ pub mod locals;
 pub mod plans;
 pub mod tallies;
 
+use expr_chains::{Distance, far_of};
 use expr_rules::chains::links_of;
-use links::{Distance, Link, is_plain, link_with, reach, temporary};
+use links::{Link, is_plain, link_with, temporary};
 use locals::Count;
 use plans::{Plan, is_leaf};
-use sheet::{child, kind, next, skip};
+use sheet::{Siblings, child, kind, skip};
 use tallies::{Tally, instructions, nothing, plus, spaced, taken_back};
 
-// The operands of a chain's links, up to one that does not lower, and how far the chain comes with all its links (links::reach).
-// Kept: a sum beside a Distance, and no Distance that holds the sum in two of its three: `reach` takes the least one by its derived order.
+// The operands of a chain's links, up to one that does not lower, and how far the chain comes with all its links.
+// Kept: a sum beside a Distance, and no Distance that holds the sum in two of its three: `far_of` takes the least one by its derived
+// order.
 #[derive(Clone, Copy)]
 struct Walked {
     sum: Tally,
@@ -45,14 +47,12 @@ impl<'a> Count<'a> {
         }
         let mut sum = nothing();
         let mut leaves: u32 = 0;
-        let mut j = from;
-        for _i in 0..n {
+        for j in Siblings::new(self.sheet, n, from) {
             if is_leaf(kind(self.sheet, j)) {
                 leaves += 1;
             } else {
                 sum = plus(sum, self.tally(levels, j));
             }
-            j = next(self.sheet, j);
         }
         plus(sum, spaced(leaves, gap, n))
     }
@@ -87,7 +87,7 @@ impl<'a> Count<'a> {
                     sum = plus(sum, self.siblings(levels, 0, n, from));
                 }
                 Link::Fails => {
-                    let far = reach(self.sheet, j);
+                    let far = far_of(self.sheet, j).distance;
                     return Walked { sum, far };
                 }
                 Link::Nowhere => return Walked {

@@ -1,17 +1,16 @@
 // What of a chain's links is counted.
 ghost use Rattle.std.specs.Prelude.{◌≡◌, ℕ};
-ghost use Rattle.sheet.specs.Limits.{max_depth};
 ghost use Rattle.lowering.specs.Flatten as chains;
 ghost use Rattle.expr_rules.specs.Reads.{Reads};
 ghost use Rattle.expr_count.specs.Link as linked;
 
-use expr_rules::chains::{Read, StepRule, goes_on, is_lowerable_method, links_of, rest_of};
+use expr_rules::chains::{Read, StepRule, goes_on, is_lowerable_method, rest_of};
 use sheet::kinds::{DOT, PROPERTY, THIS, VARIABLE};
 use sheet::{child, count, kind};
 
 // The `n` operands from node `from` on of a link's step; a method that does not lower; no step at all.
-// Kept: not a Result of operands. A chain goes by the least of all its links (`grade`), whichever came first, so neither of the two others
-// ends a walk as an error by `?` would; each use is one match on the three.
+// Kept: not a Result. `Result<_, Distance>` would have `Whole` as an error, which no link has; an enum of the two others would be one more,
+// with a definition. `walk` tells them apart: behind `Fails` it asks `far_of`, behind `Nowhere` not.
 #[derive(Clone, Copy)]
 pub enum Link {
     Lowers { n: u32, from: u32 },
@@ -44,36 +43,6 @@ pub fn link_with(sheet: &[u8], p: Read) -> Link
         StepRule::Method => method(sheet, x),
         StepRule::Nothing => Link::Nowhere,
     }
-}
-
-// How far a chain comes: nowhere, as far as code that is taken back, or to its end.
-#[derive(Clone, Copy, PartialEq, Eq, PartialOrd, Ord)]
-pub(crate) enum Distance {
-    Nowhere,
-    TakenBack,
-    Whole,
-}
-
-// How far a chain comes with a link.
-fn grade(l: Link) -> Distance
-    ensures { linked.reach_number result ≡ linked.grade l }
-{
-    match l {
-        Link::Lowers { n: _, from: _ } => Distance::Whole,
-        Link::Fails => Distance::TakenBack,
-        Link::Nowhere => Distance::Nowhere,
-    }
-}
-
-// How far chain `j` comes with all its links.
-pub(crate) fn reach(sheet: &[u8], j: u32) -> Distance
-    ensures { linked.reach_number result ≡ linked.least sheet.now (chains.links max_depth sheet.now j) }
-{
-    let mut least = Distance::Whole;
-    for p in links_of(sheet, j) {
-        least = least.min(grade(link_with(sheet, p)));
-    }
-    least
 }
 
 // 1 for a root that is lowered.

@@ -59,7 +59,8 @@ impl<'a> Count<'a> {
     }
 
     // Variable `v` as a first argument.
-    // Kept: 0 for the slot, which no count reads. A type without it would be a second `First`, for which the same is said again.
+    // Kept: 0 for the slot, which no count reads. The definition answers with a `First` too (`first_of`), whose Local has a slot; without
+    // it there would be a second enum of the same four, with a definition of its own.
     fn variable(&self, v: u32) -> First
         ensures { let it = self.now in result ≡ first_of (locals.variable_by (locals.answer it.told it.sheet.now) v) }
     {

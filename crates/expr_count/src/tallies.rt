@@ -22,11 +22,10 @@ fn add(a: u64, b: u64) -> u64
     a.saturating_add(b).min(CAP)
 }
 
-// `n` instructions.
-pub fn instructions(n: u32) -> Tally
-    ensures { result ≡ tallies.instructions n }
+// `k` instructions.
+fn emitted(k: u64) -> Tally
+    ensures { result ≡ tallies.instructions k }
 {
-    let k = u64::from(n);
     Tally {
         len: k,
         emitted: k,
@@ -34,16 +33,18 @@ pub fn instructions(n: u32) -> Tally
     }
 }
 
+// `n` instructions.
+pub fn instructions(n: u32) -> Tally
+    ensures { result ≡ tallies.instructions n }
+{
+    emitted(u64::from(n))
+}
+
 // `n` instructions, and `gap` more for each of `m`.
 pub(crate) fn spaced(n: u32, gap: u32, m: u32) -> Tally
     ensures { result ≡ tallies.instructions (n + gap * m) }
 {
-    let k = u64::from(n) + u64::from(gap) * u64::from(m);
-    Tally {
-        len: k,
-        emitted: k,
-        defeated: false,
-    }
+    emitted(u64::from(n) + u64::from(gap) * u64::from(m))
 }
 
 // No instruction.

@@ -28,13 +28,13 @@ unfolding skip
 skip_first s j = refl
 
 module _ {s : List ℕ} {l : Layout} (low : Low) (by : After) (n from : ℕ) where
-  pub rows_start : (xs : List ℕ) (st : State) → Does s l xs st xs st (rows s low by 0 from)
+  pub rows_start : (i : ℕ) → i ≡ 0 → (xs : List ℕ) (st : State) → Does s l xs st xs st (rows s low by i from)
   unfolding rows
-  rows_start xs st = does-none xs st
+  rows_start i e xs st = does_at (λ m. rows s low by m from) (sym e) (does-none xs st)
 
-  pub rows-done : {xs ys : List ℕ} {st r : State} (i : ℕ) → i ≤ n → n ≤ i → Does s l xs st ys r (rows s low by i from)
+  pub rows-done : {xs ys : List ℕ} {st r : State} (i : ℕ) → i ≡ n → Does s l xs st ys r (rows s low by i from)
       → Does s l xs st ys r (rows s low by n from)
-  rows-done i h g d = does_at (λ m. rows s low by m from) (omega arith) d
+  rows-done i h d = does_at (λ m. rows s low by m from) h d
 
 after-grows : (by : After) (i pos : ℕ) → Growing (after_one by i pos)
 unfolding after_one
@@ -60,11 +60,12 @@ rows_grow levels s by (suc n) from =
     (growing-seq (low-grows levels s (skip s n from)) (after-grows by n (position s (skip s n from))))
 
 -- one more sibling, node j
-pub rows_more : {s : List ℕ} {l : Layout} {ws xs ys zs : List ℕ} {st q t r : State} (levels : ℕ) (by : After) (n from i j pos : ℕ) → i < n
+pub rows_more : {s : List ℕ} {l : Layout} {ws xs ys zs : List ℕ} {st q t r : State} (levels : ℕ) (by : After) (n from i k j pos : ℕ) → i < n
+    → k ≡ i
     → j ≡ skip s i from → pos ≡ position s j → Row s n from
     → Does s l ws st xs q (rows s (lowered levels s) by i from) → (Valid s j → Does s l xs q ys t (lowered levels s j))
-    → Does s l ys t zs r (after_one by i pos) → Does s l ws st zs r (rows s (lowered levels s) by (i + 1) from)
-rows_more {s} {l} {ws} {xs} {ys} {zs} {st} {q} {t} {r} levels by n from i j pos h at_j at-pos row before node behind =
+    → Does s l ys t zs r (after_one by k pos) → Does s l ws st zs r (rows s (lowered levels s) by (i + 1) from)
+rows_more {s} {l} {ws} {xs} {ys} {zs} {st} {q} {t} {r} levels by n from i k j pos h at_i at_j at-pos row before node behind =
     let v = subst (Valid s) (sym at_j) (row.each i h) in
     let at_place : pos ≡ position s (skip s i from) = at-pos ∙ ap (position s) at_j in
     let one : suc i ≡ i + 1 = omega arith in
@@ -73,7 +74,7 @@ rows_more {s} {l} {ws} {xs} {ys} {zs} {st} {q} {t} {r} levels by n from i j pos 
     (does-seq (growing-seq (low-grows levels s (skip s i from)) (after-grows by i (position s (skip s i from)))) before
     (does-seq (after-grows by i (position s (skip s i from)))
     (does_at (lowered levels s) at_j (node v))
-    (does_at (after_one by i) at_place behind))))
+    (does_at (after_one by i) at_place (does_at (λ m. after_one by m pos) at_i behind)))))
 
 -- ---- array, interpolated string
 

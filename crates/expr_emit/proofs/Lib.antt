@@ -15,3 +15,4 @@ mod StepDoes
 mod WalkDoes
 mod WayLaws
 mod WaySays
+mod NamedLaws

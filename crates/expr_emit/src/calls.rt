@@ -191,7 +191,8 @@ impl Way {
     }
 
     // What comes before the arguments, and where the receiver's name stands.
-    // Kept: 0 where none does, at which `close` does not look. With an Option it would have an arm for a name that is not there.
+    // Kept: a match on the way, as `close` below. 0 where none does, at which `close` does not look. With an Option it would have an
+    // arm for a name that is not there.
     pub fn open(self, sheet: &[u8], store: &mut Store, j: u32) -> u32
         ensures { let sheet = sheet.now in ((l : Layout) → (Facts self sheet j
             → Done sheet l store.old store.new (ways.opened self sheet j)) ×

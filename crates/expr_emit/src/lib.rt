@@ -26,7 +26,7 @@ use after::{After, after_one};
 use bytecode::Op;
 use calls::way_of;
 use ends::{decision, end_of};
-use expr_chains::far_of;
+use expr_chains::{Distance, far_of};
 use expr_count::links::{Link, link_with, temporary};
 use expr_rules::chains::links_of;
 use expr_rules::kinds::Rule;
@@ -34,9 +34,11 @@ use expr_rules::rule;
 use leaves::{constant, variable};
 use lowering::MAX_ELEMENTS;
 use scratch_store::Store;
-use sheet::{child, count, field_a, next, position, skip};
+use sheet::{Siblings, child, count, field_a, position, skip};
 
 // `n` siblings from node `from` on, each with `by` behind it.
+// Kept: that the sheet is right and the node valid are premises here and below: each function stands for every
+// sheet, so no value brings them.
 // Kept: `levels` and `sheet` are two parameters here and below. `levels` goes down at each node, so a struct of both would be made anew for
 // each call, and be passed through memory.
 #[cycle(array_call_chain_coalesce_expression_interpolated_short_circuit_siblings_walk)]
@@ -45,11 +47,9 @@ fn siblings(levels: u32, sheet: &[u8], store: &mut Store, by: After, n: u32, fro
         → Done sheet l store.old store.new (rows sheet
         (lowered levels sheet) by n from)) }
 {
-    let mut j = from;
-    for i in 0..n {
+    for (i, j) in Siblings::new(sheet, n, from).enumerate() {
         expression(levels, sheet, store, j);
-        after_one(store, by, i, position(sheet, j));
-        j = next(sheet, j);
+        after_one(store, by, i as u32, position(sheet, j));
     }
 }
 
@@ -162,12 +162,19 @@ fn chain(levels: u32, sheet: &[u8], store: &mut Store, j: u32)
         (lowered levels sheet) j)) }
 {
     let far = far_of(sheet, j);
-    if far.flattens {
-        let root = child(j);
-        let saved = store.state;
-        steps::root_name(sheet, store, root);
-        walk(levels, sheet, store, j);
-        if far.lowers {
+    match far.distance {
+        Distance::Nowhere => store.residual(j),
+        Distance::TakenBack => {
+            let saved = store.state;
+            steps::root_name(sheet, store, child(j));
+            walk(levels, sheet, store, j);
+            store.state.take_back(saved);
+            store.residual(j);
+        }
+        Distance::Whole => {
+            let root = child(j);
+            steps::root_name(sheet, store, root);
+            walk(levels, sheet, store, j);
             siblings(
                 levels,
                 sheet,
@@ -177,13 +184,8 @@ fn chain(levels: u32, sheet: &[u8], store: &mut Store, j: u32)
                 root,
             );
             steps::close_chain(sheet, store, j, far.operands);
-            return;
         }
-        store.state.take_back(saved);
-        store.residual(j);
-        return;
     }
-    store.residual(j);
 }
 
 // Node `j`, with that many levels left.

@@ -5,7 +5,6 @@ mod ChainLaws
 mod ConstructLaws
 pub mod Growing
 mod LeafLaws
-pub mod LoopLaws
 pub mod LoweredLaws
 pub mod NodeLaws
 pub mod Put

@@ -4,3 +4,4 @@ pub mod ReceiverLaws
 pub mod InverseLaws
 pub mod ReadsLaws
 pub mod LinksLaws
+mod NamedLaws

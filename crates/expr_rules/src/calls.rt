@@ -47,7 +47,8 @@ pub fn receiver_node(sheet: &[u8], j: u32) -> Option<u32>
 
 #[tactic(auto, unfolding(crate::specs::Answers::receiver_node, crate::specs::Answers::receiver_kind))]
 // The kind of call `j`'s receiver, 0 where it has none: what the locals say of a variable is left to the caller.
-// Kept: 0 is no node's kind, and a caller only compares. `receiver_node` is the form with an Option.
+// Kept: public, and 0 is no node's kind, so that the match on the answer (`way_first` of expr_emit) has no arm for it. With an Option both
+// of its arms would stand within `Some`. `receiver_node` is that form.
 pub fn receiver_kind(sheet: &[u8], j: u32) -> u32
     ensures { result ≡ answers.receiver_kind sheet.now j }
 {

@@ -14,7 +14,8 @@ use sheet::limits::MAX_DEPTH;
 use sheet::{child, count, field_a, kind, next};
 
 // What step a link has. A dot onto anything but a property or a method has none.
-// Kept: not an Option of three steps. The definition has the four, each read at every link.
+// Kept: not an Option of three. Each function that matches on the step has an arm for each of the three; with an Option these would stand
+// within `Some`, and an arm for `None` beside them, as `Nothing` does now.
 #[derive(Clone, Copy, PartialEq, Eq)]
 pub enum StepRule {
     Index,
@@ -26,6 +27,7 @@ pub enum StepRule {
 // What a link says: its node, the rest where it is a link too, the node that the step is taken with, the step, and flag NEGATED as
 // the word of an image (0 or 1).
 // Kept: that a Read is read from a sheet is a premise. As a ghost fact of the type it would ask more of the callers of public functions.
+// `flag` is a word, as the image has it: a bool would be made of a word of the sheet and made a word again.
 #[derive(Clone, Copy)]
 pub struct Read {
     pub link: u32,

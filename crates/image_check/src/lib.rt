@@ -24,8 +24,8 @@ fn sizes_agree(image: &[u32]) -> bool
 }
 
 // Whether the image `image` is well made for the sheet `sheet`, found in a scratch of as many words. Each test may rely on those before it.
-// Kept: sheet, image and scratch apart, here and below, as in to_image. Of a field that was lent nothing is known but its length, and here
-// the scratch is lent part by part.
+// Kept: sheet, image and scratch apart, here and below, as in to_image, where it was tried. Of a field whose words were lent they are not
+// known behind the loan, and here the scratch is lent part by part.
 fn well_made(sheet: &[u8], image: &[u32], scratch: &mut [u32]) -> bool
     ensures { let image = image.now in
         (length scratch.old ≡ length image → result ≡ well_made sheet.now image) }

@@ -3,3 +3,4 @@ mod CodeLaws
 mod MarkLaws
 mod DeepLaws
 mod CheckLaws
+mod NamedLaws

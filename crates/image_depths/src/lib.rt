@@ -19,6 +19,8 @@ use image_rows::{come, come_rows, count_runs, rows_right};
 use zeros::zero;
 
 // An instruction: its word a, where it goes, and what it pushes, pops and needs to find.
+// Kept: that it was read at a place of an image (`Read`) is a premise. As a ghost fact it would name image and place, which would then be
+// fields of each.
 #[derive(Clone, Copy)]
 struct Code {
     pub a: u32,
@@ -80,6 +82,7 @@ fn code_at(image: &Image, p: u32) -> Code
 }
 
 // The depth behind an instruction.
+// Kept: `after` of scratch_store finds the pops from the words that are written. Here they are found before, once for this and for `needs`.
 fn after(c: Code, d: u32) -> u64
     ensures value { result ≡ d - c.pops + c.pushes }
     ensures small { result ≤ 8589934592 }
@@ -88,7 +91,8 @@ fn after(c: Code, d: u32) -> u64
 }
 
 // Where the two ways from `p` take a mark, the same place twice where there is one: a Switch hands it to its table.
-// Kept: two places always. A test that leaves out the second step where it is the first one was timed, and no image is checked faster.
+// Kept: two places always. A test that leaves out the second step where it is the first one was timed, and no image is checked faster;
+// with an Option for the second place each of the two uses would be such a test.
 fn ways(image: &Image, c: Code, p: u32) -> (usize, usize)
     ensures { let image = image.now.words.now in (Read image p c → Ways image p result.0 result.1) }
 {
@@ -103,7 +107,8 @@ fn ways(image: &Image, c: Code, p: u32) -> (usize, usize)
 }
 
 // If no mark has come to table `i` before, its rows and its default are come to.
-// Kept: marks and rows apart, here and below, as in image_rows.
+// Kept: marks and rows apart, here and below, as in image_rows. That rows lie in their pools (`Pooled`) and are counted (`Runs`) are
+// premises: no code knows the first, and a slice does not say the second.
 fn enter(image: &Image, m: u32, found: &mut [u32], rows: &mut [u32], i: u32)
     ensures { let image = image.now.words.now in
         (Pooled image i → 0 < m → Does image (marks.enter image i m) found.old rows.old found.new rows.new) }
@@ -203,6 +208,7 @@ fn place_right(image: &Image, found: &[u32], p: u32) -> bool
 }
 
 // All places are right.
+// Kept: one call of `all`, here and in `tables_right`; a function over the test would be that call under another name.
 fn places_right(image: &Image, found: &[u32]) -> bool
     ensures { result ≡ places_right image.now.words.now found.now }
 {

@@ -3,3 +3,4 @@ mod ObeysLaws
 mod RecordLaws
 mod FitLaws
 mod CodeLaws
+mod NamedLaws

@@ -143,6 +143,7 @@ impl<'a> Pair<'a> {
     }
 
     // A CallRef has an argument, and its c is what LoadLocal, LoadNamed or LoadThis (kinds 4 to 6) may have as a.
+    // Kept: the receiver is a number, which is added to kind 4. Each variant of an enum would be turned back into that number.
     fn ref_fits(&self, b: u32, c: u32) -> bool
         ensures { result ≡ fields.ref_fits self.now.bounds b c }
     {
@@ -257,6 +258,8 @@ impl<'a> Pair<'a> {
     }
 
     // A table's rows are a run of the cases (kind 0) or of the ranges (kind 1).
+    // Kept: `kind <= 1` beside `Rows::from`, which answers for every word, as the definition of `rows_there` does. Behind this test all
+    // others ask `Rows` alone.
     fn table_right(&self, i: u32) -> bool
         ensures { result ≡ records.table_right self.now.image.words.now i }
     {

@@ -1,2 +1,3 @@
 mod BuildLaws
 mod LevelLaws
+mod NamedLaws

@@ -5,6 +5,8 @@ ghost use Rattle.std.specs.Prelude.{◌≡◌, ◌/◌, ◌≤◌, length};
 ghost use Rattle.image_maxima.specs.Tree.{Tree, Built, leaves_up_to};
 
 // The tree over the leaves that stand in the second half of `t`, which is kept.
+// Kept: a tree in one slice, number k above 2 k and 2 k + 1: it lies in the lent scratch, and there is no heap. By index, since each turn
+// reads two numbers and writes a third.
 pub fn build(t: &mut [u32])
     ensures { Built t.old t.new (length t.old / 2) }
 {

@@ -11,3 +11,7 @@ kind_of Ranges = 1
 -- the pool that a number names
 unfoldable pub rows_of : ℕ → Rows
 rows_of kind = elim (eqb kind 0) [ true ↦ Cases | false ↦ Ranges ]
+
+-- how many rows stand before those of a kind, where the cases come first and n is how many they are
+unfoldable pub rows_before : ℕ → ℕ → ℕ
+rows_before kind n = elim (eqb kind 0) [ true ↦ 0 | false ↦ n ]

@@ -18,6 +18,8 @@ use lowering::{
 };
 
 // Word `i` of an image, 0 past its end.
+// Kept: `get` of scratch reads lent words in the same way. A contract names the definition of its own words, and nothing else of that crate
+// is of use here.
 pub fn word_of(image: &[u32], i: usize) -> u32
     ensures { result ≡ words.word image.now i }
 {
@@ -116,6 +118,18 @@ impl Rows {
         match self {
             Rows::Cases => CASE_WIDTH,
             Rows::Ranges => RANGE_WIDTH,
+        }
+    }
+
+    #[tactic(auto, unfolding(crate::specs::Pools::kind_of, crate::specs::Pools::rows_before))]
+    // How many rows stand before the pool's own, where the `n` cases come first.
+    pub fn rows_before(self, n: u32) -> u32
+        ensures value { result ≡ pools.rows_before (pools.kind_of self) n }
+        ensures small { result ≤ n }
+    {
+        match self {
+            Rows::Cases => 0,
+            Rows::Ranges => n,
         }
     }
 }
@@ -236,6 +250,16 @@ impl<'a> Image<'a> {
         }
     }
 
+    // The target of row `j` of a pool.
+    pub fn target_at(&self, pool: Rows, j: u32) -> u32
+        ensures { result ≡ targets.target_of self.now.words.now (pools.kind_of pool) j }
+    {
+        word_of(
+            self.words,
+            pool.targets_at(self) + pool.apart() * (j as usize),
+        )
+    }
+
     // The mark of table `i` stands behind those of the places and of the end.
     pub fn table_node(&self, i: u32) -> usize
         ensures value { result ≡ marks.table_node self.now.words.now i }
@@ -246,12 +270,15 @@ impl<'a> Image<'a> {
 
     // How many marks there are.
     pub fn marks_there(&self) -> usize
-        ensures { result ≡ marks.marks_there self.now.words.now }
+        ensures value { result ≡ marks.marks_there self.now.words.now }
+        ensures small { result ≤ 8589934592 }
     {
         self.table_node(self.sizes.tables)
     }
 
     // The words of the instruction at `p`.
+    // Kept: a function for each, here and below. They are one call of `word_of` under the name that the definition has; one function of a
+    // section, or of a word's place, would have to be told apart again in each contract that names a definition.
     pub fn kind_at(&self, p: u32) -> u32
         ensures { result ≡ words.kind_at self.now.words.now p }
     {
@@ -276,9 +303,7 @@ impl<'a> Image<'a> {
         word_of(self.words, SIZES + OP_WIDTH * (p as usize) + 3)
     }
 
-    // Word `f` of record `i` of a section; so in each.
-    // Kept: a function for each. They are one call of `word_of` under the name that the section's definition has; one function of a
-    // section would have to be told apart again in each contract that names a definition.
+    // Word `f` of record `i` of a section, where `f` is the word's place in its record, from 0 on; so in each.
     pub fn const_word(&self, i: u32, f: u32) -> u32
         ensures { result ≡ words.const_word self.now.words.now i f }
     {

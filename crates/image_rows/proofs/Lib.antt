@@ -3,3 +3,4 @@ mod ReadLaws
 pub mod ScratchLaws
 pub mod SeenLaws
 mod RunLaws
+mod NamedLaws

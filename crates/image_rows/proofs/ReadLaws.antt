@@ -10,7 +10,8 @@ use Rattle.lowering.specs.Limits.{case_width, range_width, range_target}
 use Rattle.lowering.specs.Words.{word, cases_at, ranges_at, switch_word, case_word, range_word}
 use Rattle.lowering.specs.Run.{row_target}
 use Rattle.image_rule.specs.Rules.{cases, ranges, rows_there}
-use Rattle.image_read.specs.Pools.{rows_of}
+use Rattle.image_read.specs.Pools.{kind_of, rows_of, rows_before}
+use Rattle.image_read.specs.Targets.{targets_at, apart, target_of}
 use Rattle.image_read.specs.declared.Rows.{Rows}
 use Rattle.image_read.specs.declared.Rows.TheVariants.{Cases, Ranges}
 use Rattle.image_rows.specs.AllRows.{row_of, first_row, Pooled}
@@ -29,50 +30,38 @@ is_none : (w : List ℕ) (q : ℕ) → cases w ≤ q → ranges w ≤ q - cases 
 unfolding row_of
 is_none w q a b = rw (le-ltb q (cases w) a, le-ltb (q - cases w) (ranges w) b, row_of)
 
--- the same for the word that was read
-pub row-case : (w : List ℕ) (q n x : ℕ) → n ≡ cases w → q < n → x ≡ case_word w q 0 → x ≡ row_of w q
-unfolding case_word
-row-case w q n x c h e =
-    let same : cases_at w + case_width * q + 0 ≡ cases_at w + case_width * q = omega arith in
-    e ∙ ap (word w) same ∙ sym (is-case w q (omega arith))
+-- the same for the target that was read
+pub row-case : (w : List ℕ) (q n x : ℕ) → n ≡ cases w → q < n → x ≡ target_of w (kind_of Cases) q → x ≡ row_of w q
+unfolding target_of targets_at apart kind_of
+row-case w q n x c h e = e ∙ sym (is-case w q (omega arith))
 
-pub row-range : (w : List ℕ) (q n m x : ℕ) → n ≡ cases w → m ≡ ranges w → n ≤ q → q - n < m → x ≡ range_word w (q - n) range_target
-    → x ≡ row_of w q
-unfolding range_word
+pub row-range : (w : List ℕ) (q n m x : ℕ) → n ≡ cases w → m ≡ ranges w → n ≤ q → q - n < m
+    → x ≡ target_of w (kind_of Ranges) (q - n) → x ≡ row_of w q
+unfolding target_of targets_at apart kind_of
 row-range w q n m x c d h g e =
-    let same : ranges_at w + range_width * (q - n) + range_target ≡ ranges_at w + (range_width * (q - cases w) + range_target) =
+    let same : ranges_at w + range_target + range_width * (q - n) ≡ ranges_at w + (range_width * (q - cases w) + range_target) =
     omega (arith, c) in
     e ∙ ap (word w) same ∙ sym (is-range w q (omega arith) (omega arith))
 
 pub row-none : (w : List ℕ) (q n m : ℕ) → n ≡ cases w → m ≡ ranges w → n ≤ q → m ≤ q - n → 0 ≡ row_of w q
 row-none w q n m c d h g = sym (is_none w q (omega arith) (omega arith))
 
--- the first row of a table, by the pool
-first_in : List ℕ → Rows → ℕ → ℕ
-first_in w Cases x = x
-first_in w Ranges x = cases w + x
-
-in-pool : (w : List ℕ) (i : ℕ) → first_in w (rows_of (switch_word w i 0)) (switch_word w i 1) ≡ first_row w i
-unfolding first_in first_row rows_of
-in-pool w i = by (eqb (switch_word w i 0) 0) refl
+-- the first row of a table, from the words that were read, with `a` rows before those of its pool
+pub first-read : (w : List ℕ) (i kind x n a : ℕ) (pool : Rows) → kind ≡ switch_word w i 0 → pool ≡ rows_of kind → n ≡ cases w
+    → a ≡ rows_before (kind_of pool) n → x ≡ switch_word w i 1 → a + x ≡ first_row w i
+unfolding first_row rows_of rows_before kind_of
+first-read w i kind x n a pool k p c h e =
+    omega (
+      arith,
+      h ∙ ap (λ q. rows_before (kind_of q) n) (p ∙ ap rows_of k) ∙ ap (rows_before (kind_of (rows_of (switch_word w i 0)))) c,
+      e,
+      by (eqb (switch_word w i 0) 0) refl,
+    )
   where
-    by : (b : Bool) → eqb (switch_word w i 0) 0 ≡ b → first_in w (rows_of (switch_word w i 0)) (switch_word w i 1) ≡ first_row w i
-    by true e = rw (e, rows_of, first_row) refl
-    by false e = rw (e, rows_of, first_row) refl
-
-first-read : (w : List ℕ) (i kind x : ℕ) (pool : Rows) → kind ≡ switch_word w i 0 → x ≡ switch_word w i 1 → pool ≡ rows_of kind
-    → first_in w pool x ≡ first_row w i
-first-read w i kind x pool k e h =
-    ap (λ p. first_in w p x) (h ∙ ap rows_of k) ∙ ap (first_in w (rows_of (switch_word w i 0))) e ∙ in-pool w i
-
-pub first-of-cases : (w : List ℕ) (i kind x : ℕ) → kind ≡ switch_word w i 0 → x ≡ switch_word w i 1 → Cases ≡ rows_of kind → x ≡ first_row w i
-unfolding first_in
-first-of-cases w i kind x k e h = first-read w i kind x Cases k e h
-
-pub first-of-ranges : (w : List ℕ) (i kind x n : ℕ) → kind ≡ switch_word w i 0 → x ≡ switch_word w i 1 → Ranges ≡ rows_of kind → n ≡ cases w
-    → n + x ≡ first_row w i
-unfolding first_in
-first-of-ranges w i kind x n k e h c = ap (λ m. m + x) c ∙ first-read w i kind x Ranges k e h
+    by : (b : Bool) → eqb (switch_word w i 0) 0 ≡ b
+        → rows_before (kind_of (rows_of (switch_word w i 0))) (cases w) + switch_word w i 1 ≡ first_row w i
+    by true q = rw (q, rows_of, rows_before, first_row) (omega arith)
+    by false q = rw (q, rows_of, rows_before, first_row) refl
 
 -- a table's rows are rows of the list
 target-case : (w : List ℕ) (i r : ℕ) → eqb (switch_word w i 0) 0 ≡ true

@@ -11,7 +11,6 @@ ghost use Rattle.image_rows.specs.AllRows.{Pooled, row_of, first_row};
 ghost use Rattle.image_rows.specs.Scratch.{Does, Stepped, Runs, Counted};
 
 use image_read::{Image, Rows, word_of};
-use lowering::RANGE_TARGET;
 
 // Where row `q` goes.
 fn row_target(image: &Image, q: usize) -> u32
@@ -19,11 +18,11 @@ fn row_target(image: &Image, q: usize) -> u32
 {
     let cases = image.sizes.cases as usize;
     if q < cases {
-        return image.case_word(q as u32, 0);
+        return image.target_at(Rows::Cases, q as u32);
     }
     let j = q - cases;
     if j < (image.sizes.ranges as usize) {
-        return image.range_word(j as u32, RANGE_TARGET as u32);
+        return image.target_at(Rows::Ranges, j as u32);
     }
     0
 }
@@ -33,11 +32,8 @@ fn first_row(image: &Image, i: u32) -> usize
     ensures first { result ≡ first_row image.now.words.now i }
     ensures small { result ≤ 8589934592 }
 {
-    let first = image.table_word(i, 1) as usize;
-    match Rows::from(image.table_word(i, 0)) {
-        Rows::Cases => first,
-        Rows::Ranges => (image.sizes.cases as usize) + first,
-    }
+    let before = Rows::from(image.table_word(i, 0)).rows_before(image.sizes.cases);
+    (before as usize) + (image.table_word(i, 1) as usize)
 }
 
 // A word is written, if it is there.
@@ -52,6 +48,7 @@ fn put(out: &mut [u32], at: usize, v: u32)
 }
 
 // The first run that comes to `t` leaves its mark.
+// Kept: 0 for no mark, here and below, and for a row that was not seen (`note`): one word of the scratch holds each.
 #[tactic(auto, unfolding(image_rule::specs::Marks::come))]
 pub fn come(m: u32, found: &mut [u32], t: usize)
     ensures { found.new ≡ marks.come m found.old t }
@@ -120,6 +117,7 @@ pub fn count_runs(image: &Image, found: &[u32], rows: &mut [u32])
     ensures { Counted image.now.words.now found.now rows.old rows.new }
 {
     let total = (image.sizes.cases as usize) + (image.sizes.ranges as usize);
+    // Kept: by number. A row is in one of two pools (`row_target`), and `rows` may be shorter than they are.
     let mut before: u32 = 0;
     let mut run: u32 = 0;
     for q in 0..total {

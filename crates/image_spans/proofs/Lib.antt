@@ -5,3 +5,4 @@ mod FlowLaws
 mod PutLaws
 mod TableLaws
 pub mod LieLaws
+mod NamedLaws

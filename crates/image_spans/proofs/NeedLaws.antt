@@ -30,10 +30,6 @@ pub step-need :
 unfolding step_need
 step-need w j r a b c d k e o ha hb hc hd = e ∙ rw (o, ha, hb, hc, hd) refl
 
--- no step is put
-pub needs-none : (w l : List ℕ) → NeedsIn w l 0
-needs-none w l = record { need = λ j h. absurd (omega arith) }
-
 -- one more
 pub needs-more :
     {w l : List ℕ} {j : ℕ} (n v : ℕ)
@@ -69,12 +65,11 @@ pub needs-built :
     → n ≡ 2 * size
     → length l₁ ≡ n
     → length t ≡ length l₁
-    → (2 * steps w ≤ n → NeedsIn w l₁ (steps w))
+    → NeedsIn w l₁ (steps w)
     → Built l₁ t (length l₁ / 2)
     → ChainsLie w
     → NeedTree w t
-needs-built {w} {l₁} {t} size n e long same kept put built lie =
+needs-built {w} {l₁} {t} size n e long same kept p built lie =
     let half : length l₁ / 2 ≡ steps w = omega arith in
     let b = subst (Built l₁ t) half built in
-    let p = put (omega arith) in
     record { half = omega arith; tree = b.tree; needs = record { need = λ j h. b.leaves j ∙ p.need j h }; lie = lie }

@@ -4,35 +4,16 @@ use mathlib.Core.Path.{◌≡◌, refl, sym, ap, ◌∙◌, subst}
 use mathlib.Core.Bool.{Bool, true, false}
 use mathlib.Core.List.{List}
 use native.Mathlib.Omega.{arith}
-use native.Mathlib.Nat.{mul-add, mul-one, mul-zero, add-zero}
 use borrow.Author.Tests.{eqb-true, eqb-false}
 use lib.Dec.{eqb}
 use lib.ListN.{length, get_or, set}
 use lib.Seq.{get_or-set_same, get_or-set_other}
-use Rattle.lowering.specs.Limits.{range_width}
-use Rattle.lowering.specs.Words.{word, ranges_at}
+use Rattle.lowering.specs.Words.{ranges_at}
 use Rattle.image_rule.specs.Rules.{cases, ranges, end_at}
-use Rattle.image_read.specs.Most.{targets_most}
-use Rattle.image_read.specs.Targets.{targets_at, apart, target_of}
+use Rattle.image_read.specs.Targets.{target_of}
 use Rattle.image_maxima.specs.Tree.{Built}
 use Rattle.image_spans.specs.Premises.{Sized, RowsLie}
 use Rattle.image_spans.specs.Leaves.{turned, row_count, Put, TargetTree}
-
--- where the target of row j stands
-pub record At (w : List ℕ) (kind j from : ℕ) : Type 0 where
-  pub there : from ≡ targets_at w kind + apart kind * j
-  pub small : from ≤ targets_most + range_width * j
-
--- the first row
-pub at_first : (w : List ℕ) (kind from : ℕ) → from ≡ targets_at w kind → from ≤ targets_most → At w kind 0 from
-at_first w kind from e h = record { there = e ∙ simp (mul-zero, add-zero); small = omega arith }
-
--- the next row, n words on
-pub at_next : {w : List ℕ} {kind j from : ℕ} (n : ℕ) → n ≡ apart kind → n ≤ range_width → At w kind j from → At w kind (j + 1) (from + n)
-at_next {w} {kind} {j} {from} n e h a = record {
-  there = let product : apart kind * (j + 1) ≡ apart kind * j + apart kind = simp (mul-add, mul-one) in omega (arith, a.there);
-  small = omega (arith, a.small);
-}
 
 -- no row is put
 pub put-none : (w l : List ℕ) (kind at : ℕ) → Put w kind at 0 l l
@@ -40,14 +21,9 @@ put-none w l kind at = record { put = λ j h. absurd (omega arith); before = λ 
 
 -- one more row is put
 pub put-more :
-    {w l₀ l : List ℕ} {kind at j from : ℕ} (v : ℕ)
-    → at + j < length l
-    → At w kind j from
-    → v ≡ word w from
-    → Put w kind at j l₀ l
+    {w l₀ l : List ℕ} {kind at j v : ℕ} → at + j < length l → v ≡ target_of w kind j → Put w kind at j l₀ l
     → Put w kind at (j + 1) l₀ (set l (at + j) (turned v))
-unfolding target_of
-put-more {w} {l₀} {l} {kind} {at} {j} {from} v room a e p = record {
+put-more {w} {l₀} {l} {kind} {at} {j} {v} room e p = record {
   put = λ k h. by k h (eqb k j) refl;
   before = λ k h. get_or-set_other l (at + j) k (turned v) 0 (λ s. omega arith) ∙ p.before k h;
 }
@@ -57,15 +33,10 @@ put-more {w} {l₀} {l} {kind} {at} {j} {from} v room a e p = record {
         let same = eqb-true k j i in
         ap (λ (m : ℕ). get_or (set l (at + j) (turned v)) (at + m) 0) same
         ∙ get_or-set_same l (at + j) (turned v) 0 room
-        ∙ ap turned (e ∙ ap (word w) a.there)
-        ∙ ap (λ (m : ℕ). turned (target_of w kind m)) (sym same)
+        ∙ ap turned (e ∙ ap (target_of w kind) (sym same))
     by k h false i =
         let other = eqb-false k j i in
         get_or-set_other l (at + j) (at + k) (turned v) 0 (λ s. other (omega arith)) ∙ p.put k (omega arith)
-
--- all rows are put
-pub put-done : {w l₀ l : List ℕ} {kind at j : ℕ} (n : ℕ) → j ≤ n → n ≤ j → Put w kind at j l₀ l → Put w kind at n l₀ l
-put-done {w} {l₀} {l} {kind} {at} {j} n h g p = subst (λ (k : ℕ). Put w kind at k l₀ l) (omega arith) p
 
 -- the scratch has room for the tree
 pub rows-fit : {w l : List ℕ} → Sized w l → 2 * row_count w ≤ length l
@@ -81,12 +52,12 @@ pub rows-built :
     → length l₁ ≡ length l
     → length l₂ ≡ length l₁
     → length t ≡ length l₂
-    → (n + m + n ≤ length l → Put w 0 (n + m) n l l₁)
-    → (n + m + n + m ≤ length l₁ → Put w 1 (n + m + n) m l₁ l₂)
+    → Put w 0 (n + m) n l l₁
+    → Put w 1 (n + m + n) m l₁ l₂
     → Built l₂ t (length l₂ / 2)
     → RowsLie w
     → TargetTree w t
-rows-built {w} {l} {l₁} {l₂} {t} n m en em long e₁ e₂ e₃ p₁ p₂ b lie = record {
+rows-built {w} {l} {l₁} {l₂} {t} n m en em long e₁ e₂ e₃ first second b lie = record {
   half = omega arith;
   tree = built.tree;
   first = λ j h.
@@ -104,9 +75,3 @@ rows-built {w} {l} {l₁} {l₂} {t} n m en em long e₁ e₂ e₃ p₁ p₂ b l
 
     built : Built l₂ t (row_count w)
     built = let half : length l₂ / 2 ≡ row_count w = omega arith in subst (Built l₂ t) half b
-
-    first : Put w 0 (n + m) n l l₁
-    first = p₁ (omega arith)
-
-    second : Put w 1 (n + m + n) m l₁ l₂
-    second = p₂ (omega arith)

@@ -14,11 +14,11 @@ use Rattle.lowering.specs.Run.{row_target}
 use Rattle.image_rule.specs.Rules.{cases, tables, rows_there}
 use Rattle.image_rule.specs.Test.{least, least_target}
 use Rattle.image_read.specs.Targets.{target_of}
-use Rattle.image_read.specs.Pools.{kind_of, rows_of}
+use Rattle.image_read.specs.Pools.{kind_of, rows_of, rows_before}
 use Rattle.image_read.specs.declared.Rows.{Rows}
 use Rattle.image_read.proofs.TargetLaws.{target-range, row-target}
 use Rattle.image_maxima.specs.Tree.{leaf, Tree, leaves_up_to}
-use Rattle.image_spans.specs.Leaves.{turned, row_count, rows_before, TargetTree}
+use Rattle.image_spans.specs.Leaves.{turned, row_count, TargetTree}
 use Rattle.image_spans.proofs.ChainLaws.{run-leaves}
 
 -- the order of targets and of leaves
@@ -130,5 +130,6 @@ table-aims {w} {t} p i n kind a b k d {pool} r en ekind epool ea eb ek ed says T
     rows =
         rw (T.half, first, ek) at says T.tree (rows_inside T i h)
         ∙ run-leaves t (row_count w) (first_leaf w i) (switch_word w i 2) (4294967294 - p)
-        ∙ all_same (λ j. leb (leaf t (row_count w) (first_leaf w i + j)) (4294967294 - p)) (λ j. ltb p (row_target w i j)) (switch_word w i 2)
+        ∙ all_same (λ j. leb (leaf t (row_count w) (first_leaf w i + j)) (4294967294 - p)) (λ j. ltb p (row_target w i j))
+        (switch_word w i 2)
         (λ j q. ap (λ (x : ℕ). leb x (4294967294 - p)) (row-leaf T i h j q) ∙ turned-above p (row_target w i j) small)

@@ -1,6 +1,6 @@
 -- The targets of cases and, behind them, of ranges as the leaves of one tree. A leaf is as far below the greatest word as the target is
 -- above 0, so that the greatest leaf is that of the least target.
-use Rattle.std.specs.Prelude.{ℕ, ◌+◌, ◌-◌, ◌/◌, ◌<◌, ◌≡◌, true, false, List, eqb, get_or, length}
+use Rattle.std.specs.Prelude.{ℕ, ◌+◌, ◌-◌, ◌/◌, ◌<◌, ◌≡◌, List, get_or, length}
 use Rattle.image_rule.specs.Rules.{cases, ranges}
 use Rattle.image_read.specs.Targets.{target_of}
 use Rattle.image_maxima.specs.Tree.{leaf, Tree}
@@ -11,10 +11,6 @@ turned target = 4294967295 - target
 
 abbrev pub row_count : List ℕ → ℕ
 row_count w = cases w + ranges w
-
--- how many leaves stand before those of a kind, with n cases
-unfoldable pub rows_before : ℕ → ℕ → ℕ
-rows_before kind n = elim (eqb kind 0) [ true ↦ 0 | false ↦ n ]
 
 -- the targets of the first n rows of a kind stand in l from `at` on; what stood before is as in l₀
 pub record Put (w : List ℕ) (kind at n : ℕ) (l₀ l : List ℕ) : Type 0 where

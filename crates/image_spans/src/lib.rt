@@ -12,11 +12,11 @@ ghost use Rattle.image_maxima.specs.Tree.{Tree, leaf};
 ghost use Rattle.image_spans.specs.Premises.{Sized, ChainsLie, RowsLie};
 ghost use Rattle.image_read.specs.Pools.{kind_of};
 ghost use Rattle.image_spans.specs.Needs.{need_of, NeedsIn, NeedTree};
-ghost use Rattle.image_spans.specs.Leaves.{rows_before, Put, TargetTree};
+ghost use Rattle.image_spans.specs.Leaves.{Put, TargetTree};
 
 use bytecode::{Flow, effect_of};
 use image_maxima::{all_at_most, build};
-use image_read::{Image, Rows, StepKind, word_of};
+use image_read::{Image, Rows, StepKind};
 use lowering::MAX_ELEMENTS;
 
 // More operands than any chain has.
@@ -36,13 +36,12 @@ fn need(kind: Option<StepKind>, a: u32, b: u32, c: u32) -> u32
 
 // The needs of all steps, as leaves of a tree.
 fn put_needs(image: &Image, t: &mut [u32])
-    ensures { let image = image.now.words.now in
-        (2 * rules.steps image ≤ length t.old → NeedsIn image t.new (rules.steps image)) }
+    requires { 2 * rules.steps image.now.words.now ≤ length t.old }
+    ensures { let image = image.now.words.now in NeedsIn image t.new (rules.steps image) }
 {
     let n = image.sizes.steps as usize;
-    if t.len() / 2 < n {
-        return;
-    }
+    // Kept: by number, here and in `put_targets`: a step and a row are read from the image by a u32, and `enumerate` gives a usize, which
+    // would be made that again at each of the reads.
     for j in 0..image.sizes.steps {
         t[n + j as usize] = need(
             StepKind::of(image.step_word(j, 0)),
@@ -53,6 +52,8 @@ fn put_needs(image: &Image, t: &mut [u32])
     }
 }
 
+// Kept: here and below, image and tree go beside each other, and that the tree is the image's (`NeedTree`, `TargetTree`) is a premise. It
+// holds where that of the entry point does (`Sized`, `ChainsLie`, `RowsLie`), of which no code knows, so no value can bring it along.
 // Whether `count` leaves from `first` on are at most `x`.
 fn run_fits(t: &[u32], first: u32, count: u32, x: u32) -> bool
     ensures { let tree = t.now in
@@ -75,6 +76,7 @@ fn chain_fits(image: &Image, t: &[u32], i: u32) -> bool
 }
 
 // Whether all chains have.
+// Kept: one call of `all`, here and in `code_aims`; a function over the test would be that call under another name.
 fn chains_fit(image: &Image, t: &[u32]) -> bool
     ensures { let image = image.now.words.now in
         (NeedTree image t.now → result ≡ test.operands_right image) }
@@ -100,36 +102,17 @@ pub fn operands_right(image: &[u32], scratch: &mut [u32]) -> bool
 
 // The targets of the first `n` rows of a pool, from `at` on.
 fn put_targets(image: &Image, t: &mut [u32], pool: Rows, at: usize, n: u32)
-    ensures { at + n ≤ length t.old → Put image.now.words.now (kind_of pool) at n t.old t.new }
+    requires { at + n ≤ length t.old }
+    ensures { Put image.now.words.now (kind_of pool) at n t.old t.new }
 {
-    let n = n as usize;
-    if t.len() < n {
-        return;
-    }
-    if t.len() - n < at {
-        return;
-    }
-    let next = pool.apart();
-    let mut from = pool.targets_at(image);
     for j in 0..n {
-        t[at + j] = u32::MAX - word_of(image.words, from);
-        from += next;
-    }
-}
-
-// How many rows of `n` cases stand before those of a pool.
-#[tactic(auto, unfolding(image_read::specs::Pools::kind_of, crate::specs::Leaves::rows_before))]
-fn rows_before(pool: Rows, n: u32) -> u32
-    ensures value { result ≡ rows_before (kind_of pool) n }
-    ensures small { result ≤ n }
-{
-    match pool {
-        Rows::Cases => 0,
-        Rows::Ranges => n,
+        t[at + j as usize] = u32::MAX - image.target_at(pool, j);
     }
 }
 
 // Whether all targets of table `i`, its default's too, are above `p`, by the tree over the targets.
+// Kept: the first row is a sum of two lines, as in image_rows (`first_row`). What both share is `rows_before`;
+// the leaves of the tree go by it.
 fn table_aims(image: &Image, t: &[u32], p: u32, i: u32) -> bool
     ensures { let image = image.now.words.now in
         (TargetTree image t.now → p < 4294967295 → i < rules.tables image → result ≡ ltb p (test.least_target image i)) }
@@ -137,9 +120,8 @@ fn table_aims(image: &Image, t: &[u32], p: u32, i: u32) -> bool
     if p == u32::MAX {
         return false;
     }
-    let cases = image.sizes.cases;
-    let before = rows_before(Rows::from(image.table_word(i, 0)), cases) as usize;
-    let first = before + image.table_word(i, 1) as usize;
+    let before = Rows::from(image.table_word(i, 0)).rows_before(image.sizes.cases);
+    let first = (before as usize) + image.table_word(i, 1) as usize;
     let end = first + image.table_word(i, 2) as usize;
     (p < image.table_word(i, 3)) & all_at_most(t, first, end, u32::MAX - 1 - p)
 }

@@ -1,7 +1,7 @@
 // Bytes from a reader, as standard input: the programs read a whole sheet, or a record, into memory that they have.
 #![tactic(auto)]
 
-ghost use Rattle.std.specs.Prelude.{ℕ, ◌≤◌, ◌<◌, ◌≡◌, List, take, length, false, IfOk};
+ghost use Rattle.std.specs.Prelude.{ℕ, ◌≤◌, ◌<◌, ◌≡◌, List, take, length, false, IfOk, IfSome, MatchOption};
 ghost use Rattle.std.specs.Int.{from_bool};
 ghost use Rattle.std.specs.Io.KnownBytes.{Consumes, IsAtEnd};
 
@@ -35,4 +35,18 @@ pub fn more<R: Read>(reader: &mut R) -> io::Result<bool>
     let mut one = [0u8; 1];
     let n = read_full(reader, &mut one)?;
     Ok(n != 0)
+}
+
+// All that the reader has left, where `buf` has room for it: none where it is longer.
+pub fn read_whole<'a, R: Read>(reader: &mut R, buf: &'a mut [u8]) -> io::Result<Option<&'a [u8]>>
+    ensures room { IfOk result (λ whole. IfSome whole (λ bytes. length bytes.now ≤ length buf.old)) }
+    ensures bytes { IfOk result (λ whole. IfSome (R.remaining reader.old)
+        (λ left. MatchOption whole (length buf.old < length left) (λ bytes. bytes.now ≡ left))) }
+    ensures end { IfOk result (λ whole. IfSome whole (λ bytes. IsAtEnd (R.remaining reader.new))) }
+{
+    let n = read_full(reader, buf)?;
+    if more(reader)? {
+        return Ok(None);
+    }
+    Ok(Some(&buf[..n]))
 }

@@ -3,6 +3,7 @@ use Prim.Native.Nat.{ℕ}
 use mathlib.Core.Path.{◌≡◌, ap, subst, ◌∙◌}
 use mathlib.Core.Bool.{Bool}
 use mathlib.Core.List.{List}
+use Rattle.checks.specs.Checked.{verdict_number}
 use Rattle.sheet.specs.Limits.{max_depth}
 use Rattle.sheet.specs.Sections.{node_count}
 use Rattle.sheet.specs.Node.{kind}
@@ -49,12 +50,13 @@ pub greater-switch : (s w v : List ℕ) (m : ℕ) (t u : Tally) {nodes : ℕ} �
 greater-switch s w v m t u h high low n-is same =
     let between = switch-between s h in
     greater-decides s m _ _ t u between.0 between.1 (by-locals s v t (all-locals s) low).total
-    (by-locals s w u (no-locals s) high).total n-is same
+    (by-locals s w u (no-locals s) high).total n-is (ap verdict_number same)
 
 -- ---- an expression
 
 -- by its own locals
-pub sought-plain : (s : List ℕ) (r : Tally) → (kind s 0 ≡ switch_kind → ⊥) → r ≡ capped (tally_by (answer Sought s) max_depth s 0) → Counts s r
+pub sought-plain : (s : List ℕ) (r : Tally) → (kind s 0 ≡ switch_kind → ⊥) → r ≡ capped (tally_by (answer Sought s) max_depth s 0)
+    → Counts s r
 sought-plain s r h e =
     plain-counted s r h (e ∙ ap (λ (here : ℕ → Bool). capped (tally_by here max_depth s 0)) (sought-answer s))
 
@@ -68,4 +70,4 @@ greater-plain s m t u h u-is t-is n-is same =
     let between = plain-between s h in
     let by = λ (here : ℕ → Bool). capped (tally_by here max_depth s 0) in
     greater-decides s m _ _ t u between.0 between.1 (cut-back _ (t-is ∙ ap by (all-locals s)))
-    (cut-back _ (u-is ∙ ap by (no-locals s))) n-is same
+    (cut-back _ (u-is ∙ ap by (no-locals s))) n-is (ap verdict_number same)

@@ -60,7 +60,7 @@ module _ (s : List ℕ) (m : ℕ) where
   -- the greater of two between which they lie, where both are refused alike
   pub greater-decides : (a b t u : Tally) {nodes : ℕ} → Less a (total s) → Less (total s) b → taken_back t ≡ capped (taken_back a)
       → taken_back u ≡ capped (taken_back b) → nodes ≡ node_count s
-      → early t.defeated t.emitted m nodes ≡ early u.defeated u.emitted m nodes
+      → verdict_number (early t.defeated t.emitted m nodes) ≡ verdict_number (early u.defeated u.emitted m nodes)
       → Decides s m u
   unfolding capped taken_back
   greater-decides a b t u {nodes = nodes} low high t-is u-is n-is same =
@@ -77,10 +77,11 @@ module _ (s : List ℕ) (m : ℕ) where
       ap (λ (v : Tally). early v.defeated v.emitted m n) u-is ∙ ap (λ c. early c y m n) (sym high.defeated) in
       let g = low.emitted in
       let h = high.emitted in
-      let alike = sym down ∙ same ∙ ap (early u.defeated u.emitted m) n-is ∙ up in
+      let alike =
+      ap verdict_number (sym down) ∙ same ∙ ap verdict_number (ap (early u.defeated u.emitted m) n-is ∙ up) in
       let way =
       early-between {e = x} {f = min e cap} {g = y} (omega arith) (omega arith) (early-told d x m n _ refl) (early-told d y m n _ refl)
-      (ap verdict_number alike) in
+      alike in
       record {
         refusal_is = up ∙ early-is way ∙ sym (early-cut d e m n);
         enough = let f = ap (λ (v : Tally). v.emitted) u-is in omega arith;

@@ -23,7 +23,7 @@ use refusals::Refusal;
 use sheet::kinds::SWITCH;
 use sheet::limits::MAX_DEPTH;
 use sheet::{kind, local_count, node_count};
-use switch_places::{count, read};
+use switch_places::{count_table, read_table};
 use switch_tables::Table;
 
 // Words of scratch for each emitted instruction, for each node, and besides, as lowering/specs/Limits has them.
@@ -37,7 +37,7 @@ pub const BESIDES: u64 = 4096;
 const FEW_LOCALS: u32 = 64;
 
 // The words of scratch that number 11 asks for.
-fn scratch_words(emitted: u32, nodes: u32) -> u64
+pub fn scratch_words(emitted: u32, nodes: u32) -> u64
     ensures { result ≡ scratch_per_emitted * emitted + scratch_per_node * nodes + scratch_besides }
 {
     PER_EMITTED * u64::from(emitted) + PER_NODE * u64::from(nodes) + BESIDES
@@ -89,8 +89,8 @@ fn planned(sheet: &[u8], told: Locals, table: &mut Table) -> Tally
         → nodes.kind sheet 0 ≡ switch_kind → Counted sheet t table.new.cells result) }
 {
     let by = Count { sheet, told };
-    read(&by, table);
-    count(&by, table)
+    read_table(&by, table);
+    count_table(&by, table)
 }
 
 // The counts of an accepted sheet.

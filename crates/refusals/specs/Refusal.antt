@@ -1,5 +1,6 @@
 -- The refusals of documents 01 and 02: the number of each, and what it leaves of what is lent.
-use Rattle.std.specs.Prelude.{ℕ, Bool, true, false, List, length, Result, Ok, Err}
+use Rattle.std.specs.Prelude.{ℕ, Bool, true, false, List, ◌++◌, length, codes, Result, Ok, Err}
+use Rattle.std.specs.Fmt.{decimal}
 use Rattle.zeros.specs.Zeros.{zeros}
 use Rattle.refusals.specs.declared.Refusal.{Refusal}
 use Rattle.refusals.specs.declared.Refusal.TheVariants.{Size, Shape, Text, Number, Depth, Arms, Twice, Unsupported, Eval, Emitted}
@@ -20,6 +21,10 @@ refusal_number Emitted = 10
 refusal_number ScratchShort = 11
 refusal_number ImageLong = 12
 refusal_number IllMade = 13
+
+-- how a program says it
+abbrev pub refusal_text : Refusal → List ℕ
+refusal_text r = codes "refused " ++ decimal (refusal_number r)
 
 -- the number of an answer; 0 is no refusal
 abbrev pub number_of : {T : Type 0} → Result T Refusal → ℕ

@@ -1,8 +1,8 @@
 // Why something is refused: the refusals of documents 01 and 02, in one type.
 #![tactic(auto)]
 
-ghost use Rattle.std.specs.Prelude.{◌≡◌};
-ghost use Rattle.refusals.specs.Refusal.{refusal_number, number_of};
+ghost use Rattle.std.specs.Prelude.{◌≡◌, Some};
+ghost use Rattle.refusals.specs.Refusal.{refusal_number, refusal_text, number_of};
 
 use std::error::Error;
 use std::fmt;
@@ -35,6 +35,8 @@ impl From<Refusal> for u32 {
 }
 
 impl fmt::Display for Refusal {
+    ghost output = { λ r. Some (refusal_text r) };
+
     fn fmt<W: fmt::Write>(&self, f: &mut fmt::Formatter<W>) -> fmt::Result {
         write!(f, "refused {}", u32::from(*self))
     }

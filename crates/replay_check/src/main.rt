@@ -2,33 +2,33 @@
 // bytes, and the sheet padded with zeros to a word. Prints how many answers were the same, and how many were not.
 #![tactic(auto)]
 
-use replay_records::{agreeing, fill, print_result};
+use checks::check;
+use refusals::number;
+use replay_records::{agreeing, fill, replay};
 use std::io;
-use std::io::Read;
+use std::io::{Read, writer};
+use words::word_at;
 
-// Reads a record by way of `buf` and compares. A record that is cut off, or too long for `buf`, does not agree.
-// Kept: the head has a buffer of its own. How long the sheet is stands in it.
-fn compare_one<R: Read>(reader: &mut R, buf: &mut [u8]) -> io::Result<bool> {
+// Reads a record and compares. A record that is cut off, or too long, does not agree.
+// Kept: the head has a buffer of its own, since how long the sheet is stands in it. The number that is expected is a word of the record, 0
+// for no refusal: as a `Result` it would be made by a table of the 13 numbers, with a case for each other word, to be compared once.
+fn compare_one<R: Read>(reader: &mut R) -> io::Result<bool> {
     let mut head = [0u8; 8];
+    let mut sheet = [0u8; 65536];
     let Some(head) = fill(reader, &mut head, 8)? else {
         return Ok(false);
     };
-    let expected = words::word_at(head, 0);
-    let len = words::word_at(head, 1) as usize;
-    let Some(padded) = fill(reader, buf, len.next_multiple_of(4))? else {
+    let expected = word_at(head, 0);
+    let len = word_at(head, 1) as usize;
+    let Some(padded) = fill(reader, &mut sheet, len.next_multiple_of(4))? else {
         return Ok(false);
     };
-    Ok(refusals::number(&checks::check(&padded[..len])) == expected)
+    Ok(number(&check(&padded[..len])) == expected)
 }
 
+// Kept: replay_lower has these lines too. What both share is `replay` and `agreeing`; a `main` is its program's own.
 fn main(rt: HostRuntime) -> io::Result<()> {
-    let mut reader = rt.reader();
-    let mut buf = [0u8; 65536];
-    let mut head = [0u8; 4];
-    if let Some(head) = fill(&mut reader, &mut head, 4)? {
-        let most = words::word_at(head, 0);
-        let same = agreeing(most, || compare_one(&mut reader, &mut buf))?;
-        print_result(&rt, same as u64, most as u64)?;
-    }
-    Ok(())
+    replay(&mut rt.reader(), &mut writer(&rt), |reader, most| {
+        agreeing(reader, most, compare_one)
+    })
 }

@@ -3,13 +3,14 @@
 // number, and the image. Compares the number and every word of the scratch. Prints how many records were the same, and how many were not.
 #![tactic(auto)]
 
-ghost use Rattle.std.specs.Prelude.{◌≤◌, IfOk, IfSome};
+ghost use Rattle.std.specs.Prelude.{◌≡◌, ◌≤◌, ◌<◌, ◌^◌, IfOk};
 
 use image_check::check_image;
 use refusals::Refusal;
-use replay_records::{agreeing, fill, left_as, print_result, put_noise};
+use replay_records::{Counted, agreeing, fill, left_as, put_noise, replay};
 use std::io;
-use std::io::Read;
+use std::io::{Read, writer};
+use words::word_at;
 
 // Words of room for the image or the scratch of a record.
 const ROOM: usize = 8192;
@@ -17,12 +18,12 @@ const ROOM: usize = 8192;
 // The words that `bytes` hold, and zeros behind them.
 fn put_words(image: &mut [u32], bytes: &[u8]) {
     for (i, word) in image.iter_mut().enumerate() {
-        *word = words::word_at(bytes, i);
+        *word = word_at(bytes, i);
     }
 }
 
 // The check of `image` beside `sheet` answers and leaves what it must.
-// Kept: the number that is expected is a word of the record, 0 where there is no refusal.
+// Kept: the number that is expected is a word of the record, 0 where there is no refusal, as in `replay_lower`.
 fn checks_as(sheet: &[u8], image: &[u32], scratch: &mut [u32], number: u32) -> bool {
     put_noise(scratch);
     let answer = refusals::number(&check_image(sheet, image, scratch)) == number;
@@ -34,7 +35,8 @@ fn checks_as(sheet: &[u8], image: &[u32], scratch: &mut [u32], number: u32) -> b
 }
 
 // The same of the image whose words `bytes` hold, with `y` words of scratch, where there is room for them.
-// Kept: image and scratch are two buffers, as the C interface has them.
+// Kept: replay_lower has an `agrees` too. One function would take the size as a const parameter and the work as a closure of both slices,
+// for four lines in each. Image and scratch are two buffers, as the C interface has them.
 fn agrees(sheet: &[u8], bytes: &[u8], y: usize, number: u32) -> bool {
     let mut image = [0u32; ROOM];
     let mut scratch = [0u32; ROOM];
@@ -56,64 +58,55 @@ fn compare_one<R: Read>(reader: &mut R, sheet: &[u8]) -> io::Result<bool> {
     let Some(head) = fill(reader, &mut head, 12)? else {
         return Ok(false);
     };
-    let n = words::word_at(head, 0) as usize;
-    let y = words::word_at(head, 1) as usize;
+    let n = word_at(head, 0) as usize;
+    let y = word_at(head, 1) as usize;
     let Some(bytes) = fill(reader, &mut bytes, 4 * n)? else {
         return Ok(false);
     };
-    Ok(agrees(sheet, bytes, y, words::word_at(head, 2)))
-}
-
-// How many records of a sheet there are, and how many agree.
-#[derive(Clone, Copy)]
-struct Counted {
-    same: u32,
-    most: u32,
+    Ok(agrees(sheet, bytes, y, word_at(head, 2)))
 }
 
 // How many of `most` records agree, of the next sheet, of `size` bytes; none where it is not there whole.
-fn of_sheet<R: Read>(reader: &mut R, size: u32, most: u32) -> io::Result<u32>
-    ensures { IfOk result (λ same. same ≤ most) }
+fn of_sheet<R: Read>(reader: &mut R, size: u32, most: u32) -> io::Result<Counted>
+    ensures same { IfOk result (λ counted. counted.same ≤ most) }
+    ensures most { IfOk result (λ counted. counted.most ≡ most) }
 {
     let mut sheet = [0u8; 65536];
     let n = size as usize;
     let Some(padded) = fill(reader, &mut sheet, n.next_multiple_of(4))? else {
-        return Ok(0);
+        return Ok(Counted {
+            same: 0,
+            most: u64::from(most),
+        });
     };
     let sheet = &padded[..n];
-    agreeing(most, || compare_one(reader, sheet))
+    agreeing(reader, most, |reader| compare_one(reader, sheet))
 }
 
-// What of the next sheet agrees, where there is one.
-fn next_sheet<R: Read>(reader: &mut R) -> io::Result<Option<Counted>>
-    ensures { IfOk result (λ next. IfSome next (λ c. c.same ≤ c.most)) }
+// What of the next sheet agrees. A sheet that is missing counts as one record that does not agree.
+fn next_sheet<R: Read>(reader: &mut R) -> io::Result<Counted>
+    ensures same { IfOk result (λ counted. counted.same < 2 ^ 32) }
+    ensures most { IfOk result (λ counted. counted.most < 2 ^ 32) }
 {
     let mut head = [0u8; 8];
     let Some(head) = fill(reader, &mut head, 8)? else {
-        return Ok(None);
+        return Ok(Counted { same: 0, most: 1 });
     };
-    let most = words::word_at(head, 1);
-    let same = of_sheet(reader, words::word_at(head, 0), most)?;
-    Ok(Some(Counted { same, most }))
+    of_sheet(reader, word_at(head, 0), word_at(head, 1))
 }
 
-// The records of all sheets. A sheet that is missing counts as one record that does not agree.
-fn replay<R: Read>(rt: &impl Print, reader: &mut R, sheets: u32) -> io::Result<()> {
-    let mut same: u64 = 0;
-    let mut most: u64 = 0;
+// The records of all sheets.
+fn of_sheets<R: Read>(reader: &mut R, sheets: u32) -> io::Result<Counted> {
+    let mut same = 0;
+    let mut most = 0;
     for _ in 0..sheets {
-        let c = next_sheet(reader)?.unwrap_or(Counted { same: 0, most: 1 });
-        same += c.same as u64;
-        most += c.most as u64;
+        let next = next_sheet(reader)?;
+        same += next.same;
+        most += next.most;
     }
-    print_result(rt, same, most)
+    Ok(Counted { same, most })
 }
 
 fn main(rt: HostRuntime) -> io::Result<()> {
-    let mut reader = rt.reader();
-    let mut head = [0u8; 4];
-    if let Some(head) = fill(&mut reader, &mut head, 4)? {
-        replay(&rt, &mut reader, words::word_at(head, 0))?;
-    }
-    Ok(())
+    replay(&mut rt.reader(), &mut writer(&rt), of_sheets)
 }

@@ -10,10 +10,11 @@ ghost use Rattle.replay_lower.specs.Left as left;
 
 use needs::needs;
 use refusals::{Refusal, number};
-use replay_records::{agreeing, fill, left_as, noise, print_result, put_noise, word};
+use replay_records::{agreeing, fill, left_as, noise, put_noise, replay, word};
 use std::io;
-use std::io::Read;
+use std::io::{Read, writer};
 use to_image::lower;
+use words::word_at;
 
 // The answer has this number and this word count.
 fn answered(a: Result<usize, Refusal>, expected: u32, count: usize) -> bool
@@ -42,7 +43,7 @@ fn image_word(wanted: &[u8], i: usize) -> u32
 {
     let count = wanted.len() / 4;
     if i < count {
-        return words::word_at(wanted, i);
+        return word_at(wanted, i);
     }
     noise(i)
 }
@@ -57,6 +58,8 @@ fn image_same(image: &[u32], wanted: &[u8]) -> bool
 }
 
 // What a record wants: words of room for the image and for the scratch, the number of the answer, and the words of the image in bytes.
+// Kept: the number is a word of the record, 0 for no refusal. As a `Result` it would be made by a table of the 13 numbers, with a case for
+// each other word, and `answered` and `foretold` would compare that with numbers again.
 #[derive(Clone, Copy)]
 struct Wanted<'a> {
     image: usize,
@@ -82,7 +85,7 @@ fn lowers(sheet: &[u8], image: &mut [u32], scratch: &mut [u32], wanted: Wanted) 
 }
 
 // The same in buffers of the size that is wanted, where there is room for them.
-// Kept: image and scratch are two buffers, as the C interface has them.
+// Kept: beside that of replay_image, where it is said why. Image and scratch are two buffers, as the C interface has them.
 fn agrees(sheet: &[u8], wanted: Wanted) -> bool {
     let mut image = [0u32; 20480];
     let mut scratch = [0u32; 20480];
@@ -103,7 +106,7 @@ fn compare_sheet<R: Read>(reader: &mut R, wanted: Wanted) -> io::Result<bool> {
     let Some(size) = fill(reader, &mut size, 4)? else {
         return Ok(false);
     };
-    let n = words::word_at(size, 0) as usize;
+    let n = word_at(size, 0) as usize;
     let Some(padded) = fill(reader, &mut sheet, n.next_multiple_of(4))? else {
         return Ok(false);
     };
@@ -117,25 +120,20 @@ fn compare_one<R: Read>(reader: &mut R) -> io::Result<bool> {
     let Some(head) = fill(reader, &mut head, 16)? else {
         return Ok(false);
     };
-    let Some(words) = fill(reader, &mut words, 4 * words::word_at(head, 3) as usize)? else {
+    let Some(words) = fill(reader, &mut words, 4 * word_at(head, 3) as usize)? else {
         return Ok(false);
     };
     let wanted = Wanted {
-        image: words::word_at(head, 0) as usize,
-        scratch: words::word_at(head, 1) as usize,
-        number: words::word_at(head, 2),
+        image: word_at(head, 0) as usize,
+        scratch: word_at(head, 1) as usize,
+        number: word_at(head, 2),
         words,
     };
     compare_sheet(reader, wanted)
 }
 
 fn main(rt: HostRuntime) -> io::Result<()> {
-    let mut reader = rt.reader();
-    let mut head = [0u8; 4];
-    if let Some(head) = fill(&mut reader, &mut head, 4)? {
-        let most = words::word_at(head, 0);
-        let same = agreeing(most, || compare_one(&mut reader))?;
-        print_result(&rt, same as u64, most as u64)?;
-    }
-    Ok(())
+    replay(&mut rt.reader(), &mut writer(&rt), |reader, most| {
+        agreeing(reader, most, compare_one)
+    })
 }

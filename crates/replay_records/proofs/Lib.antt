@@ -1,1 +1,3 @@
+pub mod AgreedLaws
 pub mod LeftLaws
+mod NamedLaws

@@ -1,1 +1,4 @@
+pub mod Agreed
+pub mod Counted
 pub mod Left
+pub mod Replayed

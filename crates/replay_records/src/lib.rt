@@ -1,14 +1,19 @@
-// What the programs that replay answers of the oracle share: reading a record, noise in lent buffers, how many records agree, and a line of
-// the result.
+// What the programs that replay answers of the oracle share: a replay, with how many records agree; reading a record; noise in lent
+// buffers, and what is left there.
 #![tactic(auto)]
 
-ghost use Rattle.std.specs.Prelude.{◌-◌, ◌≤◌, length, get_or, eqb, ◌≡◌, IfOk, IfSome};
+ghost use Rattle.std.specs.Prelude.{Some, ◌-◌, ◌≤◌, ◌<◌, length, get_or, eqb, ◌≡◌, ℕ, IsNone, IfOk, IfErr, IfSome, OnOk, ◌⊎◌};
+ghost use Rattle.std.specs.Io.KnownBytes.{Consumes};
+ghost use Rattle.replay_records.specs.Agreed.{Agreed, Stopped};
+ghost use Rattle.replay_records.specs.Replayed.{Replayed};
+ghost use Rattle.replay_records.specs.Counted.{counted_text};
 ghost use Rattle.words.specs.Count.{all_below};
 ghost use Rattle.replay_records.specs.Left as left;
 
 use input::read_full;
-use std::io;
-use std::io::Read;
+use std::io::{Read, Write};
+use std::{fmt, io};
+use words::word_at;
 
 // Reads `n` bytes to the start of `buf`: none where they are not there, or `buf` has no room for them.
 pub fn fill<'a, R: Read>(
@@ -18,6 +23,8 @@ pub fn fill<'a, R: Read>(
 ) -> io::Result<Option<&'a [u8]>>
     ensures room { IfOk result (λ part. IfSome part (λ bytes. n ≤ length buf.old)) }
     ensures size { IfOk result (λ part. IfSome part (λ bytes. length bytes.now ≡ n)) }
+    ensures bytes { IfOk result (λ part. IfSome part (λ bytes. Consumes (R.remaining reader.old) (R.remaining reader.new) bytes.now)) }
+    ensures short { IfOk result (λ part. IsNone part → n ≤ length buf.old → IfSome (R.remaining reader.old) (λ left. length left < n)) }
 {
     let Some(part) = buf.get_mut(..n) else {
         return Ok(None);
@@ -29,18 +36,45 @@ pub fn fill<'a, R: Read>(
     Ok(None)
 }
 
-// How many of `most` records agree, where `compare` reads one and says whether it does.
-pub fn agreeing<F: FnMut() -> io::Result<bool>>(most: u32, mut compare: F) -> io::Result<u32>
+// How many records agree, of how many.
+#[derive(Clone, Copy)]
+pub struct Counted {
+    pub same: u64,
+    pub most: u64,
+}
+
+impl fmt::Display for Counted {
+    ghost output = { λ counted. Some (counted_text counted) };
+
+    fn fmt<W: fmt::Write>(&self, f: &mut fmt::Formatter<W>) -> fmt::Result {
+        let same = self.same;
+        let different = self.most.saturating_sub(same);
+        write!(f, "same {same}\ndifferent {different}")
+    }
+}
+
+// How many of the next `most` records agree, where `compare` reads one and says whether it does.
+pub fn agreeing<R, F: Fn(&mut R) -> io::Result<bool>>(
+    reader: &mut R,
+    most: u32,
+    compare: F,
+) -> io::Result<Counted>
     requires { F.IsAlwaysCallable compare }
-    ensures { IfOk result (λ same. same ≤ most) }
+    ensures ok { IfOk result (λ counted. Agreed (F.post compare) reader.old most counted.same reader.new
+        × (counted.most ≡ most)) }
+    ensures bound { IfOk result (λ counted. counted.same ≤ most) }
+    ensures err { IfErr result (λ e. Stopped (F.post compare) reader.old most e reader.new) }
 {
     let mut same = 0;
     for _ in 0..most {
-        if compare()? {
+        if compare(reader)? {
             same += 1;
         }
     }
-    Ok(same)
+    Ok(Counted {
+        same,
+        most: u64::from(most),
+    })
 }
 
 // What stands in word `i` of a buffer before it is lent.
@@ -81,10 +115,21 @@ pub fn left_as(buf: &[u32], zeroed: bool) -> bool
     (0..buf.len()).all(|i| word(buf, i) == word_left(zeroed, i))
 }
 
-// Prints how many records were the same, and how many of `most` were not.
-// Kept: two lines of numbers; a type with Display around them would be used here alone.
-pub fn print_result(rt: &impl Print, same: u64, most: u64) -> io::Result<()> {
-    let different = most.saturating_sub(same);
-    println!(rt; "same {same}")?;
-    println!(rt; "different {different}")
+// Replays what the reader holds: how many records there are, then the records, which `compare` reads and counts, and a line of the result.
+// Where not even the number of records is there, nothing is written.
+pub fn replay<R: Read, W: Write, F: FnOnce(&mut R, u32) -> io::Result<Counted>>(
+    reader: &mut R,
+    writer: &mut W,
+    compare: F,
+) -> io::Result<()>
+    requires { F.IsAlwaysCallable compare }
+    ensures { OnOk result (((writer.new ≡ writer.old) × IfSome (R.remaining reader.old) (λ left. length left < 4))
+        ⊎ Replayed R.remaining W.contents (F.post compare) reader.old writer.old reader.new writer.new) }
+{
+    let mut head = [0u8; 4];
+    let Some(head) = fill(reader, &mut head, 4)? else {
+        return Ok(());
+    };
+    let counted = compare(reader, word_at(head, 0))?;
+    writeln!(writer, "{counted}")
 }

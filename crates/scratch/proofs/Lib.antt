@@ -2,3 +2,4 @@
 pub mod RegionLaws
 pub mod ClearLaws
 pub mod PlaceLaws
+mod NamedLaws

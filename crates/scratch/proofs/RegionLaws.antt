@@ -74,21 +74,6 @@ regions-push at k i (v ∷ vs) xs e h =
     ∙ ap (λ (l : List ℕ). l ++ vs) (region-push at k i v xs e (omega arith))
     ∙ append_snoc (region at k xs) v vs
 
--- four words, one by one
-pub sets-four :
-    (w xs a b c d : List ℕ) (i : ℕ) → length w ≡ 4 → a ≡ set xs i (get_or w 0 0) → b ≡ set a (i + 1) (get_or w 1 0)
-    → c ≡ set b (i + 2) (get_or w 2 0) → d ≡ set c (i + 3) (get_or w 3 0) → d ≡ sets xs i w
-sets-four (p ∷ q ∷ r ∷ t ∷ []) xs a b c d i h ha hb hc hd =
-    let one : i + 1 ≡ suc i = omega arith in
-    let two : i + 2 ≡ suc (suc i) = omega arith in
-    let three : i + 3 ≡ suc (suc (suc i)) = omega arith in
-    rw (hd, hc, hb, ha, one, two, three)
-sets-four [] xs a b c d i h ha hb hc hd = absurd (omega arith)
-sets-four (p ∷ []) xs a b c d i h ha hb hc hd = absurd (omega arith)
-sets-four (p ∷ q ∷ []) xs a b c d i h ha hb hc hd = absurd (omega arith)
-sets-four (p ∷ q ∷ r ∷ []) xs a b c d i h ha hb hc hd = absurd (omega arith)
-sets-four (p ∷ q ∷ r ∷ t ∷ u ∷ w) xs a b c d i h ha hb hc hd = absurd (omega arith)
-
 -- a part by its start and its end
 pub part-is : (p at n : ℕ) (xs : List ℕ) → p ≡ at → take ((p + n) - p) (drop p xs) ≡ region at n xs
 unfolding region

@@ -42,6 +42,8 @@ const MEMO_WORDS: u32 = 1024;
 const BESIDE_WORDS: usize = 2048;
 
 // A word, 0 past the end.
+// Kept: a reader of its own beside `byte` (words) and `word_of` (image_read). One for them all would promise `get_or`, and each contract
+// that names the definition of what is read (`byte_of`, `word`) would have to be taken from there to it.
 pub fn get(scratch: &[u32], i: usize) -> u32
     ensures { result ≡ get_or scratch.now i 0 }
 {
@@ -75,6 +77,8 @@ fn word(n: usize) -> u32
     (n % 4294967296) as u32
 }
 
+// Kept: a method for each list and each index. Each answers the definition of its own name in specs/Places.antt, which the contracts of
+// the callers name; one method by a number or an enum would be taken apart again in each of them.
 impl Layout {
     // The place behind all words for instructions and `n` words for each node.
     fn behind(self, n: usize) -> usize

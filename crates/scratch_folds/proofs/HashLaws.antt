@@ -81,13 +81,13 @@ four-steps h a b c d =
     (h * 1345077009 + (a + 1) * 1055306571 + (b + 1) * 637696617 + (c + 1) * 16777619 + d + 1)
     ((h * 16777619 + a + 1) / 4294967296 * 1055306571) (4122390 * h) (omega arith)
 
--- the chunks of four, each by its index, and their elements
-four_at : (k : ℕ) (xs : List ℕ) (j : ℕ) → j < k → get_or (first_chunks 4 k xs) j [] ≡ take 4 (drop (4 * j) xs)
-four_at zero xs j l = absurd (omega arith)
-four_at (suc k) xs zero l = refl
-four_at (suc k) xs (suc j) l =
-    let e : 4 + 4 * j ≡ 4 * suc j = omega arith in
-    four_at k (drop 4 xs) j (omega arith) ∙ ap (take 4) (drop-drop (4 * j) 4 xs ∙ ap (λ (n : ℕ). drop n xs) e)
+-- the chunks of n, each by its index
+pub chunk_at : (n k : ℕ) (xs : List ℕ) (j : ℕ) → j < k → get_or (first_chunks n k xs) j [] ≡ take n (drop (j * n) xs)
+chunk_at n zero xs j l = absurd (omega arith)
+chunk_at n (suc k) xs zero l = let z : 0 ≡ 0 * n = omega arith in ap (λ (i : ℕ). take n (drop i xs)) z
+chunk_at n (suc k) xs (suc j) l =
+    let e : n + j * n ≡ suc j * n = omega arith in
+    chunk_at n k (drop n xs) j (omega arith) ∙ ap (take n) (drop-drop (j * n) n xs ∙ ap (λ (i : ℕ). drop i xs) e)
 
 module _ (bs : List ℕ) (t : ℕ) where
   folding-four :
@@ -115,8 +115,10 @@ module _ (bs : List ℕ) (t : ℕ) where
       → g ≡ four_steps h (get_or c 0 0) (get_or c 1 0) (get_or c 2 0) (get_or c 3 0) → Folding bs t (4 * (j + 1)) g
   folding-chunk j k h g c f l room is e =
       let q : 4 * j + 4 ≡ 4 * (j + 1) = omega arith in
+      let turned : j * 4 ≡ 4 * j = omega arith in
+      let there = chunk_at 4 k bs j l ∙ ap (λ (i : ℕ). take 4 (drop i bs)) turned in
       let item : (n : ℕ) → n < 4 → get_or c n 0 ≡ get_or bs (4 * j + n) 0 = λ n m.
-      ap (λ (x : List ℕ). get_or x n 0) (is ∙ four_at k bs j l) ∙ get_or-take 4 (drop (4 * j) bs) n 0 m ∙ get_or-drop (4 * j) bs n 0 in
+      ap (λ (x : List ℕ). get_or x n 0) (is ∙ there) ∙ get_or-take 4 (drop (4 * j) bs) n 0 m ∙ get_or-drop (4 * j) bs n 0 in
       let a = item 0 (omega arith) in
       let b = item 1 (omega arith) in
       let d = item 2 (omega arith) in

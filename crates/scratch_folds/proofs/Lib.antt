@@ -2,3 +2,4 @@
 pub mod HashLaws
 pub mod PowerLaws
 pub mod SumsLaws
+mod NamedLaws

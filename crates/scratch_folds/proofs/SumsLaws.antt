@@ -8,8 +8,7 @@ use native.Mathlib.Decide.{dec_lt}
 use native.Mathlib.Numerals.{add-one}
 use lib.ListN.{length, get_or, set, take, drop, length-set, length-take, length-drop}
 use lib.Seq.{get_or-set_same, get_or-set_other, take-add, take-take, drop-drop, length-take-le}
-use borrow.Author.Tests.{lt-ltb, le-ltb}
-use Rattle.words.specs.Count.{all_below}
+use borrow.Author.Tests.{le-ltb}
 use Rattle.words.proofs.CountLaws.{all-fails}
 use Rattle.text.proofs.RunLaws.{cut}
 use Rattle.sheet.specs.Sections.{text_count, byte_count, bytes_at}
@@ -90,9 +89,6 @@ filling-goes b at k h g q xs ys zs f w e m z =
           ∙ ap (λ (i : ℕ). filled b at i xs) (sym (add-one k));
     }
 
-pub filling-length : (b : List ℕ) (at k h : ℕ) (xs ys : List ℕ) → Filling b at k h xs ys → length ys ≡ length xs
-filling-length b at k h xs ys f = ap length f.front ∙ filled-length b at k xs
-
 pub filling-ends :
     (b : List ℕ) (at k h : ℕ) (xs ys : List ℕ) → Filling b at k h xs ys → k ≡ length b / block → ys ≡ filled b at (length b / block) xs
 filling-ends b at k h xs ys f e = f.front ∙ ap (λ (i : ℕ). filled b at i xs) e
@@ -151,17 +147,10 @@ text-part s t i n e f l =
     ∙ ap (take n) (drop-drop i (4 * bytes_at s) s)
     ∙ rw (e, f)
 
--- a text is short by its length; one that is not, and all that are
-pub short-by : (s : List ℕ) (t n : ℕ) → n ≡ text_length s t → n < long → is_short s t ≡ true
-short-by s t n e l = lt-ltb (text_length s t) long (omega arith)
-
+-- not all are short where one is not
 pub short-fails : (s : List ℕ) (t : ℕ) → t < text_count s → long ≤ text_length s t → all_short s ≡ false
 unfolding all_short
 short-fails s t l h = all-fails (is_short s) (text_count s) t l (le-ltb (text_length s t) long h)
-
-pub short-passes : (s : List ℕ) (t : ℕ) → t ≡ text_count s → all_below t (is_short s) ≡ true → all_short s ≡ true
-unfolding all_short
-short-passes s t e h = rw (← e) h
 
 -- the words that are written for a sheet are 1,024 at most
 blocks-few : (s : List ℕ) → length (summed_bytes s) / block ≤ 1024

@@ -120,10 +120,9 @@ fn text_bytes(sheet: &[u8]) -> &[u8]
 fn fill_blocks(b: &[u8], scratch: &mut [u32], at: u32)
     ensures { let bytes = b.now in scratch.new ≡ filled bytes at (length bytes / block) scratch.old }
 {
-    let n = b.len() / BLOCK;
     let mut h: u32 = 0;
-    for k in 0..n {
-        h = fold_on(part(b, k * BLOCK, BLOCK), h);
+    for (k, block) in b.as_chunks::<BLOCK>().0.iter().enumerate() {
+        h = fold_on(block, h);
         put(scratch, (at as usize) + k, h);
     }
 }

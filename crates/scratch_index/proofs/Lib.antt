@@ -19,3 +19,4 @@ pub mod LodgeLaws
 pub mod LocalLaws
 pub mod IndexesLaws
 pub mod StartLaws
+mod NamedLaws

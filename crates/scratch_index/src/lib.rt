@@ -31,6 +31,9 @@ use sheet::kinds::{STRING, THIS, VARIABLE};
 use sheet::{child, count, field_a, field_b, field_c, kind, position, start_of, text};
 
 // A link has the entry before in its low 19 bits, and 13 bits of its own entry's hash above them.
+// Kept: a head and the entry in a link are the entry plus 1, and 0 is none, here and in `note` and `seek`; so is the text of a memo
+// (`remember`, `recalled`), and the local of a slot (scratch_locals). A word of the lent scratch has no Option: each becomes one where it
+// is read, or is only compared with 0 (`told_by` of expr_count).
 pub const RANKS: u32 = 524288;
 
 pub const TAGS: u32 = 8192;
@@ -118,6 +121,7 @@ pub fn const_hash(sheet: &[u8], scratch: &[u32], layout: Layout, j: u32) -> u32
 }
 
 // Nodes `i` and `c` have the same constant. One text number needs no bytes.
+// Kept: kind and bytes stand in the sheet, here and in `same_name`, so no derive compares them.
 fn same_const(sheet: &[u8], i: u32, c: u32) -> bool
     ensures { result ≡ same_const_of sheet.now i c }
 {
@@ -177,6 +181,8 @@ pub trait Wanted {
         ensures { told self.now → result ≡ same self.now k };
 
     // The place of the link of the entry with key `k`.
+    // Kept: no default body, though all but `NameWith` say `link(ix, k)`. Tried: a default is proved for every `slot`, and this one is true
+    // of `const_slot` alone.
     fn link(&self, ix: Index, k: u32) -> usize
         ensures { result ≡ link_at ix (slot k) };
 }
@@ -316,6 +322,8 @@ fn index_hash(sheet: &[u8], h: u32, c: u32, v: u32) -> u32
 }
 
 // The first `count` names that the scratch holds for a sheet.
+// Kept: that it holds them (`NamesHold`) is a premise of what asks for their places. Each function answers for every scratch, so where a
+// `Names` is made the fact is not known.
 #[derive(Clone, Copy)]
 pub struct Names<'a> {
     pub sheet: &'a [u8],

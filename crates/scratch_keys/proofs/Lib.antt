@@ -1,3 +1,4 @@
 pub mod BangLaws
 pub mod KeyLaws
 pub mod SeekLaws
+mod NamedLaws

@@ -10,8 +10,16 @@ use expr_rules::calls::stores_token;
 use expr_rules::chains::operand_of;
 use lowering::NAMES_PER_NODE;
 use sheet::kinds::FN_CALL;
-use sheet::{field, field_b, field_c, kind};
+use sheet::{A_AT, field, field_b, field_c, kind};
 use text::same_bytes;
+
+// Which name of its node a key stands for: 0 its own, in field a; 1 the getter, in field b; 2 the setter, in field c of what the link is
+// taken with.
+// Kept: numbers. A key is a word of the scratch (3 · node + this); an enum would be made from it in `text_of` and in `is_marked`, and
+// compared there once.
+const OWN: u32 = 0;
+
+const SETTER: u32 = 2;
 
 // The text of the name with key `k`.
 pub fn text_of(sheet: &[u8], k: u32) -> u32
@@ -19,8 +27,8 @@ pub fn text_of(sheet: &[u8], k: u32) -> u32
 {
     let j = k / NAMES_PER_NODE;
     match k % NAMES_PER_NODE {
-        2 => field_c(sheet, operand_of(sheet, j)),
-        f => field(sheet, j, 3 + f),
+        SETTER => field_c(sheet, operand_of(sheet, j)),
+        f => field(sheet, j, A_AT + f),
     }
 }
 
@@ -29,11 +37,12 @@ pub fn is_marked(sheet: &[u8], k: u32) -> bool
     ensures { result ≡ is_marked sheet.now (key_node k) (key_field k) }
 {
     let j = k / NAMES_PER_NODE;
-    let call = (k % NAMES_PER_NODE == 0) & (kind(sheet, j) == FN_CALL);
+    let call = (k % NAMES_PER_NODE == OWN) & (kind(sheet, j) == FN_CALL);
     call && !stores_token(sheet, j) & (field_b(sheet, j) == 1)
 }
 
 // The mark of the name with key `k`: 1 if `!` is added.
+// Kept: the word of an image's name, by the definition's own name, `mark`. It is made here, where the bool is told.
 pub fn mark_of(sheet: &[u8], k: u32) -> u32
     ensures { result ≡ (name_of sheet.now k).mark }
 {
@@ -41,6 +50,7 @@ pub fn mark_of(sheet: &[u8], k: u32) -> u32
 }
 
 // `y` is `x` with `!` added.
+// Kept: `split_last`. Tried, `strip_suffix`, which says its two cases by `pointwise` of two parts: that goal was not closed.
 fn same_with_bang(x: &[u8], y: &[u8]) -> bool
     ensures { result ≡ same (with_bang x.now) y.now }
 {
@@ -51,6 +61,7 @@ fn same_with_bang(x: &[u8], y: &[u8]) -> bool
 }
 
 // Text `y`, with `!` where the name with key `k` has it, is `x`, with `!` where `m` says.
+// Kept: bytes and marks stand in the sheet, so no derive compares them.
 pub fn same_marked(sheet: &[u8], k: u32, x: &[u8], m: bool, y: &[u8]) -> bool
     ensures { result ≡ same (marked x.now m) (marked y.now (is_marked sheet.now (key_node k) (key_field k))) }
 {

@@ -4,3 +4,4 @@ mod MeetLaws
 mod TellLaws
 mod SettleLaws
 mod RootLaws
+mod NamedLaws

@@ -1,6 +1,7 @@
 -- The first part of the pass: each Variable gets the rank of its name, and a new name goes behind the others.
 use Rattle.std.proofs.Common.{◌≡◌, ℕ, ◌+◌, ◌%◌, ◌<◌, ◌≤◌, List, length, get_or, set, sym, ap, ◌∙◌, subst, arith, length-set}
 use Rattle.std.proofs.Common.{get_or-set_other, get_or-set_same}
+use Rattle.std.specs.Prelude.{Option, Some}
 use native.Mathlib.Decide.{dec_lt}
 use Rattle.sheet.specs.Sections.{node_count}
 use Rattle.sheet.specs.Node.{kind, field_a}
@@ -16,7 +17,7 @@ use Rattle.scratch_folds.specs.Hash.{bytes_hash}
 use Rattle.scratch_folds.specs.Sums.{Sums, BySums}
 use Rattle.scratch_folds.proofs.SumsLaws.{by-at}
 use Rattle.scratch_index.specs.Consts.{const_slot}
-use Rattle.scratch_index.specs.Lookup.{Finds}
+use Rattle.scratch_index.specs.Lookup.{Finds, Seeks}
 use Rattle.scratch_index.proofs.LookupLaws.{finds-at}
 use Rattle.scratch_index.proofs.PoolLaws.{entered, pool-new}
 use Rattle.scratch_index.proofs.BesideLaws.{region-beside, pool-beside}
@@ -25,7 +26,7 @@ use Rattle.scratch_index.proofs.LocalLaws.{sums-before, sums-entered}
 use Rattle.scratch_index.proofs.StartLaws.{start-empty, start-sums}
 use Rattle.scratch_locals.specs.Pass.{has_text, same_text, text_hash, VariableKey, TextPool, rank_at, key_at, answer_at, Ranked, Met, Meets}
 use Rattle.scratch_locals.proofs.TextLaws.{text-word, text-self, texts-alike, text-lodged, outside_low}
-use Rattle.scratch_locals.proofs.TextLaws.{text-first, text-found, text-rank}
+use Rattle.scratch_locals.proofs.TextLaws.{text-first, text-found, text-rank, text-sought}
 
 -- no node is met yet
 pub met-starts :
@@ -261,11 +262,17 @@ module _
     (hashed : BySums s kept xs (bytes_hash (text s t)) h)
     (f : Finds (has_text s t) (text_hash s) const_slot ix n h xs r) (place : p ≡ chains_at l + j) (written : ys ≡ set xs p r)
   where
-    pub meets-old : r < n → Meets s l j n xs ys n
-    meets-old c = record {
+    -- what is found is there
+    there : {o : Option ℕ} → Seeks (has_text s t) (text_hash s) const_slot ix n h xs o → o ≡ Some r → Met s l j n xs → r < n
+    there {o} q e m =
+        (subst (λ (i : Index). Seeks (has_text s t) (text_hash s) const_slot i n h xs o) ix-is q).there
+        (text-sought m.small m.pool t h r ((by-at kept-is hashed).is m.sums) (finds-at ix-is f)) r e
+
+    pub meets-old : {o : Option ℕ} → Seeks (has_text s t) (text_hash s) const_slot ix n h xs o → o ≡ Some r → Meets s l j n xs ys n
+    meets-old q e = record {
       met = λ b m.
           subst (Met s l (j + 1) n) (sym (written ∙ ap (λ (i : ℕ). set xs i r) place))
-          (met-old (sym k-is ∙ is) t-is ((by-at kept-is hashed).is m.sums) (finds-at ix-is f) b m c);
+          (met-old (sym k-is ∙ is) t-is ((by-at kept-is hashed).is m.sums) (finds-at ix-is f) b m (there q e m));
     }
 
     pub meets-new :

@@ -27,6 +27,8 @@ use sheet::{child, field_a, kind, local_count, local_text};
 pub const FEW: u32 = 32;
 
 // Where the local of Variable `j` stands.
+// Kept: beside `link` of scratch_index, which goes by an Index, whose places are words and wrap; this stands for every layout. expr_count
+// reads the same words (`told_by`), and is below scratch_index.
 fn slot_place(layout: Layout, j: u32) -> usize
     ensures { result ≡ places.links_at layout + const_slot j }
 {
@@ -83,12 +85,12 @@ impl<'a> Pass<'a> {
             sheet: self.sheet,
             text: t,
         };
-        // Kept: `n` is the rank of a new name, and is written as such: it stands for no missing answer.
-        let r = seek(&wanted, &scratch[..], ix, h).unwrap_or(n);
-        put(scratch, layout.chains_at() + (j as usize), r);
-        if r < n {
+        let rank_at = layout.chains_at() + (j as usize);
+        if let Some(r) = seek(&wanted, &scratch[..], ix, h) {
+            put(scratch, rank_at, r);
             return n;
         }
+        put(scratch, rank_at, n);
         put(scratch, layout.tokens_at() + (n as usize), 0);
         put(scratch, layout.names_at() + (n as usize), j);
         note(scratch, ix, link(ix, j), h, n);
@@ -108,6 +110,8 @@ impl<'a> Pass<'a> {
     }
 
     // Local `k`: where a Variable has its name, it is the last one so far.
+    // Kept: the word of a name, and the slot that `settle` writes by it, is the local plus 1, and 0 is none: a word of the lent scratch has
+    // no Option. `found_by` makes it one where it is read.
     fn tell(self, scratch: &mut [u32], k: u32)
         ensures { let it = self.entry in (n : ℕ) → Tells it.sheet.now it.layout n k scratch.old scratch.new }
     {
@@ -173,8 +177,8 @@ impl<'a> Pass<'a> {
     }
 }
 
-// Kept: `begin`, `local_of` and `root_local` take sheet, scratch and layout apart. Their callers hold them in structs of their own
-// (`Store`, `Names`), and would make one more for each call.
+// Kept: `begin`, `local_of` and `root_local` take sheet, scratch and layout apart, which no two of their callers hold in one struct: beside
+// each other before a Store is made, with the sheet beside a Store, in `Names`. All but the last would make one for the call.
 // The scratch before the lowering: what is kept for long texts is written, no entry stands in any index, and the local of every Variable is
 // told where there are many.
 pub fn begin(sheet: &[u8], scratch: &mut [u32], layout: Layout)
@@ -190,7 +194,7 @@ pub fn begin(sheet: &[u8], scratch: &mut [u32], layout: Layout)
     layout.clear_index(scratch);
 }
 
-// A word of a slot as an answer.
+// A word of a slot as an answer: the local plus 1, or 0 where there is none, as a word of the lent scratch has no Option.
 fn found_by(a: u32) -> Option<u32>
     ensures { result ≡ passes.found_by a }
 {

@@ -11,3 +11,4 @@ mod MemoLaws
 pub mod ResidualLaws
 pub mod StartLaws
 mod TableLaws
+mod NamedLaws

@@ -56,6 +56,8 @@ pub struct State {
 
 // The lent scratch, and what it holds.
 // Kept: premises and no ghost facts. Each function answers for every sheet and scratch, so where it makes a value the fact is not known.
+// Kept: the sheet goes beside it. Tried, as a field: behind `&mut` each contract has to say that the sheet stays, and what is known of a
+// call is known of the sheet of the store behind the call before, so that each call but the first has to be rewritten by that.
 #[derive(Drop)]
 pub struct Store<'a> {
     pub state: State,
@@ -149,6 +151,9 @@ impl<'a> Store<'a> {
         self.state.residuals = e.wrapping_add(1);
     }
 
+    // Kept: `add_const`, `add_token`, `push_name` and `add_chain` are calls of `stand`, each with its own hash, index and count. If
+    // `Wanted` said hash and index, its five impls (one is scratch_locals' `TextOf`) would have two methods and two ghost members more
+    // each, and `ChainOf` the count of names beside, for a line less in each of the four; the count would be named in each all the same.
     // The constant of node `j`, and its place.
     pub fn add_const(&mut self, sheet: &[u8], j: u32) -> u32
         ensures { let sheet = sheet.now in ((l : Layout)

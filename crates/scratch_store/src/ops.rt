@@ -7,7 +7,7 @@ use bytecode::{Op, Receiver, effect_of};
 use lowering::OP_WIDTH;
 
 // A receiver's number, and the word that names it.
-// Kept: no `From`, as `op_words`. The numbers of the kinds stand once, each beside its variant, here and there.
+// Kept: no `From`. The two go into different words of CallRef, and the first shares its word with argc, so the pair is taken apart at once.
 #[tactic(auto, unfolding(crate::specs::Effects::receiver_words, bytecode::specs::Op::receiver_kind, bytecode::specs::Op::receiver_word))]
 fn receiver_words(r: Receiver) -> [u32; 2]
     ensures { result ≡ effects.receiver_words r }
@@ -24,12 +24,13 @@ fn receiver_words(r: Receiver) -> [u32; 2]
 fn joined(argc: u32, n: u32) -> u32
     ensures { result ≡ effects.joined argc n }
 {
-    ((argc as u64 + 256 * (n as u64)) % 4294967296) as u32
+    argc.wrapping_add(n.wrapping_mul(256))
 }
 
 // The words of an instruction, where argc is below 256 and a capture below 2.
 // Kept: no `From`. It would have to stand beside the type in crate bytecode, below `lowering`, whose OP_WIDTH it would write as a number,
-// and below `Narrow`, its premise.
+// and below `Narrow`, its premise. Each number stands here once, beside its variant, as in the definition; the tables by kind (`effect_of`,
+// `code_bounds` of image_fields) have them by place.
 #[tactic(auto, unfolding(bytecode::specs::Op::op_words))]
 pub fn op_words(op: Op) -> [u32; OP_WIDTH]
     ensures { effects.Narrow op → result ≡ op_words op }
@@ -80,6 +81,7 @@ fn call_ref(name: u32, argc: u32, r: Receiver) -> [u32; OP_WIDTH]
 }
 
 // The depth after an instruction with these words at depth `d`; `n` is what a chain takes.
+// Kept: beside `after` of image_depths, which holds pops and pushes already and promises a bound of its own. Both share one sum.
 pub fn after(w: [u32; OP_WIDTH], n: u32, d: u32) -> u64
     ensures { result ≡ effects.after_words w n d }
 {

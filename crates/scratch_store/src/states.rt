@@ -37,6 +37,7 @@ impl State {
     }
 
     // An instruction more, and the depth behind it.
+    // Kept: `%` as the definition has it, of a u64; `word` of scratch is of a usize.
     pub(crate) fn count_one(&mut self, depth: u64)
         ensures { self.new ≡ states.counted self.old depth }
     {

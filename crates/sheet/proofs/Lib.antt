@@ -2,3 +2,4 @@ pub mod RangeWalkLaws
 pub mod SiblingLaws
 mod StartLaws
 pub mod WalkLaws
+pub mod WalkedLaws

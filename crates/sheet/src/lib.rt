@@ -20,6 +20,8 @@ use limits::{HEADER_WORDS, NODE_WORDS};
 use words::{part, word_at};
 
 // The sizes.
+// Kept: a function for each, whose contract names the definition's own reader; one over a number would be
+// told apart again in each contract.
 pub fn node_count(sheet: &[u8]) -> u32
     ensures { result ≡ node_count sheet.now }
 {
@@ -86,13 +88,14 @@ const SPAN_AT: u32 = 1;
 
 const COUNT_AT: u32 = 2;
 
-const A_AT: u32 = 3;
+pub const A_AT: u32 = 3;
 
 const B_AT: u32 = 4;
 
 const C_AT: u32 = 5;
 
 // Word `f` of node `n`.
+// Kept: `word_at` of crate words, and no reader over a slice of words: a sheet is bytes at any address, and need not end with a word.
 pub fn field(sheet: &[u8], n: u32, f: u32) -> u32
     ensures { result ≡ nodes.field sheet.now n f }
 {

@@ -11,7 +11,7 @@ use Rattle.scratch.specs.declared.Layout.{Layout}
 use Rattle.scratch_store.specs.declared.State.{State}
 use Rattle.scratch_store.specs.Does.{Does, Left}
 use Rattle.scratch_store.proofs.DoesLaws.{does-none, does-same, left-start, left-by, left-done}
-use Rattle.switch_model.specs.Change.{try_to, arm_to, arms_to, case_lists, range_lists}
+use Rattle.switch_model.specs.Change.{any_tried, try_to, arm_to, arms_to, case_lists, range_lists}
 use Rattle.switch_model.proofs.GrowLaws.{arms-rise}
 use Rattle.switch_model.specs.Last.{last_of}
 use Rattle.switch_model.proofs.LastLaws.{tried_at, arms_next}
@@ -29,13 +29,14 @@ use Rattle.switch_tables.specs.declared.kinds.Guard.TheVariants.{Never, Always, 
 use Rattle.switch_tables.specs.Kinds.{said_guard}
 use Rattle.switch_tables.proofs.KindLaws.{rule_by}
 use Rattle.std.specs.Prelude.{Option}
+use borrow.Table.Steps.{cases}
 use Rattle.switch_tables.specs.Table.{Known, Guards, piece_in}
 use Rattle.switch_tables.specs.Planned.{Tables, Placed, entries}
 use Rattle.switch_tables.proofs.ColumnLaws.{keys_length, key-at}
 use Rattle.switch_emit.specs.Ready.{Ready, Named}
-use Rattle.switch_emit.specs.Heads.{Heads}
-use Rattle.switch_emit.specs.Parts.{place_in, chain_in, LastBelow, none_behind, try_one, end_arm}
-use Rattle.switch_emit.proofs.TableLaws.{guard-is, left-next, last-chain, behind-is}
+use Rattle.switch_emit.specs.Heads.{Heads, LastDrops}
+use Rattle.switch_emit.specs.Parts.{place_in, chain_in, LastBelow, is_at, try_one, end_arm}
+use Rattle.switch_emit.proofs.TableLaws.{guard-is, left-next, chain-is, last-chain, last-at}
 
 -- ---- one chain
 
@@ -50,7 +51,8 @@ module _ (s t : List ℕ) (fallback : ℕ) (drops : Bool) (ks : List ℕ) (i : �
   arm-stops : (any : Bool) → i < length ks → guard_at s ks i ≡ always
       → rest_by s t fallback drops ks any i a ≡ end_arm any false (place_in t (get_or ks i 0)) a
   unfolding end_arm
-  arm-stops true l h = arm-taken s (lowered max_depth s) (place_in t) fallback drops ks i a l h ∙ sym (jump_kept (place_in t (get_or ks i 0)) a)
+  arm-stops true l h =
+      arm-taken s (lowered max_depth s) (place_in t) fallback drops ks i a l h ∙ sym (jump_kept (place_in t (get_or ks i 0)) a)
   arm-stops false l h = arm-straight s (lowered max_depth s) (place_in t) fallback drops ks i a l h
 
   arm-ends : (any : Bool) → length ks ≤ i → rest_by s t fallback drops ks any i a ≡ end_arm any drops fallback a
@@ -147,26 +149,35 @@ arms-begin {s} {l} {ws} {st} t fallback falls ls = record { rest = left-start ws
 heads-length : {s w : List ℕ} {key : ℕ → List ℕ} {at m : ℕ} {ls : List (List ℕ)} → Heads s w key at m ls → length ls ≡ m
 heads-length {w = w} {key} {at} {m} H = ap length (sym H.are) ∙ keys_length key w at m
 
-pub case-behind : {s w : List ℕ} (n i : ℕ) (last : Option ℕ) → Ready s → Tables s w → Placed s w → n ≡ cell w case_heads_at
-    → LastBelow (chain_in w) n last → none_behind last i ≡ leb (last_of (tried_at s (case_lists s)) (length (case_lists s))) (i + 1)
-case-behind {s} {w} n i last C T P all h =
-    behind-is (chain_in w) n i last h
-    ∙ ap (λ (v : ℕ). leb v (i + 1)) (last-chain s w n P (all ∙ sym (heads-length (case_heads C T))))
+pub case-last : {s w : List ℕ} (n : ℕ) (last : Option ℕ) → Ready s → Tables s w → Placed s w → n ≡ cell w case_heads_at
+    → LastBelow (chain_in w) n last → LastDrops s true last (case_lists s)
+case-last {s} {w} n last C T P all h i lt tried =
+    let long = all ∙ sym (heads-length (case_heads C T)) in
+    last-at (chain_in w) n i last h (omega arith) (chain-is s w P i lt ∙ tried)
+    ∙ ap (λ (v : ℕ). leb v (i + 1)) (last-chain s w n P long)
+
+-- which jump is dropped matters where a guard is tried
+arm-drops : (s t : List ℕ) (to : ℕ) (d e : Bool) (ks : List ℕ) (a : Made) → (any_tried s ks ≡ true → d ≡ e)
+    → arm_by s t to d ks a ≡ arm_by s t to e ks a
+unfolding arm_to
+arm-drops s t to d e ks a h =
+    cases (any_tried s ks) (λ y. ap (λ (v : Bool). arm_by s t to v ks a) (h y)) (λ y. rw (y, arm_to))
 
 module _ {s : List ℕ} {l : Layout} {ws xs : List ℕ} {st q : State} {w : List ℕ} {to : ℕ} {falls : Bool} {ls : List (List ℕ)} {i : ℕ}
     (L : ArmsLeft s l ws st w to falls ls xs q i) {key : ℕ → List ℕ} {at m : ℕ} (H : Heads s w key at m ls) (n : ℕ) (all : n ≡ m) where
-  pub arms-on : {ys : List ℕ} {r : State} {ks : List ℕ} (g : ℕ) (quiet : Bool) → i < n → g ≡ cell w (at + i) → ks ≡ key g
-      → (falls && quiet) ≡ (falls && leb (last_of (tried_at s ls) (length ls)) (i + 1)) → (Named s ks → Does s l xs q ys r (arm_by s w to (falls && quiet) ks))
+  pub arms-on : {ys : List ℕ} {r : State} {ks : List ℕ} (g : ℕ) (dropped : Option ℕ) → i < n → g ≡ cell w (at + i) → ks ≡ key g
+      → LastDrops s falls dropped ls → (Named s ks → Does s l xs q ys r (arm_by s w to (is_at dropped i) ks))
       → ArmsLeft s l ws st w to falls ls ys r (i + 1)
-  arms-on {ks = ks} g quiet lt g-is ks-is quiet-is arm =
+  arms-on {ks = ks} g dropped lt g-is ks-is D arm =
       let long = heads-length H in
       let here : ks ≡ get_or ls i [] = ks-is ∙ ap key g-is ∙ rw H.are at (sym (key-at key w at [] m i (omega arith))) in
       let named : Named s ks = rw here (H.named i (omega arith)) in
       let up = arms-rise s (lowered max_depth s) (lowered-rises max_depth s) (place_in w) to falls (drop (i + 1) ls) in
       record {
         rest = left-by (arms_by s w to falls (drop (i + 1) ls)) L.rest
-            (does_at (λ (v : Bool). arm_by s w to v (get_or ls i [])) quiet-is
-            (does_at (arm_by s w to (falls && quiet)) here (arm named)))
+            (does-same (arm_by s w to (falls && leb (last_of (tried_at s ls) (length ls)) (i + 1)) (get_or ls i []))
+            (λ a m. arm-drops s w to (is_at dropped i) _ (get_or ls i []) a (D i (omega arith)))
+            (does_at (arm_by s w to (is_at dropped i)) here (arm named)))
             (λ b m. arms_next s ls (lowered max_depth s) (place_in w) to falls i b (omega arith))
             (record { each = λ b. (up b).emitted });
       }

@@ -65,11 +65,11 @@ module _ (s w : List ℕ) (drop : Bool) (k : ℕ) where
         (λ h. rw (body-no a h) (omega arith));
   }
 
-  body-goes : (falls : Bool) (n : ℕ) (a : Made) → k < n → drop ≡ (falls && leb (last_of (want_in w) n) (k + 1))
+  body-goes : (falls : Bool) (n : ℕ) (a : Made) → k < n → (want_in w k ≡ true → drop ≡ (falls && leb (last_of (want_in w) n) (k + 1)))
       → bodies_by s w falls (n - k) k a ≡ bodies_by s w falls (n - (k + 1)) (k + 1) (body_by s w drop k a)
   body-goes falls n a lt e =
       cases (want_in w k)
-      (λ h. bodies-next s (lowered max_depth s) (want_in w) (cell w end_at) falls n k a lt h ∙ rw (body-yes a h, e))
+      (λ h. bodies-next s (lowered max_depth s) (want_in w) (cell w end_at) falls n k a lt h ∙ rw (body-yes a h, e h))
       (λ h. bodies-skip s (lowered max_depth s) (want_in w) (cell w end_at) falls n k a lt h ∙ rw (body-no a h))
 
 module _ {s : List ℕ} {l : Layout} (w : List ℕ) (drop : Bool) (k : ℕ) where
@@ -109,15 +109,15 @@ bodies-begin {s} {l} {ws} {st} t falls n = record {
 
 module _ {s : List ℕ} {l : Layout} {ws xs : List ℕ} {st q : State} {t : List ℕ} {falls : Bool} {n k : ℕ}
     (L : BodiesLeft s l ws st t falls n xs q k) where
-  pub bodies-on : {ys : List ℕ} {r : State} (quiet : Bool) → quiet ≡ leb (last_of (want_in t) n) (k + 1) → k < n
-      → From s l xs q ys r (body_by s t (falls && quiet) k) → BodiesLeft s l ws st t falls n ys r (k + 1)
-  bodies-on quiet e lt d =
-      let b = falls && quiet in
-      let up = bodies-lengthen s (lowered max_depth s) (lowered-rises max_depth s) (cell t end_at) (want_in t) falls (n - (k + 1)) (k + 1) in
+  pub bodies-on : {ys : List ℕ} {r : State} (b : Bool) → (want_in t k ≡ true → b ≡ (falls && leb (last_of (want_in t) n) (k + 1)))
+      → k < n → From s l xs q ys r (body_by s t b k) → BodiesLeft s l ws st t falls n ys r (k + 1)
+  bodies-on b e lt d =
+      let up =
+      bodies-lengthen s (lowered max_depth s) (lowered-rises max_depth s) (cell t end_at) (want_in t) falls (n - (k + 1)) (k + 1) in
       record {
         rest =
             from-by (bodies_by s t falls (n - (k + 1)) (k + 1)) L.rest d
-            (λ a. body-goes s t b k falls n a lt (ap (λ (v : Bool). falls && v) e)) (body-grows s t b k)
+            (λ a. body-goes s t b k falls n a lt e) (body-grows s t b k)
             (record { each = λ a. (up a).emitted });
       }
 

@@ -1,5 +1,6 @@
 -- The constants of the Cases, one after another, and their places. The value of a Case is a constant, by the check of the sheet.
-use Rattle.std.proofs.Common.{◌≡◌, ℕ, ◌+◌, ◌<◌, ◌≤◌, min, true, eqb, List, [], ◌∷◌, ◌++◌, length, take, set, sym, refl, ap, ◌∙◌, add-one, arith, length-set, take_all, get_or-set_other, take-suc, get_or-set_same, eqb-true}
+use Rattle.std.proofs.Common.{◌≡◌, ℕ, ◌+◌, ◌<◌, ◌≤◌, min, true, eqb, List, [], ◌∷◌, ◌++◌, length, take, set, sym, refl, ap, ◌∙◌, add-one}
+use Rattle.std.proofs.Common.{arith, length-set, take_all, get_or-set_other, take-suc, get_or-set_same, eqb-true}
 use native.Mathlib.Decide.{dec_lt}
 use borrow.Table.Steps.{cases}
 use Rattle.sheet.specs.Limits.{max_entries}
@@ -54,7 +55,8 @@ case-key {s} i j v C lt at f =
 
 -- ---- one more case
 
-cases_end : (s : List ℕ) (cs : List ℕ) (c : ℕ) (a : Made) → cases_to s (cs ++ (c ∷ [])) a ≡ add_const s (const_of s (child c)) (cases_to s cs a)
+cases_end : (s : List ℕ) (cs : List ℕ) (c : ℕ) (a : Made)
+    → cases_to s (cs ++ (c ∷ [])) a ≡ add_const s (const_of s (child c)) (cases_to s cs a)
 unfolding cases_to
 cases_end s [] c a = refl
 cases_end s (d ∷ cs) c a = cases_end s cs c (add_const s (const_of s (child d)) a)

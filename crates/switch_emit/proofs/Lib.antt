@@ -6,3 +6,4 @@ mod BodyDoes
 mod CaseDoes
 mod SwitchDoes
 mod FromLaws
+mod NamedLaws

@@ -17,7 +17,8 @@ use Rattle.scratch_store.proofs.FrameLaws.{pools-same, pools-counts}
 use Rattle.switch_model.specs.Change.{dropped, jump_to}
 use Rattle.switch_model.proofs.LoopLaws.{jump_kept}
 use Rattle.expr_emit.proofs.Doing.{does_at}
-use Rattle.switch_emit.specs.Parts.{dropped_in, end_arm, try_one}
+use Rattle.std.specs.Prelude.{None, Some}
+use Rattle.switch_emit.specs.Parts.{dropped_in, goes, end_arm, try_one}
 
 -- ---- an instruction that is counted and has no code
 
@@ -51,18 +52,30 @@ dropped-holds {s} {l} {xs} {st} {a} f h =
       index = h.index;
     }
 
-pub dropped-does : {s : List ℕ} {l : Layout} {xs : List ℕ} {r : State} (c : State) (to : ℕ) (drop : Bool) → drop ≡ true
+-- what the place of a jump tells
+goes-none : (drop : Bool) (place : ℕ) → goes drop place ≡ None → drop ≡ true
+goes-none true place e = refl
+goes-none false place e = cc
+
+goes-some : (drop : Bool) (place to : ℕ) → goes drop place ≡ Some to → (drop ≡ false) × (place ≡ to)
+goes-some true place to e = cc
+goes-some false place to e = (refl, cc)
+
+pub dropped-does : {s : List ℕ} {l : Layout} {xs : List ℕ} {r : State} (c : State) (to : ℕ) (drop : Bool) → goes drop to ≡ None
     → r ≡ dropped_in c → Does s l xs c xs r (jump_to drop to)
 unfolding jump_to
-dropped-does c to drop e q = rw e (record { holds = λ a h f. rw q (dropped-holds f h) })
+dropped-does c to drop e q = rw (goes-none drop to e) (record { holds = λ a h f. rw q (dropped-holds f h) })
 
 module _ {s : List ℕ} {l : Layout} {xs ys : List ℕ} {st r : State} where
-  pub jump-does : (to : ℕ) (drop : Bool) → drop ≡ false → Does s l xs st ys r (emit (Jump to) no_pos 0)
-      → Does s l xs st ys r (jump_to drop to)
-  jump-does to drop e d = rw e (does-same (jump_to false to) (λ a h. sym (jump_kept to a)) d)
+  pub jump-does : (to place : ℕ) (drop : Bool) → goes drop place ≡ Some to → Does s l xs st ys r (emit (Jump to) no_pos 0)
+      → Does s l xs st ys r (jump_to drop place)
+  jump-does to place drop e d =
+      let told = goes-some drop place to e in
+      rw (told.0, told.1) (does-same (jump_to false to) (λ a h. sym (jump_kept to a)) d)
 
   -- the end of a chain
-  pub end-jumps : (any drop : Bool) (to : ℕ) → any ≡ true → Does s l xs st ys r (jump_to drop to) → Does s l xs st ys r (end_arm any drop to)
+  pub end-jumps : (any drop : Bool) (to : ℕ) → any ≡ true → Does s l xs st ys r (jump_to drop to)
+      → Does s l xs st ys r (end_arm any drop to)
   unfolding end_arm
   end-jumps any drop to e d = rw e d
 

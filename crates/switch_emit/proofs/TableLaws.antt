@@ -1,8 +1,10 @@
 -- What the flat table says of guards, of chains and of heads, in the words of the definition.
-use Rattle.std.proofs.Common.{◌≡◌, ℕ, zero, suc, ◌+◌, ◌<◌, ◌≤◌, min, Bool, true, false, ltb, List, [], ◌∷◌, length, get_or, sym, refl, ap, ◌∙◌, add-one, arith, le-ltb}
+use Rattle.std.proofs.Common.{◌≡◌, ℕ, zero, suc, ◌+◌, ◌<◌, ◌≤◌, min, Bool, true, false, ltb, List, [], ◌∷◌, length, get_or, sym, refl, ap}
+use Rattle.std.proofs.Common.{◌∙◌, add-one, arith, le-ltb, eq-eqb, ne_eqb}
 use borrow.Table.Steps.{cases}
 use borrow.Author.Tests.{le-leb, lt-leb}
 use lib.Dec.{leb}
+use mathlib.Core.Bool.{true≢false}
 use native.Mathlib.Decide.{ℕ_discrete, dec_le}
 use Rattle.std.specs.Prelude.{Option, None, Some}
 use Rattle.sheet.specs.Limits.{max_entries}
@@ -14,7 +16,7 @@ use Rattle.scratch_store.specs.declared.State.{State}
 use Rattle.scratch_store.specs.Does.{Left}
 use Rattle.switch_model.specs.Change as change
 use Rattle.switch_model.specs.Last.{last_of}
-use Rattle.switch_model.proofs.LastLaws.{last_none, last-passes, last-fails, tried_at}
+use Rattle.switch_model.proofs.LastLaws.{last-passes, last-fails, tried_at}
 use Rattle.switch_count.specs.Arms.{has_try, end_of}
 use Rattle.switch_count.specs.Total.{case_lists}
 use Rattle.expr_count.specs.Count.{Rec}
@@ -23,7 +25,7 @@ use Rattle.switch_tables.specs.Kinds.{said_guard}
 use Rattle.switch_tables.specs.Table.{known_of}
 use Rattle.switch_tables.proofs.KindLaws.{rule_by, rule-said}
 use Rattle.switch_tables.specs.Planned.{exit_by, Placed}
-use Rattle.switch_emit.specs.Parts.{chain_in, LastBelow, none_behind}
+use Rattle.switch_emit.specs.Parts.{chain_in, LastBelow, is_at}
 
 -- ---- guards
 
@@ -45,7 +47,8 @@ unfolding has_try change.any_tried
 same-tries s [] = refl
 same-tries s (k ∷ ks) = by (guard_kind s (guard_of s k)) refl (same-tries s ks)
   where
-    by : (g : Guard) → guard_kind s (guard_of s k) ≡ g → has_try s ks ≡ change.any_tried s ks → has_try s (k ∷ ks) ≡ change.any_tried s (k ∷ ks)
+    by : (g : Guard) → guard_kind s (guard_of s k) ≡ g → has_try s ks ≡ change.any_tried s ks
+        → has_try s (k ∷ ks) ≡ change.any_tried s (k ∷ ks)
     by never e more = rw (e, has_try, change.any_tried) more
     by always e more = rw (e, has_try, change.any_tried)
     by tried e more = rw (e, has_try, change.any_tried)
@@ -66,25 +69,20 @@ last-same f g (suc n) h =
     let q = h n (omega arith) in
     cases (f n) (λ e. rw (e, sym q ∙ e, last_of)) (λ e. rw (e, sym q ∙ e, last_of) (last-same f g n (λ i l. h i (omega arith))))
 
+pub chain-is : (s w : List ℕ) → Placed s w → (i : ℕ) → i < length (change.case_lists s)
+    → chain_in w i ≡ change.any_tried s (get_or (change.case_lists s) i [])
+unfolding case_lists
+chain-is s w P i l =
+    let ks = get_or (change.case_lists s) i [] in
+    ap (λ (x : ℕ). ltb x 2) (P.case_chains.exits i l) ∙ exit-chain (has_try s ks) (end_of s ks) ∙ same-tries s ks
+
 pub last-chain : (s w : List ℕ) (n : ℕ) → Placed s w → n ≡ length (change.case_lists s)
     → last_of (chain_in w) n ≡ last_of (tried_at s (change.case_lists s)) (length (change.case_lists s))
-unfolding case_lists
 last-chain s w n P e =
     let ls = change.case_lists s in
-    rw e
-    (last-same (chain_in w) (tried_at s ls) (length ls)
-    (λ i l. ap (λ (x : ℕ). ltb x 2) (P.case_chains.exits i l)
-    ∙ exit-chain (has_try s (get_or ls i [])) (end_of s (get_or ls i []))
-    ∙ same-tries s (get_or ls i [])))
+    rw e (last-same (chain_in w) (tried_at s ls) (length ls) (chain-is s w P))
 
 -- ---- the last, as a search from behind finds it
-
-leb-more : (k i : ℕ) → leb k i ≡ leb (suc k) (i + 1)
-leb-more k i =
-    elim (dec_le k i) [
-      | yes h ↦ le-leb k i h ∙ sym (le-leb (suc k) (i + 1) (omega arith))
-      | no h ↦ lt-leb k i (omega arith) ∙ sym (lt-leb (suc k) (i + 1) (omega arith))
-    ]
 
 module _ (test : ℕ → Bool) where
   last-is : (n i : ℕ) → i < n → test i ≡ true → ((k : ℕ) → i < k → k < n → test k ≡ false) → last_of test n ≡ suc i
@@ -97,14 +95,19 @@ module _ (test : ℕ → Bool) where
             ∙ last-is n i (omega arith) t (λ k a b. h k a (omega arith))
       ]
 
-  none-is : (n : ℕ) → ((k : ℕ) → k < n → test k ≡ false) → last_of test n ≡ 0
-  none-is zero h = last_none test
-  none-is (suc n) h = ap (last_of test) (sym (add-one n)) ∙ last-fails test n (h n (omega arith)) ∙ none-is n (λ k l. h k (omega arith))
-
-  -- whether one stands behind i
-  pub behind-is : (n i : ℕ) (r : Option ℕ) → LastBelow test n r → none_behind r i ≡ leb (last_of test n) (i + 1)
-  behind-is n i None h = rw (none-is n h) (sym (le-leb 0 (i + 1) (omega arith)))
-  behind-is n i (Some k) h = rw (last-is n k h.0 h.1 h.2) (leb-more k i)
+  -- of those that pass, the one behind which none passes
+  pub last-at : (n i : ℕ) (r : Option ℕ) → LastBelow test n r → i < n → test i ≡ true → is_at r i ≡ leb (last_of test n) (i + 1)
+  last-at n i None h l t = absurd (true≢false (sym t ∙ h i l))
+  last-at n i (Some k) h l t =
+      rw (last-is n k h.0 h.1 h.2)
+      (elim (ℕ_discrete k i) [
+        | yes e ↦ eq-eqb k i e ∙ sym (le-leb (suc k) (i + 1) (omega (arith, e)))
+        | no e ↦
+            elim (dec_le k i) [
+              | yes g ↦ absurd (true≢false (sym t ∙ h.2 i (omega arith) l))
+              | no g ↦ ne_eqb k i e ∙ sym (lt-leb (suc k) (i + 1) (omega arith))
+            ]
+      ])
 
 -- ---- counts
 

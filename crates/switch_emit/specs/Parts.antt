@@ -1,5 +1,5 @@
 -- The parts of a switch as the code has them.
-use Rattle.std.specs.Prelude.{ℕ, ◌+◌, ◌%◌, ◌<◌, ◌≡◌, Bool, true, false, List, Option, None, Some, MatchOption, nat_lt, leb}
+use Rattle.std.specs.Prelude.{ℕ, ◌+◌, ◌%◌, ◌<◌, ◌≡◌, Bool, true, false, List, Option, None, Some, MatchOption, nat_lt, eqb}
 use Rattle.sheet.specs.Node.{position}
 use Rattle.bytecode.specs.declared.Op.TheVariants.{JumpIfTrue}
 use Rattle.expr_model.specs.Made.{Made, emit}
@@ -29,10 +29,15 @@ LastBelow test n r =
     MatchOption r ((k : ℕ) → k < n → test k ≡ false)
     (λ i. (i < n) × (test i ≡ true) × ((k : ℕ) → i < k → k < n → test k ≡ false))
 
--- nothing stands behind i, where `last` is the last of all
-abbrev pub none_behind : Option ℕ → ℕ → Bool
-none_behind None i = true
-none_behind (Some last) i = leb last i
+-- it is number i, if there is one
+abbrev pub is_at : Option ℕ → ℕ → Bool
+is_at None i = false
+is_at (Some k) i = eqb k i
+
+-- where a jump to a place goes, if it is not dropped
+abbrev pub goes : Bool → ℕ → Option ℕ
+goes true place = None
+goes false place = Some place
 
 -- the guard at node g, and the jump
 unfoldable pub try_one : List ℕ → Low → ℕ → ℕ → Made → Made

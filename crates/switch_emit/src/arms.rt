@@ -1,5 +1,5 @@
 // Chains of guards.
-ghost use Rattle.std.specs.Prelude.{◌≡◌, ℕ, ◌≤◌, false, List};
+ghost use Rattle.std.specs.Prelude.{◌≡◌, ℕ, ◌≤◌, Bool, false, List};
 ghost use Rattle.sheet.specs.Limits.{max_depth, max_entries};
 ghost use Rattle.lowering.specs.Nodes.{Right, Valid};
 ghost use Rattle.lowering.specs.SwitchSheet.{block_count};
@@ -15,7 +15,7 @@ ghost use Rattle.switch_emit.specs.Ready.{Ready, Named};
 ghost use Rattle.switch_emit.specs.Heads.{Heads, LastDrops};
 ghost use Rattle.switch_emit.specs.Parts as parts;
 
-use crate::jumps::{end_arm, none_behind};
+use crate::jumps::{end_arm, kept};
 use bytecode::Op;
 use expr_emit::expression;
 use scratch::get;
@@ -28,14 +28,8 @@ use switch_tables::{
     GUARD_NODE, Guard, HEAD_NODE, MOST_BANDS,
 };
 
-// Where a chain goes that takes no body, and whether the jump there is dropped.
-#[derive(Clone, Copy)]
-struct Tail {
-    pub to: u32,
-    pub drop: bool,
-}
-
 // So many cells of the flat table.
+// Kept: no Range: what is asked is number `i` of it.
 #[derive(Clone, Copy)]
 struct Column {
     pub at: usize,
@@ -52,13 +46,13 @@ fn try_one(sheet: &[u8], store: &mut Store, g: u32, to: u32)
     store.emit(Op::JumpIfTrue(to), position(sheet, g), 0);
 }
 
-// The chain of a list.
-fn arm(sheet: &[u8], store: &mut Store, flat: &[u32], list: &[u32], tail: Tail)
+// The chain of a list. One that takes no body goes to place `tail`, unless the jump there is dropped.
+fn arm(sheet: &[u8], store: &mut Store, flat: &[u32], list: &[u32], tail: Option<u32>)
     ensures { let sheet = sheet.now in
-        ((l : Layout) → Ready sheet
+        ((l : Layout) (drop : Bool) (place : ℕ) → tail ≡ parts.goes drop place → Ready sheet
         → Guards sheet flat.now (block_count sheet) → Named sheet list.now
         → Done sheet l store.old store.new
-        (change.arm_to sheet (lowered max_depth sheet) (parts.place_in flat.now) tail.to tail.drop
+        (change.arm_to sheet (lowered max_depth sheet) (parts.place_in flat.now) place drop
         list.now)) }
 {
     let mut any = false;
@@ -68,7 +62,7 @@ fn arm(sheet: &[u8], store: &mut Store, flat: &[u32], list: &[u32], tail: Tail)
         match Guard::from(get(flat, GUARD + k)) {
             Guard::Never => {}
             Guard::Always => {
-                end_arm(store, any, false, to);
+                end_arm(store, any, Some(to));
                 return;
             }
             Guard::Tried { defeated: _ } => {
@@ -77,7 +71,7 @@ fn arm(sheet: &[u8], store: &mut Store, flat: &[u32], list: &[u32], tail: Tail)
             }
         }
     }
-    end_arm(store, any, tail.drop, tail.to);
+    end_arm(store, any, tail);
 }
 
 // The last of `n` heads of cases that has a chain.
@@ -88,32 +82,32 @@ fn last_case(flat: &[u32], n: usize) -> Option<usize>
     (CASE_EXIT..CASE_EXIT + n).rposition(|i| matches!(Exit::from(get(flat, i)), Exit::Chain { .. }))
 }
 
-// The chains of the lists whose numbers stand in a column. `last` is the last that has one; with `tail.drop`
-// its jump to the tail is dropped.
+// The chains of the lists whose numbers stand in a column. Where one takes no body it goes to place `to`; the jump there of number
+// `dropped` is dropped.
 fn list_arms<L: Lists>(
     lists: &L,
     sheet: &[u8],
     store: &mut Store,
     flat: &[u32],
     heads: Column,
-    last: Option<usize>,
-    tail: Tail,
+    to: u32,
+    dropped: Option<usize>,
 )
     requires { (heads.at ≤ size) × (heads.cells ≤ max_bands) }
     ensures { let sheet = sheet.now in
-        ((l : Layout) (ls : List (List ℕ)) → Ready sheet → Guards sheet flat.now (block_count sheet)
+        ((l : Layout) (ls : List (List ℕ)) (falls : Bool) → Ready sheet → Guards sheet flat.now (block_count sheet)
         → L.known lists.now flat.now
         → Heads sheet flat.now (L.list_of lists.now flat.now) heads.at heads.cells ls
-        → LastDrops sheet tail.drop last ls
+        → LastDrops sheet falls dropped ls
         → Done sheet l store.old store.new
-        (change.arms_to sheet (lowered max_depth sheet) (parts.place_in flat.now) tail.to tail.drop
+        (change.arms_to sheet (lowered max_depth sheet) (parts.place_in flat.now) to falls
         ls)) }
 {
     let mut room = [0u32; ENTRIES];
+    // Kept: an index, which says besides whose jump is dropped (`kept`).
     for i in 0..heads.cells {
         let list = lists.list(flat, get(flat, heads.at + i), &mut room[..]);
-        let drop = tail.drop & none_behind(last, i);
-        arm(sheet, store, flat, list, Tail { to: tail.to, drop });
+        arm(sheet, store, flat, list, kept(to, dropped, i));
     }
 }
 
@@ -131,17 +125,9 @@ pub fn case_arms(sheet: &[u8], store: &mut Store, flat: &[u32], falls: bool)
         at: HEAD_NODE,
         cells: n,
     };
-    let last = last_case(flat, n);
+    let dropped = if falls { last_case(flat, n) } else { None };
     let to = get(flat, FALLBACK);
-    list_arms(
-        &Cases { sheet },
-        sheet,
-        store,
-        flat,
-        heads,
-        last,
-        Tail { to, drop: falls },
-    );
+    list_arms(&Cases { sheet }, sheet, store, flat, heads, to, dropped);
 }
 
 // The chains of the bands.
@@ -158,13 +144,5 @@ pub fn range_arms(sheet: &[u8], store: &mut Store, flat: &[u32])
         cells: n,
     };
     let to = get(flat, DEFAULT);
-    list_arms(
-        &Pieces,
-        sheet,
-        store,
-        flat,
-        heads,
-        None,
-        Tail { to, drop: false },
-    );
+    list_arms(&Pieces, sheet, store, flat, heads, to, None);
 }

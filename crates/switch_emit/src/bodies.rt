@@ -1,5 +1,5 @@
 // The bodies of the blocks, and the end of the switch.
-ghost use Rattle.std.specs.Prelude.{◌≡◌, ℕ, ◌<◌, ◌≤◌, List};
+ghost use Rattle.std.specs.Prelude.{◌≡◌, ℕ, ◌<◌, ◌≤◌, Bool, List};
 ghost use Rattle.sheet.specs.Limits.{max_depth, max_entries};
 ghost use Rattle.lowering.specs.SwitchSheet.{block_count};
 ghost use Rattle.scratch.specs.declared.Layout.{Layout};
@@ -13,7 +13,7 @@ ghost use Rattle.switch_emit.specs.Ready.{Ready};
 ghost use Rattle.switch_emit.specs.Parts as parts;
 ghost use Rattle.switch_emit.specs.From.{DoneFrom};
 
-use crate::jumps::{jump, none_behind};
+use crate::jumps::{jump, kept};
 use bytecode::Op;
 use expr_emit::expression;
 use scratch::get;
@@ -22,11 +22,11 @@ use sheet::limits::MAX_DEPTH;
 use sheet::{field_a, next};
 use switch_tables::{END, ENTRIES, GUARD_NODE, WANTED};
 
-// The body of block `k` over the subject, and the jump to the end, if the body is wanted.
-fn body(sheet: &[u8], store: &mut Store, flat: &[u32], drop: bool, k: usize)
+// The body of block `k` over the subject, and the jump to the end, unless it is dropped, if the body is wanted.
+fn body(sheet: &[u8], store: &mut Store, flat: &[u32], k: usize, end: Option<u32>)
     requires { k < max_entries }
     ensures { let sheet = sheet.now in
-        ((l : Layout) → Ready sheet
+        ((l : Layout) (drop : Bool) → end ≡ parts.goes drop (cell flat.now end_at) → Ready sheet
         → Guards sheet flat.now (block_count sheet) → k < block_count sheet
         → DoneFrom sheet l store.old store.new
         (parts.body_if (want_in flat.now) sheet (lowered max_depth sheet)
@@ -36,7 +36,7 @@ fn body(sheet: &[u8], store: &mut Store, flat: &[u32], drop: bool, k: usize)
         store.state.at_depth(1);
         let j = next(sheet, get(flat, GUARD_NODE + k));
         expression(MAX_DEPTH, sheet, store, j);
-        jump(store, drop, get(flat, END));
+        jump(store, end);
     }
 }
 
@@ -57,9 +57,10 @@ pub fn bodies(sheet: &[u8], store: &mut Store, flat: &[u32], falls: bool)
         (block_count sheet) 0)) }
 {
     let n = (field_a(sheet, 0) as usize).min(ENTRIES);
-    let last = last_wanted(flat, n);
+    let dropped = if falls { last_wanted(flat, n) } else { None };
+    let end = get(flat, END);
     for k in 0..n {
-        body(sheet, store, flat, falls & none_behind(last, k), k);
+        body(sheet, store, flat, k, kept(end, dropped, k));
     }
 }
 

@@ -1,5 +1,5 @@
 // Jumps of a switch that may be left out.
-ghost use Rattle.std.specs.Prelude.{◌≡◌, ℕ, List};
+ghost use Rattle.std.specs.Prelude.{◌≡◌, ℕ, Bool, List};
 ghost use Rattle.scratch.specs.declared.Layout.{Layout};
 ghost use Rattle.scratch_store.specs.Stores.{Done};
 ghost use Rattle.switch_model.specs.Change as change;
@@ -8,11 +8,11 @@ ghost use Rattle.switch_emit.specs.Parts as parts;
 use bytecode::Op;
 use scratch_store::{State, Store};
 
-// Nothing stands behind `i`, where `last` is the last of all, if there is one.
-pub fn none_behind(last: Option<usize>, i: usize) -> bool
-    ensures { result ≡ parts.none_behind last i }
+// Where the jump of number `i` goes, which is place `to`, unless it is the one that is dropped.
+pub fn kept(to: u32, dropped: Option<usize>, i: usize) -> Option<u32>
+    ensures { result ≡ parts.goes (parts.is_at dropped i) to }
 {
-    last.is_none_or(|l| l <= i)
+    (dropped != Some(i)).then_some(to)
 }
 
 // An instruction is counted and has no code.
@@ -22,26 +22,25 @@ fn dropped(state: &mut State)
     state.emitted = state.emitted.wrapping_add(1);
 }
 
-// A jump, or its count alone.
-pub fn jump(store: &mut Store, drop: bool, to: u32)
-    ensures { (l : Layout) → (s : List ℕ)
+// A jump, or its count alone where it is dropped.
+pub fn jump(store: &mut Store, to: Option<u32>)
+    ensures { (l : Layout) → (s : List ℕ) (drop : Bool) (place : ℕ) → to ≡ parts.goes drop place
         → Done s l store.old store.new
-        (change.jump_to drop to) }
+        (change.jump_to drop place) }
 {
-    if drop {
-        dropped(&mut store.state);
-        return;
+    match to {
+        Some(place) => store.emit(Op::Jump(place), 0, 0),
+        None => dropped(&mut store.state),
     }
-    store.emit(Op::Jump(to), 0, 0);
 }
 
 // The end of a chain, if a guard was tried.
-pub fn end_arm(store: &mut Store, any: bool, drop: bool, to: u32)
-    ensures { (l : Layout) → (s : List ℕ)
+pub fn end_arm(store: &mut Store, any: bool, to: Option<u32>)
+    ensures { (l : Layout) → (s : List ℕ) (drop : Bool) (place : ℕ) → to ≡ parts.goes drop place
         → Done s l store.old store.new
-        (parts.end_arm any drop to) }
+        (parts.end_arm any drop place) }
 {
     if any {
-        jump(store, drop, to);
+        jump(store, to);
     }
 }

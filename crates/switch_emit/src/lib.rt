@@ -25,10 +25,14 @@ use check_switches::first_case;
 use expr_emit::expression;
 use scratch::{get, put};
 use scratch_store::Store;
-use sheet::limits::MAX_DEPTH;
-use sheet::{child, field_b, field_c, next};
-use switch_tables::{BANDS, CASE_CONST, ENTRIES};
+use sheet::limits::{MAX_DEPTH, MAX_ENTRIES};
+use sheet::{Siblings, child, field_b, field_c};
+use switch_tables::{BANDS, CASE_CONST};
 
+// Kept: sheet, store and table go as three parameters. A struct of them would hold a `&mut` of a struct that holds one itself, which the
+// check does not cover.
+// Kept: what is known of a sheet and its table (`Ready`, `Tables`, `Placed`) stands left of an arrow. `switch` and `case_consts` answer for
+// every sheet and table; a type that had these facts would ask more of their callers.
 // The constants of the Cases, and the place of each.
 pub fn case_consts(sheet: &[u8], store: &mut Store, flat: &mut [u32])
     ensures does { let sheet = sheet.now in ((l : Layout) → Ready sheet
@@ -40,12 +44,11 @@ pub fn case_consts(sheet: &[u8], store: &mut Store, flat: &mut [u32])
         → ConstsAt sheet flat.new a) }
     ensures within { Within case_const_at size flat.old flat.new }
 {
-    let n = (field_b(sheet, 0) as usize).min(ENTRIES);
-    let mut j = first_case(sheet);
-    for i in 0..n {
+    let n = field_b(sheet, 0).min(MAX_ENTRIES);
+    let cases = Siblings::new(sheet, n, first_case(sheet));
+    for (i, j) in cases.enumerate() {
         let p = store.add_const(sheet, child(j));
         put(flat, CASE_CONST + i, p);
-        j = next(sheet, j);
     }
 }
 

@@ -100,7 +100,7 @@ module _ {key : ℕ → List ℕ} {p : Places} {ls : List (List ℕ)} {w v : Lis
   abbrev hs : List (List ℕ)
   hs = lists_by key v p.at heads
 
-  filled-heads : i ≡ length ls → hs ≡ distinct ls
+  pub filled-heads : i ≡ length ls → hs ≡ distinct ls
   unfolding distinct_from
   filled-heads e =
       let none : drop i ls ≡ [] = rw (e, drop-length) in
@@ -188,21 +188,23 @@ module _ {key : ℕ → List ℕ} {p : Places} {ls : List (List ℕ)} {A : Type 
       (size_is : A → n ≡ length ls) where
     -- list i is that of x
     module _ (more : i < n) (x : ℕ) (x-is : A → get_or ls i [] ≡ key x) (u : List ℕ) (heads' : ℕ) where
-      low : i < p.cap
-      low = omega (arith, k.low)
-
-      few : heads < p.cap
-      few = omega (arith, k.low, k.few)
+      room : (j : ℕ) → j ≤ i → j < p.cap
+      room j h = omega (arith, k.low)
 
       wide : A → p.hashes + p.cap ≤ length v
       wide a = omega (arith, k.same, long a, p.inside)
 
       step : A → Numbered key p.numbers p.at p.hashes v heads i x u heads' → Filled key p ls w u heads' (i + 1)
       step a (met q q-is l e h) =
+          let low = room i (omega arith) in
+          let few = room heads k.few in
           rw h
-          (filled-old (k.filled a) (omega (arith, size_is a)) low k.few (key x) (x-is a) q q-is u (rw e (step-old p v heads i q (wide a) low few))
+          (filled-old (k.filled a) (omega (arith, size_is a)) low k.few (key x) (x-is a) q q-is u
+          (rw e (step-old p v heads i q (wide a) low few))
           (λ o. omega arith))
       step a (first q-is e h) =
+          let low = room i (omega arith) in
+          let few = room heads k.few in
           let hash = hash_of (key x) in
           rw h
           (filled-new (k.filled a) (omega (arith, size_is a)) low k.few (key x) (x-is a) heads q-is u

@@ -5,3 +5,4 @@ mod SearchLaws
 mod FillLaws
 mod CaseLaws
 mod BandLaws
+mod NamedLaws

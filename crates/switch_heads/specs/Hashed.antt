@@ -1,5 +1,6 @@
 -- Heads in the flat table: a column of them, each with a list that a key gives, and a column with the hashes of those lists.
-use Rattle.std.specs.Prelude.{ℕ, ◌+◌, ◌<◌, ◌≡◌, List, map, set}
+use Rattle.std.specs.Prelude.{ℕ, ◌+◌, ◌<◌, ◌≡◌, Bool, ◌&&◌, eqb, List, map, set}
+use Rattle.text.specs.Same.{same}
 use Rattle.switch_tables.specs.Columns.{cell, column}
 use Rattle.switch_tables.specs.Hash.{hash_of}
 use Rattle.switch_tables.specs.Numbers.{number_in}
@@ -11,6 +12,10 @@ lists_by key w at n = map key (column w at n)
 -- their hashes are right
 pub record Hashed (key : ℕ → List ℕ) (w : List ℕ) (at hashes n : ℕ) : Type 0 where
   pub hash_at : (q : ℕ) → q < n → cell w (hashes + q) ≡ hash_of (key (cell w (at + q)))
+
+-- head q has the hash h and the list l
+unfoldable pub met_at : (ℕ → List ℕ) → List ℕ → ℕ → ℕ → List ℕ → ℕ → ℕ → Bool
+met_at key w at hashes l h q = eqb (cell w (hashes + q)) h && same l (key (cell w (at + q)))
 
 -- list i, that of k, gets its number in the table w, which has so many heads: the table v, and how many heads there are then. Where no head
 -- has its list, it is one more

@@ -11,7 +11,7 @@ ghost use Rattle.switch_tables.specs.Columns.{size, cell, spans_at, wanted_at, W
 ghost use Rattle.switch_tables.specs.Hash.{hash_of};
 ghost use Rattle.switch_tables.specs.Numbers.{number_in};
 ghost use Rattle.switch_tables.specs.Table.{CaseHeads, BandHeads};
-ghost use Rattle.switch_heads.specs.Hashed.{lists_by, Hashed, Numbered};
+ghost use Rattle.switch_heads.specs.Hashed.{lists_by, Hashed, Numbered, met_at};
 
 use scratch::{get, put};
 use sheet::{field_b, next};
@@ -58,15 +58,15 @@ fn number_of<L: Lists>(
         (L.known lists.now flat.now → h ≡ hash_of list.now → Hashed key flat.now at.nodes at.hashes heads
         → unwrap_or result heads ≡ number_in list.now (lists_by key flat.now at.nodes heads)) }
 {
-    for q in 0..heads {
-        if get(flat, at.hashes + q) == h {
-            let same = same_list(lists, flat, list, get(flat, at.nodes + q));
-            if same {
-                return Some(q);
-            }
-        }
-    }
-    None
+    (0..heads).find(
+        |q: &usize|
+            requires { (q.now ≤ max_bands) × (at.nodes ≤ size) × (at.hashes ≤ size) }
+            ensures { L.known lists.entry.now flat.entry.now
+                → result ≡ met_at (L.list_of lists.entry.now flat.entry.now) flat.entry.now at.nodes at.hashes list.entry.now h q.now }
+        {
+            get(flat, at.hashes + *q) == h && same_list(lists, flat, list, get(flat, at.nodes + *q))
+        },
+    )
 }
 
 // List `i`, that of `k`, gets its number among so many heads. If it is the first of its kind, it is one more head.
@@ -127,15 +127,33 @@ pub fn case_heads(sheet: &[u8], flat: &mut [u32], first: u32) -> u32
 }
 
 // The bands.
-pub fn band_heads(table: &mut Table)
+// Kept: each list is hashed here, though `ranges` has put its hash beside it. What is promised holds of every table, also of one with other
+// hashes; to read them would ask of callers that they are right.
+pub fn fill_band_heads(table: &mut Table)
     ensures { let cells = table.old.cells in (cell cells spans_at ≤ max_entries → cell cells bands_at ≤ max_bands
         → BandHeads table.new.cells × Within band_heads_at wanted_at cells table.new.cells) }
 {
     let n = (table.at(BANDS) as usize).min(MOST_BANDS);
     let mut heads = 0;
+    // Kept: an index, since the column that is read lies in the table that each turn writes.
     for i in 0..n {
         let p = table.at(BAND_FIRST + i);
         heads = numbered(&Pieces, &mut table.cells[..], OF_BANDS, heads, i, p);
     }
     table.put(BAND_HEADS, heads as u32);
+}
+
+// As `fill_band_heads`, in a slice. One that is not as long as a table stays as it is.
+// Kept: beside `fill_band_heads`, and so in switch_intervals and switch_places: a caller may have any slice,
+// and a Table is an array by value.
+// The four of this kind are three lines each; one function would take the work as a closure, whose contract each would have to say again.
+pub fn band_heads(flat: &mut [u32])
+    ensures { let cells = flat.old in
+        (length cells ≡ size → cell cells spans_at ≤ max_entries → cell cells bands_at ≤ max_bands
+        → BandHeads flat.new × Within band_heads_at wanted_at cells flat.new) }
+{
+    if let Some(mut table) = Table::of(flat) {
+        fill_band_heads(&mut table);
+        flat.copy_from_slice(&table.cells[..]);
+    }
 }

@@ -1,7 +1,6 @@
 -- Laws of the loops over the ranges of a switch, and over their pieces.
 mod SearchLaws
 mod FirstLaws
-mod WalkedLaws
 mod CutsLaws
 mod MarksLaws
 mod SpanLaws

@@ -14,7 +14,7 @@ ghost use Rattle.switch_split.specs.Points.{cuts as cut_points, points as points
 ghost use Rattle.switch_split.specs.Points.{Strict};
 ghost use Rattle.lowering.specs.Limits.{max_bands};
 ghost use Rattle.lowering.specs.SwitchSheet.{int_at, range_of};
-ghost use Rattle.switch_tables.specs.Columns.{spans_at, first_at, low_at, bands_at, band_hash_at, wanted_at, cell, Within, max_cuts};
+ghost use Rattle.switch_tables.specs.Columns.{size, spans_at, first_at, low_at, bands_at, band_hash_at, wanted_at, cell, Within, max_cuts};
 ghost use Rattle.switch_tables.specs.Hash.{hash_of};
 ghost use Rattle.switch_tables.specs.Place.{place};
 ghost use Rattle.switch_tables.specs.Spans.{span_of};
@@ -115,6 +115,7 @@ impl<'c> CutList<'c> {
 }
 
 // The Ranges that are read: so many nodes from `first` on.
+// Kept: that `first` is the first Range (`AreRead`) is a premise: `read_ranges` takes any node, and promises nothing of another.
 #[derive(Clone, Copy)]
 struct RangeNodes<'s> {
     sheet: &'s [u8],
@@ -166,6 +167,7 @@ impl<'s> RangeNodes<'s> {
 }
 
 // The bands so far, and the piece from which one is open, if one is.
+// Kept: that it begins before piece `i` is a premise of `closed` and `changed`; as a ghost fact it would name `i`.
 #[derive(Clone, Copy)]
 struct Open {
     bands: usize,
@@ -258,7 +260,7 @@ fn put_bands(table: &mut Table, marks: &[u32])
 }
 
 // The ranges from node `first` on: intervals, cuts, bands and their hashes.
-pub fn ranges(sheet: &[u8], table: &mut Table, first: u32)
+pub fn read_ranges(sheet: &[u8], table: &mut Table, first: u32)
     ensures { let sheet = sheet.now in let cells = table.new.cells in
         (first ≡ skip sheet (case_count sheet) (first_case sheet)
         → Spanned sheet cells × (CutWords sheet cells × (BandsAre sheet cells
@@ -285,4 +287,18 @@ pub fn ranges(sheet: &[u8], table: &mut Table, first: u32)
     nodes.put_spans(table, &cuts, &mut marks[..]);
     cuts.put(table);
     put_bands(table, &marks[..(2 * cuts.at.len()).saturating_sub(1)]);
+}
+
+// As `read_ranges`, in a slice. One that is not as long as a table stays as it is.
+// Kept: beside `read_ranges`, as `band_heads` of switch_heads.
+pub fn ranges(sheet: &[u8], flat: &mut [u32], first: u32)
+    ensures { let sheet = sheet.now in let cells = flat.new in
+        (length flat.old ≡ size → first ≡ skip sheet (case_count sheet) (first_case sheet)
+        → Spanned sheet cells × (CutWords sheet cells × (BandsAre sheet cells
+        × (BandsHashed cells × Within spans_at wanted_at flat.old cells)))) }
+{
+    if let Some(mut table) = Table::of(flat) {
+        read_ranges(sheet, &mut table, first);
+        flat.copy_from_slice(&table.cells[..]);
+    }
 }

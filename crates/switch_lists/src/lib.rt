@@ -41,6 +41,7 @@ pub fn piece_list<'a>(flat: &[u32], p: u32, room: &'a mut [u32]) -> &'a [u32]
     ensures list { cell flat.now spans_at ≤ max_entries → max_entries ≤ length room.old → result.now ≡ piece_in flat.now p }
 {
     let n = (get(flat, SPANS) as usize).min(ENTRIES);
+    // Kept: `k` counts what is put, and is asked behind the loop; an `enumerate` over a `filter` would be counted again for it.
     let mut k = 0;
     for i in 0..n {
         if (get(flat, FIRST + i) <= p) & (p < get(flat, BEHIND + i)) {
@@ -63,6 +64,8 @@ pub fn hash(list: &[u32]) -> u32
 }
 
 // Lists of blocks by number: of the Cases of a sheet, by node, or of the pieces of the table. What `known` says is taken to be so.
+// Kept: the table is a parameter, which `Cases` does not look at. As a field of `Pieces` it could not be lent
+// to be written while that stands.
 pub trait Lists {
     ghost known: { Self → List ℕ → Type 0 };
 

@@ -10,6 +10,7 @@ use lib.Dec.{eqb}
 use lib.ListN.{length, get_or, set, drop, drop_of_length-le}
 use lib.Seq.{get_or-set_same, get_or-set_other, drop-cons}
 use borrow.Author.Tests.{eq-eqb, ne_eqb}
+use Rattle.std.specs.Prelude.{Option, None, Some, unwrap_or}
 use Rattle.sheet.specs.Limits.{max_entries}
 use Rattle.lowering.specs.SwitchSheet.{block_count, guard_of}
 use Rattle.lowering.specs.Arms.{taken, declined, Guard, never, always, tried, guard_kind}
@@ -31,13 +32,14 @@ use Rattle.switch_tables.specs.Table.{Known, known_by, known_of, known_in}
 use Rattle.switch_tables.specs.Planned.{exit_by, want_in}
 use Rattle.switch_tables.proofs.ColumnLaws.{within_none, within-then, within-put}
 use Rattle.switch_tables.proofs.KindLaws.{rule_by, defeats, tried-said, rule-said}
-use Rattle.switch_places.specs.GuardChain.{either, Reads, ChainOf}
+use Rattle.switch_places.specs.GuardChain.{either, sum_in, Reads, ChainOf}
 use Rattle.switch_places.proofs.GuardLaws.{one_more, Small, cut_small}
 use Rattle.switch_places.proofs.KeptLaws.{guards-stay}
 
 -- ---- a block that is wanted
 
-want-set : (w : List ℕ) (k : ℕ) → length w ≡ size → k < max_entries → (j : ℕ) → want_in (set w (wanted_at + k) 1) j ≡ (want_in w j || eqb j k)
+want-set : (w : List ℕ) (k : ℕ) → length w ≡ size → k < max_entries → (j : ℕ)
+    → want_in (set w (wanted_at + k) 1) j ≡ (want_in w j || eqb j k)
 want-set w k z h j =
     elim (ℕ_discrete j k) [
       | yes q ↦
@@ -70,6 +72,11 @@ marked-on w₀ w v def k x c z h e q =
     )
 
 -- ---- the loop
+
+pub or-nothing : (o : Option Tally) (z a : Tally) → z ≡ nothing → a ≡ unwrap_or o z → a ≡ sum_in o
+unfolding sum_in
+or-nothing None z a z-is a-is = a-is ∙ z-is
+or-nothing (Some sum) z a z-is a-is = a-is
 
 -- of the list l the blocks `rest` are left
 pub record Chaining (s : List ℕ) (t : Rec) (l w₀ w : List ℕ) (sum : Tally) (tries : Bool) (rest : List ℕ) : Type 0 where
@@ -180,7 +187,8 @@ module _ (s : List ℕ) (t : Rec) (l w₀ a : List ℕ) (R : Reads s t w₀ a l)
           let few : k < max_entries = omega (arith, below, R.few) in
           rw e (within-then c.within (within-put wanted_at case_place_at w (wanted_at + k) 1 (omega arith) (omega (arith, few))))
 
-      pub chain-always : (r : Tally) (y : Exit) → x ≡ Always → Ends r → y ≡ either b (Chain false) (Body k) → ChainOf s t l w₀ v r (exit_word y)
+      pub chain-always : (r : Tally) (y : Exit) → x ≡ Always → Ends r → y ≡ either b (Chain false) (Body k)
+          → ChainOf s t l w₀ v r (exit_word y)
       unfolding tries_tally has_try end_of wants
       chain-always r y q p o =
           let g : guard_kind s (guard_of s k) ≡ always = kind_is ∙ ap rule_by q in

@@ -1,14 +1,14 @@
 -- The jump that is dropped where chains fall through: by the last chain of some length, and as a loop finds it.
-use Prim.Native.Nat.{ℕ, suc, ◌+◌, ◌<◌, ◌≤◌, min}
-use mathlib.Core.Path.{◌≡◌, refl, sym, ◌∙◌, ap}
+use Prim.Native.Nat.{ℕ, zero, suc, ◌+◌, ◌<◌, min}
+use mathlib.Core.Path.{◌≡◌, refl, sym, ◌∙◌, ap, ap₂}
 use mathlib.Core.Bool.{Bool, true, false, true≢false}
 use mathlib.Core.List.{List, [], ◌∷◌}
-use native.Mathlib.Numerals.{add-one}
 use native.Mathlib.Omega.{arith}
 use lib.Dec.{eqb}
-use lib.ListN.{get_or, drop, drop_of_length-le}
+use lib.ListN.{length, get_or, drop, drop_of_length-le}
 use lib.Seq.{drop-cons}
 use borrow.Author.Tests.{ne_eqb}
+use Rattle.std.specs.List.{fold, range_with_len}
 use Rattle.sheet.specs.Limits.{max_entries}
 use Rattle.lowering.specs.SwitchSheet.{guard_of}
 use Rattle.lowering.specs.Arms.{End, taken, declined, idle, Guard, never, always, tried, guard_kind}
@@ -82,7 +82,7 @@ module _ (s : List ℕ) (t : Rec) where
       by true h r i = rw (h, falls_tally) (omega (arith, ap one_if (rw h at i), end-len (has_try s l) (end_of s l)))
       by false h r i = rw (h, falls_tally) (omega (arith, ap one_if (rw h at i), r))
 
--- ---- the loop
+-- ---- the fold
 
 -- what a list leaves, by its exit
 abbrev pub idle_said : Exit → Bool → Bool
@@ -100,34 +100,29 @@ exit-idle false (taken k) before =
 exit-idle false declined before = refl
 exit-idle false idle before = refl
 
--- q lists are passed
-abbrev pub Idling : List ℕ → Bool → ℕ → Type 0
-Idling w b q = (s : List ℕ) (ls : List (List ℕ)) → Exits s w ls → idles_from s b (drop q ls) ≡ idles_from s false ls
+-- what the code folds over the exits of the lists
+abbrev pub idle_from : List ℕ → Bool → ℕ → Bool
+idle_from w before i = idle_said (said_exit (cell w i)) before
 
-module _ (w : List ℕ) (n y : ℕ) (m : n ≡ min y max_entries) (y-is : y ≡ cell w case_heads_at) (b : Bool) (q : ℕ) (i : Idling w b q) where
-  module _ (l : q < n) where
-    idling-on : (c : Bool) → ((s : List ℕ) (ls : List (List ℕ)) → Exits s w ls
-        → c ≡ idle_by (has_try s (get_or ls q [])) (end_of s (get_or ls q [])) b)
-        → Idling w c (q + 1)
-    unfolding idles_from
-    idling-on c h s ls e =
-        ap (λ k. idles_from s c (drop k ls)) (add-one q)
-        ∙ ap (λ x. idles_from s x (drop (suc q) ls)) (h s ls e)
-        ∙ ap (idles_from s b) (sym (drop-cons ls q [] (omega (arith, e.count))))
-        ∙ i s ls e
+fold-idle : (s w : List ℕ) (ls : List (List ℕ)) → Exits s w ls → (m q : ℕ) (b : Bool) → q + m ≡ length ls
+    → fold (idle_from w) b (range_with_len (case_exit_at + q) m) ≡ idles_from s b (drop q ls)
+unfolding idles_from
+fold-idle s w ls x zero q b e = ap (idles_from s b) (sym (drop_of_length-le ls {i = q} (omega arith)))
+fold-idle s w ls x (suc m) q b e =
+    let l : List ℕ = get_or ls q [] in
+    let inside : q < length ls = omega arith in
+    let here : idle_from w b (case_exit_at + q) ≡ idle_by (has_try s l) (end_of s l) b =
+    ap (λ (n : ℕ). idle_said (said_exit n) b) (x.exit q inside) ∙ exit-idle (has_try s l) (end_of s l) b in
+    let next : case_exit_at + q + 1 ≡ case_exit_at + suc q = omega arith in
+    ap₂ (λ v n. fold (idle_from w) v (range_with_len n m)) here next
+    ∙ fold-idle s w ls x m (suc q) (idle_by (has_try s l) (end_of s l) b) (omega arith)
+    ∙ ap (idles_from s b) (sym (drop-cons ls q [] inside))
 
-    pub idling-said : (e : Exit) → e ≡ said_exit (cell w (case_exit_at + q)) → Idling w (idle_said e b) (q + 1)
-    idling-said e h =
-        idling-on (idle_said e b)
-        (λ s ls x. ap (λ (y : Exit). idle_said y b) (h ∙ ap said_exit (x.exit q (omega (arith, x.count)))) ∙ exit-idle _ _ b)
-
-    -- no chain
-    pub idling-same : (e : Exit) → e ≡ said_exit (cell w (case_exit_at + q)) → ((x : Bool) → e ≡ Chain x → ⊥) → Idling w b (q + 1)
-    idling-same (Chain x) h n = absurd (n x refl)
-    idling-same Fallback h n = idling-said Fallback h
-    idling-same (Body k) h n = idling-said (Body k) h
-
-  pub idling-end : n ≤ q → (s : List ℕ) (ls : List (List ℕ)) → Exits s w ls → b ≡ idles_from s false ls
-  unfolding idles_from
-  idling-end h s ls e =
-      sym (ap (idles_from s b) (drop_of_length-le ls {i = q} (omega (arith, e.count, e.few)))) ∙ i s ls e
+pub folded-idle : (s w : List ℕ) (ls : List (List ℕ)) (n y : ℕ) (r : Bool) → n ≡ min y max_entries → y ≡ cell w case_heads_at
+    → r ≡ fold (idle_from w) false (range_with_len case_exit_at n) → Exits s w ls → r ≡ idles_from s false ls
+folded-idle s w ls n y r m y-is r-is x =
+    let start : case_exit_at ≡ case_exit_at + 0 = omega arith in
+    let count : n ≡ length ls = omega (arith, m, y-is, x.count, x.few) in
+    r-is
+    ∙ ap₂ (λ a k. fold (idle_from w) false (range_with_len a k)) start count
+    ∙ fold-idle s w ls x (length ls) 0 false (omega arith)

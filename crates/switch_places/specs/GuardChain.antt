@@ -1,9 +1,9 @@
 -- One chain: what a pass reads for it, and what it leaves; t is the tally of a node.
-use Rattle.std.specs.Prelude.{ℕ, ◌+◌, ◌<◌, ◌≤◌, ◌≡◌, Bool, true, false, ◌||◌, List, length, get_or}
+use Rattle.std.specs.Prelude.{ℕ, ◌+◌, ◌<◌, ◌≤◌, ◌≡◌, Bool, true, false, ◌||◌, Option, None, Some, List, length, get_or}
 use Rattle.sheet.specs.Limits.{max_entries}
 use Rattle.lowering.specs.SwitchSheet.{block_count}
 use Rattle.expr_count.specs.declared.tallies.Tally.{Tally}
-use Rattle.expr_count.specs.Tally.{plus, capped}
+use Rattle.expr_count.specs.Tally.{nothing, plus, capped}
 use Rattle.expr_count.specs.Count.{Rec}
 use Rattle.switch_count.specs.Arms.{wants, arm_tally}
 use Rattle.switch_tables.specs.Columns.{size, wanted_at, case_place_at, cell, Within}
@@ -14,6 +14,15 @@ use Rattle.switch_tables.specs.Planned.{exit_of, want_in}
 unfoldable pub either : {A : Type 0} → Bool → A → A → A
 either true a b = a
 either false a b = b
+
+-- what the guards of a list that were tried add, and whether one was
+unfoldable pub sum_in : Option Tally → Tally
+sum_in None = nothing
+sum_in (Some sum) = sum
+
+unfoldable pub tries_in : Option Tally → Bool
+tries_in None = false
+tries_in (Some sum) = true
 
 -- the table w has the guards of s, and a is the list l of its blocks
 pub record Reads (s : List ℕ) (t : Rec) (w a l : List ℕ) : Type 0 where

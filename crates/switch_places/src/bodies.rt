@@ -41,7 +41,8 @@ fn body(by: &Count, table: &mut Table, k: usize, b: Tally) -> Tally
 }
 
 // The bodies of `n` blocks, behind `b`.
-// Kept: `n` is the caller's count of blocks; a type of numbers up to 64 would be made at one place.
+// Kept: `n` is the caller's count of blocks, and what is asked of it (`n ≤ max_entries`) follows from its `min`. A type of
+// numbers up to 64 would be unmade at each sum with a column.
 pub fn bodies(by: &Count, table: &mut Table, n: usize, b: Tally) -> Tally
     requires { n ≤ max_entries }
     ensures { let it = by.now in

@@ -17,7 +17,7 @@ ghost use Rattle.switch_tables.specs.declared.kinds.Exit.TheVariants as exits;
 ghost use Rattle.switch_tables.specs.Planned.{TablesBy, entries, want_in};
 ghost use Rattle.switch_places.specs.Laid.{Laid};
 ghost use Rattle.switch_places.specs.Heads.{HeadsIn, ListsStay};
-ghost use Rattle.switch_places.specs.GuardChain.{either, Reads, ChainOf, Cells, LaidOne};
+ghost use Rattle.switch_places.specs.GuardChain.{either, sum_in, tries_in, Reads, ChainOf, Cells, LaidOne};
 
 use crate::guards::word;
 use expr_count::tallies::{Tally, instructions, nothing, plus};
@@ -61,18 +61,22 @@ const OF_BANDS: Heads = Heads {
     exits: BAND_EXIT,
 };
 
-// The end of a list: of a chain, if a guard is tried, which has a jump there, else of none.
-fn ended(sum: Tally, tried: bool, falls: bool, free: Exit) -> Chain
-    ensures sum_value { sum.len ≤ cap → sum.emitted ≤ cap → result.sum ≡ tallies.capped (tallies.plus sum (end_tally tried)) }
-    ensures exit_value { result.exit ≡ either tried (exits.Chain falls) free }
+// The end of a list: of a chain, which has a jump there, if guards were tried, and `sum` is what they add; else of none.
+fn ended(sum: Option<Tally>, falls: bool, free: Exit) -> Chain
+    ensures sum_value { (sum_in sum).len ≤ cap → (sum_in sum).emitted ≤ cap
+        → result.sum ≡ tallies.capped (tallies.plus (sum_in sum) (end_tally (tries_in sum))) }
+    ensures exit_value { result.exit ≡ either (tries_in sum) (exits.Chain falls) free }
 {
-    if tried {
-        return Chain {
+    match sum {
+        Some(sum) => Chain {
             sum: plus(sum, instructions(1)),
             exit: Exit::Chain { falls },
-        };
+        },
+        None => Chain {
+            sum: nothing(),
+            exit: free,
+        },
     }
-    Chain { sum, exit: free }
 }
 
 // What the guard of block `k` adds, which is tried.
@@ -93,24 +97,22 @@ fn chain_of(table: &mut Table, list: &[u32]) -> Chain
     ensures { (s : List ℕ) (t : Rec) (l : List ℕ) → Reads s t table.old.cells list.now l
         → ChainOf s t l table.old.cells table.new.cells result.sum (exit_word result.exit) }
 {
-    let mut sum = nothing();
-    let mut tried = false;
+    let mut sum = None;
     for b in list {
         let k = *b as usize;
         match Guard::from(table.at(GUARD + k)) {
             Guard::Never => {}
             Guard::Always => {
                 table.put(WANTED + k, 1);
-                return ended(sum, tried, false, Exit::Body(*b));
+                return ended(sum, false, Exit::Body(*b));
             }
             Guard::Tried { defeated } => {
                 table.put(WANTED + k, 1);
-                sum = plus(sum, added(table, k, defeated));
-                tried = true;
+                sum = Some(plus(sum.unwrap_or(nothing()), added(table, k, defeated)));
             }
         }
     }
-    ended(sum, tried, true, Exit::Fallback)
+    ended(sum, true, Exit::Fallback)
 }
 
 // The chain of a list behind `b`: its place and its exit go to these cells.
@@ -141,6 +143,7 @@ fn list_chains<L: Lists>(lists: &L, table: &mut Table, heads: Heads, b: Tally) -
     let n = (table.at(heads.count) as usize).min(heads.most);
     let mut room = [0u32; ENTRIES];
     let mut sum = b;
+    // Kept: an index, since head `q` is read in one column and written in two others of the table.
     for q in 0..n {
         let list = lists.list(&table.cells[..], table.at(heads.nodes + q), &mut room[..]);
         sum = laid(table, list, heads.places + q, heads.exits + q, sum);
@@ -177,6 +180,7 @@ pub fn want_default(table: &mut Table, n: usize, def: Option<u32>)
     ensures wanted { (k : ℕ) → k < n → want_in table.new.cells k ≡ eqb (coded def) (suc k) }
     ensures within { Within wanted_at case_place_at table.old.cells table.new.cells }
 {
+    // Kept: one write for each block. `fill` of the column, and a write behind it, would ask whether the default is below `n`.
     for k in 0..n {
         table.put(WANTED + k, u32::from(def == Some(k as u32)));
     }

@@ -21,6 +21,7 @@ use sheet::{child, field_a, kind, next};
 use switch_tables::{ENTRIES, GUARD, GUARD_EMITTED, GUARD_LEN, GUARD_NODE, Guard, Table};
 
 // A count, which is cut off, as a word.
+// Kept: 0 for a number that is no word, which no such count is; an Option would be taken apart by each caller.
 pub fn word(n: u64) -> u32
     ensures { n ≤ cap → result ≡ n }
 {
@@ -85,6 +86,8 @@ pub fn guards(by: &Count, table: &mut Table) -> u32
 {
     let sheet = by.sheet;
     let n = (field_a(sheet, 0) as usize).min(ENTRIES);
+    // Kept: a walk by hand: of `Siblings` the node behind the last cannot be asked, and it is answered. Each
+    // step passes a guard and its body.
     let mut j = next(sheet, child(0));
     for k in 0..n {
         put_guard(by, table, k, j);

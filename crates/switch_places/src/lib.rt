@@ -2,7 +2,7 @@
 // a block is counted once, however many lists name it; the chain of a list once, however many cases and bands have it.
 #![tactic(auto)]
 
-ghost use Rattle.std.specs.Prelude.{◌≡◌, ℕ, ◌+◌, ◌-◌, ◌<◌, ◌≤◌, false, List};
+ghost use Rattle.std.specs.Prelude.{◌≡◌, length, ℕ, ◌+◌, ◌-◌, ◌<◌, ◌≤◌, false, List};
 ghost use Rattle.sheet.specs.Node.{kind as kind_of};
 ghost use Rattle.checks.specs.Checked.{verdict_number, checked};
 ghost use Rattle.lowering.specs.Kinds.{switch_kind};
@@ -10,7 +10,7 @@ ghost use Rattle.sheet.specs.Limits.{max_depth};
 ghost use Rattle.expr_count.specs.Limits.{cap};
 ghost use Rattle.expr_count.specs.Locals.{answer};
 ghost use Rattle.expr_count.specs.Count.{tally_by};
-ghost use Rattle.switch_tables.specs.Columns.{cell, bands_at, dispatch_at, default_at, case_const_at, Within};
+ghost use Rattle.switch_tables.specs.Columns.{size, cell, bands_at, dispatch_at, default_at, case_const_at, Within};
 ghost use Rattle.switch_tables.specs.Kinds.{coded};
 ghost use Rattle.switch_tables.specs.Planned.{TablesBy};
 ghost use Rattle.switch_places.specs.Counted.{Counted};
@@ -28,14 +28,16 @@ use expr_count::tallies::{Tally, instructions, plus};
 use guards::{guards, word};
 use sheet::limits::MAX_DEPTH;
 use sheet::{child, field_a, field_c};
-use switch_heads::{band_heads, case_heads};
-use switch_intervals::ranges;
+use switch_heads::{case_heads, fill_band_heads};
+use switch_intervals::read_ranges;
 use switch_tables::{
     BANDS, BODY, CASE_EXIT, CASE_HEADS, DEFAULT, DISPATCH, END, ENTRIES, Exit, FALLBACK, Table,
 };
 
 // The switch at node 0 is read into the table.
-pub fn read(by: &Count, table: &mut Table)
+// Kept: `by` and `table` apart, here and below. One is read, the other written: in one struct each promise of the table would
+// have to say that the count stays.
+pub fn read_table(by: &Count, table: &mut Table)
     ensures { let it = by.now in
         let sheet = it.sheet.now in
         let t = tally_by (answer it.told sheet) max_depth sheet in
@@ -43,8 +45,8 @@ pub fn read(by: &Count, table: &mut Table)
 {
     let c = guards(by, table);
     let r = case_heads(by.sheet, &mut table.cells[..], c);
-    ranges(by.sheet, table, r);
-    band_heads(table);
+    read_ranges(by.sheet, table, r);
+    fill_band_heads(table);
 }
 
 // Whether the last chain of the cases ends with a jump to the fallback.
@@ -52,13 +54,10 @@ fn case_idle(table: &Table) -> bool
     ensures { (s : List ℕ) (ls : List (List ℕ)) → Exits s table.now.cells ls → result ≡ idles_from s false ls }
 {
     let n = (table.at(CASE_HEADS) as usize).min(ENTRIES);
-    let mut idle = false;
-    for q in 0..n {
-        if let Exit::Chain { falls } = Exit::from(table.at(CASE_EXIT + q)) {
-            idle = falls;
-        }
-    }
-    idle
+    (CASE_EXIT..CASE_EXIT + n).fold(false, |idle, i| match Exit::from(table.at(i)) {
+        Exit::Chain { falls } => falls,
+        _ => idle,
+    })
 }
 
 // Behind the chains of the cases: the second Switch, if there are bands. The last jump before it is dropped if it goes there.
@@ -130,7 +129,7 @@ fn closing(def: Option<u32>) -> u32
 }
 
 // What the switch emits, and whether it reaches an `eval`; its parts get their places. The answer's length is not told.
-pub fn count(by: &Count, table: &mut Table) -> Tally
+pub fn count_table(by: &Count, table: &mut Table) -> Tally
     ensures { let it = by.now in
         let sheet = it.sheet.now in
         let t = tally_by (answer it.told sheet) max_depth sheet in
@@ -149,4 +148,36 @@ pub fn count(by: &Count, table: &mut Table) -> Tally
     let all = bodies(by, table, n, bands);
     finish(table, def, bands.len, all.len);
     plus(all, instructions(closing(def)))
+}
+
+// As `read_table`, in a slice. One that is not as long as a table stays as it is.
+// Kept: beside `read_table`, as `count` beside `count_table`: as `band_heads` of switch_heads.
+pub fn read(by: &Count, flat: &mut [u32])
+    ensures { let it = by.now in
+        let sheet = it.sheet.now in
+        let t = tally_by (answer it.told sheet) max_depth sheet in
+        (length flat.old ≡ size → verdict_number (checked sheet) ≡ 0 → kind_of sheet 0 ≡ switch_kind → TablesBy sheet t flat.new) }
+{
+    if let Some(mut table) = Table::of(flat) {
+        read_table(by, &mut table);
+        flat.copy_from_slice(&table.cells[..]);
+    }
+}
+
+// As `count_table`, in a slice. One that is not as long as a table stays as it is.
+// Kept: no instruction where the slice is no table. Of such a slice nothing is promised, and the function cannot fail.
+pub fn count(by: &Count, flat: &mut [u32]) -> Tally
+    ensures { let it = by.now in
+        let sheet = it.sheet.now in
+        let t = tally_by (answer it.told sheet) max_depth sheet in
+        (length flat.old ≡ size → verdict_number (checked sheet) ≡ 0 → kind_of sheet 0 ≡ switch_kind
+        → TablesBy sheet t flat.old
+        → Counted sheet t flat.new result) }
+{
+    let Some(mut table) = Table::of(flat) else {
+        return instructions(0);
+    };
+    let all = count_table(by, &mut table);
+    flat.copy_from_slice(&table.cells[..]);
+    all
 }

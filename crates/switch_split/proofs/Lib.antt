@@ -12,3 +12,4 @@ mod SortLaws
 pub mod SplitLaws
 pub mod SplitRight
 mod WordLaws
+mod NamedLaws

@@ -2,13 +2,14 @@
 // contracts, with what the columns mean.
 #![tactic(auto)]
 
-ghost use Rattle.std.specs.Prelude.{◌≡◌, length, replicate, set};
+ghost use Rattle.std.specs.Prelude.{MatchOption, ◌≡◌, length, replicate, set};
 ghost use Rattle.switch_tables.specs.Columns.{size, cell};
 
 mod kinds;
 
 pub use kinds::{Exit, Guard};
 use lowering::MAX_BANDS;
+use scratch::{get, put};
 use sheet::limits::MAX_ENTRIES;
 
 // Cells of a column of blocks, cases or ranges; of one of cuts, two for each range; of one of bands.
@@ -72,6 +73,8 @@ pub const BAND_PLACE: usize = BAND_HASH;
 
 pub const BAND_EXIT: usize = BAND_HEAD_HASH;
 
+// Kept: 1 where the body of the block is wanted, 0 where not. A bool is that word by `u32::from`, and back by `== 1`; a type with both
+// ways, as `Guard` has, would be longer than its six uses.
 pub const WANTED: usize = BAND_HEAD_HASH + MOST_BANDS;
 
 pub const CASE_PLACE: usize = WANTED + ENTRIES;
@@ -90,6 +93,8 @@ pub const FALLBACK: usize = END + 1;
 
 pub const CASE_CONST: usize = FALLBACK + 1;
 
+// The flat table of a switch: all cells, as many as the columns have.
+// Kept: that a count stands in it which is small enough (`cell cells spans_at ≤ max_entries`) is a premise: a Table holds any cells.
 #[derive(Drop)]
 pub struct Table {
     pub cells: [u32; SIZE],
@@ -104,20 +109,30 @@ impl Table {
         Table { cells: [0; SIZE] }
     }
 
+    // What a slice holds that has as many cells.
+    // Kept: an Option and no TryFrom: of a slice of another length there is nothing more to say.
+    pub fn of(cells: &[u32]) -> Option<Table>
+        ensures { MatchOption result (length cells.now ≡ size → ⊥) (λ t. t.cells ≡ cells.now) }
+    {
+        if cells.len() != SIZE {
+            return None;
+        }
+        let mut table = Table::empty();
+        table.cells.copy_from_slice(cells);
+        Some(table)
+    }
+
     // A cell, 0 past the end.
     pub fn at(&self, i: usize) -> u32
         ensures { result ≡ cell self.now.cells i }
     {
-        self.cells.get(i).copied().unwrap_or(0)
+        get(&self.cells[..], i)
     }
 
     // A cell is written, where there is one.
-    // Kept: as scratch::put: with get_mut it stays open what the slice ends as.
     pub fn put(&mut self, i: usize, v: u32)
         ensures { self.new.cells ≡ set self.old.cells i v }
     {
-        if i < SIZE {
-            self.cells[i] = v;
-        }
+        put(&mut self.cells[..], i, v);
     }
 }

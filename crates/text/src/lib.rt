@@ -17,6 +17,8 @@ fn four(s: &[u8], i: usize) -> u32
 }
 
 // Eight bytes of `s` from `i` on as a number.
+// Kept: a function beside `four`. One over a const number of bytes would need `from_le_bytes` of two types, u32 and u64, so a trait for one
+// call each; and the bytes by themselves, since an array that a loop or `try_into` makes of a slice is proved by a law of its own.
 fn eight(s: &[u8], i: usize) -> u64
     requires { i + 8 ≤ length s.now }
     ensures { result ≡ eight_at s.now i }

@@ -1,5 +1,6 @@
 -- Laws of the answer, of an expression, and of a Switch: what is held, its rows, its words.
 mod AnswerLaws
+mod BuiltLaws
 pub mod ToldLaws
 mod PlainLaws
 mod SwitchLaws
@@ -7,3 +8,4 @@ mod TargetLaws
 mod TableLaws
 mod HeldLaws
 mod WriteLaws
+mod NamedLaws

@@ -1,6 +1,6 @@
 -- An expression lowered from nothing: what the scratch holds in the end is the program of the definition.
-use Prim.Native.Nat.{ℕ, ◌+◌, ◌<◌, ◌≤◌}
-use mathlib.Core.Path.{◌≡◌, refl, sym, ap, ◌∙◌}
+use Prim.Native.Nat.{ℕ, ◌+◌, ◌≤◌}
+use mathlib.Core.Path.{◌≡◌, sym, ap, ◌∙◌}
 use mathlib.Core.List.{List, ◌++◌}
 use native.Mathlib.Omega.{arith}
 use lib.ListN.{length, drop}
@@ -29,7 +29,7 @@ use Rattle.scratch_store.specs.Does.{Does}
 use Rattle.scratch_store.proofs.StartLaws.{fresh_holds}
 use Rattle.write_front.specs.Front.{front}
 use Rattle.write_front.proofs.FrontFacts.{plain-front}
-use Rattle.to_image.specs.Making.{Ready, Built}
+use Rattle.to_image.specs.Making.{Ready}
 
 checked-right : {s : List ℕ} {e m : ℕ} → Ready s e m → Right s
 checked-right {s} R = right s (accepted-sizes s R.accepted) (accepted-shape s R.accepted)
@@ -70,19 +70,12 @@ module _ {s : List ℕ} (h : kind s 0 ≡ switch_kind → ⊥) (l : Layout) (xs 
       let all = sym (ap (λ p. p.pools.emitted) (lower-plain s (ne_eqb (kind s 0) switch_kind h))) ∙ total-emitted s in
       rw r-is ((done C (root-valid s C)).holds nothing (first_holds xs zs c R nodes c_is begins) (omega arith))
 
-  len_is : len ≡ length (words (lower s))
-  len_is = omega (arith, counted (lowered max_depth s 0 nothing) plain-holds 0 0 0, ap length plain-words)
+  pub plain-counted : len ≡ length (words (lower s))
+  plain-counted = omega (arith, counted (lowered max_depth s 0 nothing) plain-holds 0 0 0, ap length plain-words)
 
-  pub plain-long : length img < len → Built s img len img
-  plain-long g = record { count = len_is; fits = λ k. absurd (omega arith); kept = λ k. refl }
-
-  pub plain-built : {img' : List ℕ} → len ≤ length img
+  pub plain-wrote : {img' : List ℕ}
       → ((a : Made) → Holds s l ys r a → length (front a 0 0 0) ≤ length img → img' ≡ front a 0 0 0 ++ drop (length (front a 0 0 0)) img)
-      → Built s img len img'
-  plain-built g wrote =
-      let room = len_is ∙ ap length plain-words in
-      record {
-        count = len_is;
-        fits = λ k. rw plain-words (wrote (lowered max_depth s 0 nothing) plain-holds (omega arith));
-        kept = λ k. absurd (omega arith);
-      }
+      → length (words (lower s)) ≤ length img → img' ≡ words (lower s) ++ drop (length (words (lower s))) img
+  plain-wrote wrote h =
+      let long = ap length plain-words in
+      rw plain-words (wrote (lowered max_depth s 0 nothing) plain-holds (omega (arith, h, long)))

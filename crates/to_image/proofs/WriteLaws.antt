@@ -1,6 +1,6 @@
 -- The words of a Switch that is settled: the front and the tables, each behind the other, and their count.
-use Prim.Native.Nat.{ℕ, ◌+◌, ◌*◌, ◌<◌, ◌≤◌}
-use mathlib.Core.Path.{◌≡◌, refl, sym, ap, ◌∙◌, subst}
+use Prim.Native.Nat.{ℕ, ◌+◌, ◌*◌, ◌≤◌, min}
+use mathlib.Core.Path.{◌≡◌, sym, ap, ◌∙◌, subst}
 use mathlib.Core.List.{List, ◌++◌}
 use native.Mathlib.Omega.{arith}
 use lib.ListN.{length, drop}
@@ -35,7 +35,7 @@ use Rattle.write_front.specs.Puts.{Puts}
 use Rattle.write_front.proofs.PutsLaws.{puts-as}
 use Rattle.write_tables.proofs.Tail.{cases-length, ranges-length, words-length, words_are}
 use Rattle.needs.proofs.CountLaws.{total-switch}
-use Rattle.to_image.specs.Making.{Ready, Built}
+use Rattle.to_image.specs.Making.{Ready}
 use Rattle.to_image.specs.Switched.{Settled}
 
 -- no more instructions stand than were emitted
@@ -71,35 +71,23 @@ module _ {s : List ℕ} {l : Layout} {zs : List ℕ} {st : State} {w : List ℕ}
 
   -- ---- the count of the words
 
-  module _ (img : List ℕ) (len f : ℕ)
-      (f-is : ca ≤ max_entries → ra ≤ max_bands → f ≡ switch_width * table_count ra + case_width * ca + range_width * ra)
-      (counted : (a : Made) → Holds s l zs st a → (i j m : ℕ) → len ≡ length (front a i j m) + f) where
-    words-counted : len ≡ length (words (lower s))
-    words-counted =
-        let a = made (lower s).code (lower s).pools 1 in
-        let front-is = counted a S.holds (length (lower s).switches) (length (lower s).cases) (length (lower s).ranges) in
-        let tables = f-is (rw ca-is S.few_cases) (rw ra-is S.few_bands) in
-        omega (arith, words-length (lower s) 1, switches-count, cases-count, ranges-count)
-
-    -- the image is too short
-    pub left_out : length img < len → Built s img len img
-    left_out g = record { count = words-counted; fits = λ h. absurd (omega arith); kept = λ h. refl }
-
-    -- the words are put in
-    pub put_in : {img' : List ℕ} → len ≤ length img
-        → (length (words (lower s)) ≤ length img → img' ≡ words (lower s) ++ drop (length (words (lower s))) img) → Built s img len img'
-    put_in g wrote = record {
-      count = words-counted;
-      fits = λ h. wrote (omega (arith, words-counted));
-      kept = λ h. absurd (omega arith);
-    }
+  pub words-counted : (len f : ℕ) → f ≡ min (switch_width * table_count ra + case_width * ca + range_width * ra) 4294967295
+      → ((a : Made) → Holds s l zs st a → (i j m : ℕ) → len ≡ length (front a i j m) + f) → len ≡ length (words (lower s))
+  words-counted len f f-is counted =
+      let a = made (lower s).code (lower s).pools 1 in
+      let front-is = counted a S.holds (length (lower s).switches) (length (lower s).cases) (length (lower s).ranges) in
+      let few-cases : ca ≤ max_entries = rw ca-is S.few_cases in
+      let few-bands : ra ≤ max_bands = rw ra-is S.few_bands in
+      let tables : f ≡ switch_width * table_count ra + case_width * ca + range_width * ra = omega (arith, f-is, few-cases, few-bands) in
+      omega (arith, front-is, tables, words-length (lower s) 1, switches-count, cases-count, ranges-count)
 
   -- ---- the four parts, one behind another
 
   pub written : (sw fallback default : ℕ) → sw ≡ table_count ra → fallback ≡ cell w fallback_at → default ≡ cell w default_at
       → {x y z u v : List ℕ} {m₁ m₂ m₃ m₄ : ℕ} → ((a : Made) → Holds s l zs st a → Puts x y 0 m₁ (front a sw ca ra))
       → Puts y z m₁ m₂ (section switch_words (tables_of ca fallback ra default))
-      → (ca ≤ max_entries → Puts z u m₂ m₃ (rows_to (case_words_in w) ca)) → (ra ≤ max_bands → Puts u v m₃ m₄ (rows_to (range_words_in w) ra))
+      → (ca ≤ max_entries → Puts z u m₂ m₃ (rows_to (case_words_in w) ca))
+      → (ra ≤ max_bands → Puts u v m₃ m₄ (rows_to (range_words_in w) ra))
       → length (words (lower s)) ≤ length x → v ≡ words (lower s) ++ drop (length (words (lower s))) x
   written sw fallback default sw-is f-is d-is one two three four =
       words_are (lower s) 1

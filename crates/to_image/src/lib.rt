@@ -28,8 +28,8 @@ use write_front::{Source, Tables, image_len};
 use zeros::zero;
 
 // The image of an expression: its word count; its words are written where they fit.
-// Kept: sheet, image and scratch stand apart. Tried as a struct of the three with methods: of a field that was lent to a Store nothing is
-// known when the Store ends, not even its length, and of a parameter that is known.
+// Kept: sheet, image and scratch stand apart. Tried as a struct of the three with methods: of a field that was lent to a Store the words
+// are not known when the Store ends, and of a parameter they are.
 fn build_plain(sheet: &[u8], image: &mut [u32], scratch: &mut [u32], most: u32) -> usize
     ensures { let sheet = sheet.now in
         (Ready sheet most (length scratch.old) → (nodes.kind sheet 0 ≡ switch_kind → ⊥)
@@ -76,6 +76,10 @@ fn ended(scratch: &mut [u32], room: usize, words: usize) -> Result<usize, Refusa
 }
 
 // An accepted expression: count, refuse, emit, write.
+// Kept: beside `lower_switch`, which reads a table first and settles it behind the refusals: one function of
+// both would ask twice which it is. So with `build_plain` and `build_switch`, whose common ends (layout, room) are three lines.
+// That the sheet is accepted is a premise, here and in needs and switch_places: a type that says so would ask more of
+// callers of their public functions.
 fn lower_plain(sheet: &[u8], image: &mut [u32], scratch: &mut [u32]) -> Result<usize, Refusal>
     ensures { let s = sheet.now in (Checked.verdict_number (Checked.checked s) ≡ 0 → (nodes.kind s 0 ≡ switch_kind → ⊥)
         → Answers s image.old scratch.old result image.new scratch.new) }

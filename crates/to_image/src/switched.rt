@@ -1,8 +1,7 @@
 // The image of a Switch.
-ghost use Rattle.std.specs.Prelude.{◌+◌, ◌*◌, ◌≤◌, ◌≡◌, ◌++◌, length, drop};
-ghost use Rattle.sheet.specs.Limits.{max_entries};
+ghost use Rattle.std.specs.Prelude.{◌+◌, ◌*◌, ◌≤◌, ◌≡◌, ◌++◌, min, length, drop};
 ghost use Rattle.sheet.specs.Node.{kind};
-ghost use Rattle.lowering.specs.Limits.{switch_width, case_width, range_width, max_bands};
+ghost use Rattle.lowering.specs.Limits.{switch_width, case_width, range_width};
 ghost use Rattle.lowering.specs.Kinds.{switch_kind};
 ghost use Rattle.lowering.specs.Image.{words};
 ghost use Rattle.lowering.specs.Outcome as outcomes;
@@ -12,11 +11,10 @@ ghost use Rattle.write_rows.specs.TableRows.{table_count};
 ghost use Rattle.to_image.specs.Making.{Ready, Built};
 ghost use Rattle.to_image.specs.Switched.{Planned, Settled};
 
-use lowering::{CASE_WIDTH, MAX_BANDS, RANGE_WIDTH, SWITCH_WIDTH};
+use lowering::{CASE_WIDTH, RANGE_WIDTH, SWITCH_WIDTH};
 use scratch::Layout;
 use scratch_locals::begin;
 use scratch_store::Store;
-use sheet::limits::MAX_ENTRIES;
 use sheet::{field_b, node_count};
 use switch_emit::{case_consts, switch};
 use switch_tables::{BANDS, DEFAULT, FALLBACK, Table};
@@ -77,18 +75,13 @@ fn write(sheet: &[u8], store: &Store, image: &mut [u32], table: &Table)
     put_ranges(image, c, &table.cells[..], bands as usize);
 }
 
-// The words of the tables of `cases` Cases and `bands` bands.
+// How many words the tables of `cases` Cases and `bands` bands have, or the greatest word where they are more.
 fn tables_len(cases: u32, bands: u32) -> u32
-    ensures { cases ≤ max_entries → bands ≤ max_bands
-        → result ≡ switch_width * table_count bands + case_width * cases + range_width * bands }
+    ensures { result ≡ min (switch_width * table_count bands + case_width * cases + range_width * bands) 4294967295 }
 {
-    if MAX_ENTRIES < cases {
-        return 0;
-    }
-    if MAX_BANDS < bands {
-        return 0;
-    }
-    TABLE_WORDS * table_count(bands) + CASE_WORDS * cases + RANGE_WORDS * bands
+    (TABLE_WORDS * table_count(bands))
+        .saturating_add(CASE_WORDS.saturating_mul(cases))
+        .saturating_add(RANGE_WORDS.saturating_mul(bands))
 }
 
 // The image of a Switch: its word count; its words are written where they fit.

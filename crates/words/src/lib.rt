@@ -6,6 +6,9 @@ ghost use Rattle.std.specs.Prelude.{◌≡◌, ◌+◌, ◌*◌, ◌<◌, ◌≤
 ghost use Rattle.words.specs.Word.{byte_of, from_bytes, word};
 
 // Byte `i` of `s`, 0 past the end.
+// Kept: a function beside `get` of crate scratch and `word_of` of crate image_read, which read the scratch and an image. Each is one
+// call of std's `get` under the name that its definition has (`byte_of`, `get_or`, `word`), and contracts name it; one generic function
+// would bring a bound `Copy` and a parameter for what stands past the end, and is the same line.
 pub fn byte(s: &[u8], i: usize) -> u8
     ensures { result ≡ byte_of s.now i }
 {

@@ -1,6 +1,6 @@
 -- What is held of the front of an image: each part of the scratch that is read lies within it, and gives its section.
 use Prim.Native.Nat.{ℕ, ◌+◌, ◌*◌, ◌≤◌, ◌<◌, min}
-use mathlib.Core.Path.{◌≡◌, sym, ap, ◌∙◌, subst}
+use mathlib.Core.Path.{◌≡◌, refl, sym, ap, ◌∙◌}
 use mathlib.Core.List.{List, [], ◌∷◌, ◌++◌, map}
 use native.Mathlib.Omega.{arith}
 use lib.ListN.{length, length-append, length-map}
@@ -25,8 +25,6 @@ use Rattle.scratch_index.proofs.IndexesLaws.{indexes-names}
 use Rattle.scratch_store.specs.Holds.{Holds}
 use Rattle.scratch_store.proofs.AddLaws.{keys-few, chains-count}
 use Rattle.write_front.specs.Front.{front_sizes, front}
-use Rattle.write_front.specs.Puts.{Puts}
-use Rattle.write_front.proofs.PutsLaws.{puts-as}
 use Rattle.write_front.proofs.RowLengths.{consts-length, names-length, chain-words-length}
 
 module _ {s : List ℕ} {l : Layout} {xs : List ℕ} {st : State} {a : Made} (h : Holds s l xs st a) where
@@ -82,21 +80,12 @@ module _ {s : List ℕ} {l : Layout} {xs : List ℕ} {st : State} {a : Made} (h 
   names-held = ap (section name_words) (sym h.pooled.names)
 
   -- the names, with their index and their memos
-  names-hold : NamesHold s l st.names xs
+  pub names-hold : NamesHold s l st.names xs
   names-hold = indexes-names h.index
 
-  names-are : names_held s l st.names xs ≡ a.pools.names
+  pub names-listed : names_held s l st.names xs ≡ a.pools.names
   unfolding names_held
-  names-are = sym h.pooled.names
-
-  chains-held :
-      section chain_words (chains_from s (names_held s l st.names xs) 0 (region (chains_at l) st.chains xs))
-      ≡ section chain_words a.pools.chains
-  chains-held = rw names-are (ap (section chain_words) (sym h.pooled.chains.chains))
-
-  steps-held :
-      steps_words (steps_from s (names_held s l st.names xs) (region (chains_at l) st.chains xs)) ≡ steps_words a.pools.steps
-  steps-held = rw names-are (ap steps_words (sym h.pooled.chains.steps))
+  names-listed = sym h.pooled.names
 
   -- the sizes
   pub sizes-held :
@@ -176,80 +165,65 @@ module _ {s : List ℕ} {l : Layout} {xs : List ℕ} {st : State} {a : Made} (h 
         h.laid.steps,
       )
 
-  -- the chains and the steps, with the keys of the chains at place p
+  -- the keys that are read are those that are held
+  module _ {ks : List ℕ} where
+    pub code-are : (0 + op_width * st.code ≤ length xs → ks ≡ region 0 (op_width * st.code) xs) → ks ≡ code_words a.code
+    code-are f = f code-fits ∙ h.emitted.code
+
+    pub positions-are :
+        {p : ℕ} → p ≡ positions_at l → (p + st.code ≤ length xs → ks ≡ region p st.code xs) → ks ≡ positions a.code
+    positions-are e f = f (rw e positions-fit) ∙ rw e h.emitted.positions
+
+    pub residuals-are :
+        {p : ℕ} → p ≡ residuals_at l → (p + st.residuals ≤ length xs → ks ≡ region p st.residuals xs) → ks ≡ a.pools.residuals
+    residuals-are e f = f (rw e residuals-fit) ∙ rw e h.emitted.residuals
+
+    pub consts-are :
+        {p : ℕ} → p ≡ consts_at l → (p + st.consts ≤ length xs → ks ≡ region p st.consts xs)
+        → section const_words (map (const_of s) ks) ≡ section const_words a.pools.consts
+    consts-are e f = ap (λ ks. section const_words (map (const_of s) ks)) (f (rw e consts-fit)) ∙ rw e consts-held
+
+    pub names-are :
+        {p : ℕ} → p ≡ names_at l → (p + st.names ≤ length xs → ks ≡ region p st.names xs)
+        → section name_words (map (name_of s) ks) ≡ section name_words a.pools.names
+    names-are e f = ap (λ ks. section name_words (map (name_of s) ks)) (f (rw e names-fit)) ∙ rw e names-held
+
+    pub tokens-are :
+        {p : ℕ} → p ≡ tokens_at l → (p + st.tokens ≤ length xs → ks ≡ region p st.tokens xs)
+        → map (field_c s) ks ≡ a.pools.tokens
+    tokens-are e f = ap (map (field_c s)) (f (rw e tokens-fit)) ∙ rw e (sym h.pooled.tokens)
+
+    pub chains-are :
+        {p : ℕ} → p ≡ chains_at l → (p + st.chains ≤ length xs → ks ≡ region p st.chains xs)
+        → ks ≡ region (chains_at l) st.chains xs
+    chains-are e f = f (rw e chains-fit) ∙ ap (λ (i : ℕ). region i st.chains xs) e
+
+  -- the chains and the steps
   pub chain-rows : length (section chain_words a.pools.chains) ≡ chain_width * st.chains
   chain-rows = chain-words-length a.pools.chains ∙ ap (λ (i : ℕ). chain_width * i) (chains-count h)
 
   pub step-rows : length (steps_words a.pools.steps) ≡ step_width * st.steps
   step-rows = steps-length a.pools.steps ∙ ap (λ (i : ℕ). step_width * i) (sym h.laid.steps)
 
-  module _ (p : ℕ) (e : p ≡ chains_at l) where
-    pub chains-inside : length xs < p + st.chains → ⊥
-    chains-inside m = omega (arith, e, chains-fit)
+  pub chain-keys-long : {js : List ℕ} → js ≡ region (chains_at l) st.chains xs → length js ≡ st.chains
+  chain-keys-long e = ap length e ∙ region-length (chains_at l) st.chains xs chains-fit
 
-    -- the keys as the code read them
-    module _ (js ws : List ℕ) (is : js ≡ region p st.chains xs) where
-      keys-are : js ≡ region (chains_at l) st.chains xs
-      keys-are = is ∙ ap (λ (i : ℕ). region i st.chains xs) e
+  -- over the names that are held, and the keys of the chains: u was in the image before, and v is there behind
+  module _ {t ys : List ℕ} {k : Layout} {n : ℕ} {js : List ℕ} (same : t ≡ s)
+      (named : NamesHold t k n ys × (names_held t k n ys ≡ a.pools.names)) (keys : js ≡ region (chains_at l) st.chains xs) where
+    pub chains-written :
+        {v ws : List ℕ} → v ≡ ws
+        → (NamesHold t k n ys → v ≡ section chain_words (chains_from t (names_held t k n ys) 0 js))
+        → ws ≡ section chain_words a.pools.chains
+    chains-written e w =
+        sym e ∙ w named.0 ∙ rw (named.1, same, keys) (ap (section chain_words) (sym h.pooled.chains.chains))
 
-      pub chains-written :
-          (NamesHold s l st.names xs → ws ≡ section chain_words (chains_from s (names_held s l st.names xs) 0 js))
-          → ws ≡ section chain_words a.pools.chains
-      chains-written f =
-          f names-hold
-          ∙ ap (λ (ks : List ℕ). section chain_words (chains_from s (names_held s l st.names xs) 0 ks)) keys-are
-          ∙ chains-held
-
-      pub steps-written :
-          (n : ℕ)
-          → (NamesHold s l st.names xs → n ≡ step_width * step_count s js
-          → ws ≡ steps_words (steps_from s (names_held s l st.names xs) js))
-          → n ≡ step_width * st.steps → ws ≡ steps_words a.pools.steps
-      steps-written n f m =
-          f names-hold (m ∙ ap (λ (i : ℕ). step_width * i) (steps-count ∙ ap (step_count s) (sym keys-are)))
-          ∙ ap (λ (ks : List ℕ). steps_words (steps_from s (names_held s l st.names xs) ks)) keys-are
-          ∙ steps-held
-
-  module _ {x y : List ℕ} {at r : ℕ} where
-    pub code_put : (0 + op_width * st.code ≤ length xs → Puts x y at r (region 0 (op_width * st.code) xs))
-        → Puts x y at r (code_words a.code)
-    code_put f = puts-as (region 0 (op_width * st.code) xs) (code_words a.code) h.emitted.code (f code-fits)
-
-    pub positions-put :
-        (p : ℕ) → p ≡ positions_at l → (p + st.code ≤ length xs → Puts x y at r (region p st.code xs))
-        → Puts x y at r (positions a.code)
-    positions-put p e f =
-        let P : ℕ → Type 0 = λ (q : ℕ). q + st.code ≤ length xs → Puts x y at r (region q st.code xs) in
-        puts-as (region (positions_at l) st.code xs) (positions a.code) h.emitted.positions (subst P e f positions-fit)
-
-    pub residuals-put :
-        (p : ℕ) → p ≡ residuals_at l → (p + st.residuals ≤ length xs → Puts x y at r (region p st.residuals xs))
-        → Puts x y at r a.pools.residuals
-    residuals-put p e f =
-        let P : ℕ → Type 0 = λ (q : ℕ). q + st.residuals ≤ length xs → Puts x y at r (region q st.residuals xs) in
-        puts-as (region (residuals_at l) st.residuals xs) a.pools.residuals h.emitted.residuals (subst P e f residuals-fit)
-
-    pub consts-put :
-        (p : ℕ) → p ≡ consts_at l
-        → (p + st.consts ≤ length xs → Puts x y at r (section const_words (map (const_of s) (region p st.consts xs))))
-        → Puts x y at r (section const_words a.pools.consts)
-    consts-put p e f =
-        let P : ℕ → Type 0 =
-        λ (q : ℕ). q + st.consts ≤ length xs → Puts x y at r (section const_words (map (const_of s) (region q st.consts xs))) in
-        puts-as _ (section const_words a.pools.consts) consts-held (subst P e f consts-fit)
-
-    pub names-put :
-        (p : ℕ) → p ≡ names_at l
-        → (p + st.names ≤ length xs → Puts x y at r (section name_words (map (name_of s) (region p st.names xs))))
-        → Puts x y at r (section name_words a.pools.names)
-    names-put p e f =
-        let P : ℕ → Type 0 =
-        λ (q : ℕ). q + st.names ≤ length xs → Puts x y at r (section name_words (map (name_of s) (region q st.names xs))) in
-        puts-as _ (section name_words a.pools.names) names-held (subst P e f names-fit)
-
-    pub tokens-put :
-        (p : ℕ) → p ≡ tokens_at l → (p + st.tokens ≤ length xs → Puts x y at r (map (field_c s) (region p st.tokens xs)))
-        → Puts x y at r a.pools.tokens
-    tokens-put p e f =
-        let P : ℕ → Type 0 = λ (q : ℕ). q + st.tokens ≤ length xs → Puts x y at r (map (field_c s) (region q st.tokens xs)) in
-        puts-as _ a.pools.tokens (sym h.pooled.tokens) (subst P e f tokens-fit)
+    pub steps-written :
+        {u b v ws : List ℕ} → u ≡ b → v ≡ ws
+        → (NamesHold t k n ys → length u ≡ step_width * step_count t js → v ≡ steps_words (steps_from t (names_held t k n ys) js))
+        → length b ≡ step_width * st.steps → ws ≡ steps_words a.pools.steps
+    steps-written d e w m =
+        let all : st.steps ≡ step_count t js = steps-count ∙ rw (same, keys) refl in
+        sym e
+        ∙ w named.0 (ap length d ∙ m ∙ ap (λ (i : ℕ). step_width * i) all)
+        ∙ rw (named.1, same, keys) (ap steps_words (sym h.pooled.chains.steps))

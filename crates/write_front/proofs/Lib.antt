@@ -3,3 +3,4 @@ mod FrontLaws
 pub mod PutsLaws
 mod RoomLaws
 mod RowLengths
+mod NamedLaws

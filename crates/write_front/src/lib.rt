@@ -1,22 +1,20 @@
 // The finished image, written from what the scratch holds. Each section goes to its own part of the image; what does not fit is left out.
 #![tactic(auto)]
 
-ghost use Rattle.std.specs.Prelude.{◌≡◌, ℕ, ◌+◌, ◌*◌, ◌<◌, ◌≤◌, refl, List, ◌++◌, map, length, drop, MatchOption};
-ghost use Rattle.sheet.specs.Node as nodes;
+ghost use Rattle.std.specs.Prelude.{◌≡◌, ℕ, ◌+◌, ◌≤◌, List, ◌++◌, length, drop};
+ghost use Rattle.std.specs.Fn.{FnOnceReturnsAtMut};
 ghost use Rattle.bytecode.specs.Chain.{chain_words};
-ghost use Rattle.lowering.specs.Limits.{sizes_words, const_width, name_width};
 ghost use Rattle.lowering.specs.Pools as pools;
-ghost use Rattle.lowering.specs.Image.{section, const_words, name_words};
-ghost use Rattle.scratch_keys.specs.Keys.{name_of};
+ghost use Rattle.lowering.specs.Image.{section};
 ghost use Rattle.expr_model.specs.Made.{Made};
-ghost use Rattle.scratch.specs.Places.{region};
+ghost use Rattle.scratch.specs.Places.{chains_at, region};
+ghost use Rattle.scratch_index.specs.Held.{NamesHold, names_held};
 ghost use Rattle.scratch_store.specs.Holds.{Holds};
 ghost use Rattle.scratch_store.specs.States.{layout_of};
 ghost use Rattle.scratch.specs.declared.Layout.{Layout};
 ghost use Rattle.write_front.specs.Front as fronts;
 ghost use Rattle.write_front.specs.Puts.{Puts};
 ghost use Rattle.write_front.specs.Reach.{Reach};
-ghost use Rattle.write_front.specs.Rows.{consts-long, names-long, tokens-long};
 
 use lowering::{
     CHAIN_WIDTH, CODE_WIDTH, CONST_WIDTH, MAX_STACK, NAME_WIDTH, OP_WIDTH, SIZES, STEP_WIDTH,
@@ -41,145 +39,27 @@ pub fn beyond(m: usize, at: usize, n: usize) -> bool
     false
 }
 
-// The `n` words from `b` on, if they are there.
-fn part(words: &[u32], b: usize, n: usize) -> Option<&[u32]>
-    ensures { MatchOption result (length words.now < b + n) (λ r. (b + n ≤ length words.now) × (r.now ≡ region b n words.now)) }
-{
-    if beyond(words.len(), b, n) {
-        return None;
-    }
-    let e = b + n;
-    Some(&words[b..e])
-}
-
-// A section of the image that is made of keys: as many words for each.
-trait Rows {
-    ghost words: { ℕ → ℕ };
-
-    ghost rows: { Self → List ℕ → List ℕ };
-
-    // How many words `n` keys have.
-    fn words(&self, n: usize) -> usize
-        requires { n < 2305843009213693952 }
-        ensures { result ≡ words n };
-
-    // The words of the keys `ks`.
-    fn write(&self, out: &mut [u32], ks: &[u32])
-        requires { length out.old ≡ words (length ks.now) }
-        ensures { out.new ≡ rows self.now ks.now };
-
-    ghost long: { (it : Self) (ks : List ℕ) → length (rows it ks) ≡ words (length ks) };
-}
-
-// The keys themselves.
-#[derive(Clone, Copy)]
-struct Copied {}
-
-impl Rows for Copied {
-    ghost words = { λ n. n };
-
-    ghost rows = { λ _ ks. ks };
-
-    ghost long = { λ _ _. refl };
-
-    fn words(&self, n: usize) -> usize {
-        n
-    }
-
-    fn write(&self, out: &mut [u32], ks: &[u32]) {
-        copy(out, ks);
-    }
-}
-
-// Kept: the next three differ in the words of a key alone; a closure for these would need the same width, rows
-// and law beside it: no plainer.
-// The constants of nodes.
-#[derive(Clone, Copy)]
-struct ConstRows<'a> {
-    sheet: &'a [u8],
-}
-
-impl<'a> Rows for ConstRows<'a> {
-    ghost words = { λ n. const_width * n };
-
-    ghost rows = { λ it ks. section const_words (map (pools.const_of it.sheet.now) ks) };
-
-    ghost long = { λ it ks. consts-long it.sheet.now ks };
-
-    fn words(&self, n: usize) -> usize {
-        CONST_WIDTH * n
-    }
-
-    fn write(&self, out: &mut [u32], ks: &[u32]) {
-        write_sections::consts(self.sheet, out, ks);
-    }
-}
-
-// The names with keys.
-#[derive(Clone, Copy)]
-struct NameRows<'a> {
-    sheet: &'a [u8],
-}
-
-impl<'a> Rows for NameRows<'a> {
-    ghost words = { λ n. name_width * n };
-
-    ghost rows = { λ it ks. section name_words (map (name_of it.sheet.now) ks) };
-
-    ghost long = { λ it ks. names-long it.sheet.now ks };
-
-    fn words(&self, n: usize) -> usize {
-        NAME_WIDTH * n
-    }
-
-    fn write(&self, out: &mut [u32], ks: &[u32]) {
-        write_sections::names(self.sheet, out, ks);
-    }
-}
-
-// The tokens of nodes.
-#[derive(Clone, Copy)]
-struct TokenRows<'a> {
-    sheet: &'a [u8],
-}
-
-impl<'a> Rows for TokenRows<'a> {
-    ghost words = { λ n. n };
-
-    ghost rows = { λ it ks. map (nodes.field_c it.sheet.now) ks };
-
-    ghost long = { λ it ks. tokens-long it.sheet.now ks };
-
-    fn words(&self, n: usize) -> usize {
-        n
-    }
-
-    fn write(&self, out: &mut [u32], ks: &[u32]) {
-        write_sections::tokens(self.sheet, out, ks);
-    }
-}
-
-// Kept: `image` and `at` go in, and the place behind is answered, here and below. `Puts old new at r xs` says all of both ends.
-// The section of the `n` keys that stand in the scratch from `b` on, and the place behind it.
-fn put_rows<R: Rows>(
-    rows: &R,
-    scratch: &[u32],
-    b: usize,
-    n: usize,
+// A section of `words` words from `at` on, as `write` writes it, and the place behind it. What does not fit is left out.
+// Kept: `at` where nothing is written, and no Option. `put` and the writers of tables answer a place for every image, so each of them would
+// turn None into a place again.
+// Kept: `image` and `at` as two parameters, here and in write_tables. A writer of both would be lent as `&mut`: the four ends that
+// `Puts old new at r xs` says at once (image and place, before and behind) would be fields of its two states in each contract.
+pub fn put_section<F: FnOnce(&mut [u32])>(
     image: &mut [u32],
     at: usize,
+    words: usize,
+    write: F,
 ) -> usize
-    ensures { b + n ≤ length scratch.now → Puts image.old image.new at result (R.rows rows.now (region b n scratch.now)) }
+    requires { (part : _) → length part.now ≡ words → F.pre write part }
+    ensures { (section : List ℕ) → length section ≡ words
+        → ((before after : List ℕ) → length before ≡ words → FnOnceReturnsAtMut F.FnOnce write before tt after → after ≡ section)
+        → Puts image.old image.new at result section }
 {
-    let Some(keys) = part(scratch, b, n) else {
-        return at; // They are not there.
-    };
-    let w = rows.words(n);
-    if beyond(image.len(), at, w) {
+    if beyond(image.len(), at, words) {
         return at;
     }
-    let e = at + w;
-    rows.write(&mut image[at..e], keys);
+    let e = at + words;
+    write(&mut image[at..e]);
     e
 }
 
@@ -191,19 +71,8 @@ pub struct Tables {
     pub ranges: u32,
 }
 
-// The sizes at the image's start.
-fn put_sizes(image: &mut [u32], n: [u32; SIZES]) -> usize
-    ensures { length n ≡ sizes_words → Puts image.old image.new 0 result n }
-{
-    let e: usize = SIZES;
-    if image.len() < e {
-        return 0;
-    }
-    write_sections::sizes(&mut image[0..e], n);
-    e
-}
-
 // What the front of an image is written from: a sheet, and what the scratch holds of it.
+// Kept: that it holds it (`Holds`) is a premise of each method: the fields are public, and who makes a Source need not know it.
 #[derive(Clone, Copy)]
 pub struct Source<'a> {
     pub sheet: &'a [u8],
@@ -212,32 +81,53 @@ pub struct Source<'a> {
 }
 
 impl<'a> Source<'a> {
-    // Kept: chains and steps are no `Rows`: what they are is known only where the names are held, and steps are not as many for each key,
-    // so each would need a premise and a law of its own.
+    // The `n` words of the scratch from `b` on; none where they are not all there.
+    fn keys(&self, b: usize, n: usize) -> &'a [u32]
+        ensures { let it = self.now in b + n ≤ length it.scratch.now → result.now ≡ region b n it.scratch.now }
+    {
+        self.scratch.get(b..b.saturating_add(n)).unwrap_or(&[])
+    }
+
+    // The names that the scratch holds.
+    fn names(&self) -> Names<'a>
+        ensures sheet { result.sheet.now ≡ self.now.sheet.now }
+        ensures held { let it = self.now in (a : Made) → Holds it.sheet.now (layout_of it.state) it.scratch.now it.state a
+            → NamesHold result.sheet.now result.layout result.count result.scratch.now
+            × (names_held result.sheet.now result.layout result.count result.scratch.now ≡ a.pools.names) }
+    {
+        Names {
+            sheet: self.sheet,
+            scratch: self.scratch,
+            layout: self.state.layout(),
+            count: self.state.names,
+        }
+    }
+
+    // The keys of the chains.
+    fn chain_keys(&self) -> &'a [u32]
+        ensures { let it = self.now in (a : Made) → Holds it.sheet.now (layout_of it.state) it.scratch.now it.state a
+            → result.now ≡ region (chains_at (layout_of it.state)) it.state.chains it.scratch.now }
+    {
+        self.keys(self.state.layout().chains_at(), self.state.chains as usize)
+    }
+
+    // Kept: chains and steps have the lines of `put_section` again. Tried: of a closure that holds `Names`, a struct with references,
+    // nothing is known behind its call.
     // The chains. So many that their steps might not fit a word are left out.
     fn put_chains(&self, image: &mut [u32], at: usize) -> usize
         ensures { let it = self.now in (a : Made) → Holds it.sheet.now (layout_of it.state) it.scratch.now it.state a
             → Puts image.old image.new at result (section chain_words a.pools.chains) }
     {
-        let layout = self.state.layout();
-        let k = self.state.chains as usize;
-        let Some(keys) = part(self.scratch, layout.chains_at(), k) else {
-            return at; // They are not there.
-        };
-        if beyond(image.len(), at, CHAIN_WIDTH * k) {
+        let keys = self.chain_keys();
+        if MAX_CHAINS < keys.len() {
             return at;
         }
-        if MAX_CHAINS < k {
+        let w = CHAIN_WIDTH * keys.len();
+        if beyond(image.len(), at, w) {
             return at;
         }
-        let e = at + CHAIN_WIDTH * k;
-        let names = Names {
-            sheet: self.sheet,
-            scratch: self.scratch,
-            layout,
-            count: self.state.names,
-        };
-        write_sections::chains(&names, &mut image[at..e], keys);
+        let e = at + w;
+        write_sections::chains(&self.names(), &mut image[at..e], keys);
         e
     }
 
@@ -246,23 +136,12 @@ impl<'a> Source<'a> {
         ensures { let it = self.now in (a : Made) → Holds it.sheet.now (layout_of it.state) it.scratch.now it.state a
             → Puts image.old image.new at result (pools.steps_words a.pools.steps) }
     {
-        let layout = self.state.layout();
-        let k = self.state.chains as usize;
-        let Some(keys) = part(self.scratch, layout.chains_at(), k) else {
-            return at; // They are not there.
-        };
         let w = STEP_WIDTH * (self.state.steps as usize);
         if beyond(image.len(), at, w) {
             return at;
         }
         let e = at + w;
-        let names = Names {
-            sheet: self.sheet,
-            scratch: self.scratch,
-            layout,
-            count: self.state.names,
-        };
-        write_sections::steps(&names, &mut image[at..e], keys);
+        write_sections::steps(&self.names(), &mut image[at..e], self.chain_keys());
         e
     }
 
@@ -293,11 +172,11 @@ impl<'a> Source<'a> {
         ensures { let it = self.now in (a : Made) → Holds it.sheet.now (layout_of it.state) it.scratch.now it.state a
             → Puts image.old image.new at result (fronts.code_part a) }
     {
-        let scratch = self.scratch;
         let k = self.state.code as usize;
-        let e = put_rows(&Copied {}, scratch, 0, OP_WIDTH * k, image, at);
-        let b = self.state.layout().positions_at();
-        put_rows(&Copied {}, scratch, b, k, image, e)
+        let code = self.keys(0, OP_WIDTH * k);
+        let e = put_section(image, at, code.len(), |part| copy(part, code));
+        let positions = self.keys(self.state.layout().positions_at(), k);
+        put_section(image, e, positions.len(), |part| copy(part, positions))
     }
 
     // The constants, the names, the tokens and the residuals.
@@ -306,19 +185,30 @@ impl<'a> Source<'a> {
             → Puts image.old image.new at result (fronts.pools_part a) }
     {
         let sheet = self.sheet;
-        let scratch = self.scratch;
         let layout = self.state.layout();
-        let consts = ConstRows { sheet };
-        let names = NameRows { sheet };
-        let tokens = TokenRows { sheet };
-        let k = self.state.consts as usize;
-        let e = put_rows(&consts, scratch, layout.consts_at(), k, image, at);
-        let k = self.state.names as usize;
-        let f = put_rows(&names, scratch, layout.names_at(), k, image, e);
-        let k = self.state.tokens as usize;
-        let g = put_rows(&tokens, scratch, layout.tokens_at(), k, image, f);
-        let k = self.state.residuals as usize;
-        put_rows(&Copied {}, scratch, layout.residuals_at(), k, image, g)
+        let consts = self.keys(layout.consts_at(), self.state.consts as usize);
+        let names = self.keys(layout.names_at(), self.state.names as usize);
+        let tokens = self.keys(layout.tokens_at(), self.state.tokens as usize);
+        let residuals = self.keys(layout.residuals_at(), self.state.residuals as usize);
+        let e = put_section(
+            image,
+            at,
+            CONST_WIDTH * consts.len(),
+            |part| write_sections::consts(sheet, part, consts),
+        );
+        let f = put_section(
+            image,
+            e,
+            NAME_WIDTH * names.len(),
+            |part| write_sections::names(sheet, part, names),
+        );
+        let g = put_section(
+            image,
+            f,
+            tokens.len(),
+            |part| write_sections::tokens(sheet, part, tokens),
+        );
+        put_section(image, g, residuals.len(), |part| copy(part, residuals))
     }
 
     // The front of the image, with tables of these sizes, and the place behind it.
@@ -327,7 +217,7 @@ impl<'a> Source<'a> {
             → Puts image.old image.new 0 result (fronts.front a tables.switches tables.cases tables.ranges) }
     {
         let n = self.sizes(tables);
-        let e = put_sizes(image, n);
+        let e = put_section(image, 0, SIZES, |part| write_sections::sizes(part, n));
         let f = self.put_code(image, e);
         let g = self.put_pools(image, f);
         let h = self.put_chains(image, g);

@@ -2,3 +2,4 @@
 pub mod Filled
 pub mod TableLaws
 pub mod RowLaws
+mod NamedLaws

@@ -29,6 +29,7 @@ pub fn switch_rows(out: &mut [u32], cases: u32, fallback: u32, ranges: u32, defa
 }
 
 // Where a list goes: its number stands in cell `number`, its exit and the place of its chain in two columns.
+// Kept: a match. Each arm reads one cell of the table; closures would be chosen by it.
 fn target_of(flat: &[u32], number: usize, exits: usize, places: usize, fallback: usize) -> u32
     requires { (exits < 4096) × (places < 4096) }
     ensures { result ≡ target_at flat.now number exits places fallback }
@@ -56,7 +57,8 @@ fn case_row(flat: &[u32], i: usize) -> [u32; CASE_WIDTH]
 }
 
 // The rows of `n` cases.
-// Kept: `n` says that `out` is whole rows; std's `as_chunks_mut` says nothing of what the slice ends as.
+// Kept: `n` says that `out` is whole rows, and its length by the width would be divided for what is known; std's `as_chunks_mut` says
+// nothing of what the slice ends as.
 pub fn case_rows(out: &mut [u32], flat: &[u32], n: usize)
     requires { (n ≤ max_entries) × (length out.old ≡ case_width * n) }
     ensures { out.new ≡ rows_to (case_words_in flat.now) n }

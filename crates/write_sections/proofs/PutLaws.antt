@@ -59,7 +59,7 @@ written_all {x₀} {x} {done} w l =
     w.whole ∙ ap (λ (z : List ℕ). done ++ z) (ap (λ (i : ℕ). drop i x₀) l ∙ drop-length x₀) ∙ append-nil done
 
 -- a run of stores
-puts : (vs l : List ℕ) (i k : ℕ) → length vs ≡ k → i + k ≤ length l → sets l i vs ≡ put_part l i k vs
+pub puts : (vs l : List ℕ) (i k : ℕ) → length vs ≡ k → i + k ≤ length l → sets l i vs ≡ put_part l i k vs
 puts vs l i k e h =
     sets-eq vs l i (omega arith)
     ∙ append_assoc (take i l) vs (drop (i + length vs) l)

@@ -26,7 +26,8 @@ use sheet::kinds::VARIABLE;
 use sheet::{child, field_a, field_b, field_c, kind};
 
 // The words `w` in the place of as many.
-// Kept: no `copy_from_slice`, with which the archive asks for `memmove`: firmware may have `memcpy` alone.
+// Kept: by index, one line as `zip` would be, whose invariant would have the iterator and not the words that are put; and no
+// `copy_from_slice`, with which the archive asks for `memmove`: firmware may have `memcpy` alone.
 pub fn copy(out: &mut [u32], w: &[u32])
     requires { length out.old ≡ length w.now }
     ensures { out.new ≡ w.now }
@@ -53,8 +54,10 @@ pub fn put<const N: usize>(out: &mut [u32], at: usize, w: [u32; N])
     copy(&mut out[at..e], &w);
 }
 
-// Kept: sheet, part and keys are three parameters of the next three. Each is the `write` of a Rows of
-// write_front, whose self has the sheet.
+// Kept: sheet, part and keys are three parameters of the next three. Each is called in one place, by a closure of write_front that has the
+// sheet and the keys; a struct of both would be made for that call alone.
+// Kept: two loops of a line, here and in `names`. One would take a closure that gives `[u32; N]`, and a bound `Fn` that names a const
+// parameter is not covered (tried in write_rows).
 // The constants of the nodes `ks`.
 pub fn consts(sheet: &[u8], out: &mut [u32], ks: &[u32])
     requires { length out.old ≡ const_width * length ks.now }
@@ -88,6 +91,7 @@ pub fn tokens(sheet: &[u8], out: &mut [u32], ks: &[u32])
 }
 
 // Root `v`, with its name among the names. Only a variable has one.
+// Kept: 0 and None where there is no name: `root_of` asks for both of a variable alone.
 fn root_at(names: &Names, v: u32) -> Root
     ensures { let it = names.now in let sheet = it.sheet.now in let words = it.scratch.now in (NamesHold sheet it.layout it.count words
         → result ≡ chains.root_in sheet (names_held sheet it.layout it.count words) v) }
@@ -158,6 +162,7 @@ fn chain_steps(names: &Names, out: &mut [u32], j: u32)
     ensures { let it = names.now in let sheet = it.sheet.now in let words = it.scratch.now in (NamesHold sheet it.layout it.count words
         → out.new ≡ steps_words (chains.chain_steps sheet (names_held sheet it.layout it.count words) j)) }
 {
+    // Kept: a place that goes on beside `k`, which no index tells: each step takes its own number of operands.
     let mut at = 0;
     let mut k: u32 = 0;
     for p in links_of(names.sheet, j) {
@@ -173,6 +178,7 @@ pub fn steps(names: &Names, out: &mut [u32], js: &[u32])
         → length out.old ≡ step_width * kept.step_count sheet js.now
         → out.new ≡ steps_words (chains.steps_from sheet (names_held sheet it.layout it.count words) js.now)) }
 {
+    // Kept: a place that goes on: each chain is as long as its links, which no index tells.
     let mut at = 0;
     for j in js {
         let e = at + STEP_WIDTH * (link_count(names.sheet, *j) as usize);

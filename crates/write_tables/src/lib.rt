@@ -1,8 +1,7 @@
 // The tables of a switch, each section at its place in the image; what does not fit is left out.
 #![tactic(auto)]
 
-ghost use Rattle.std.specs.Prelude.{◌≡◌, ℕ, ◌≤◌, List, length};
-ghost use Rattle.std.specs.Fn.{FnOnceReturnsAtMut};
+ghost use Rattle.std.specs.Prelude.{◌≡◌, ◌≤◌};
 ghost use Rattle.sheet.specs.Limits.{max_entries};
 ghost use Rattle.bytecode.specs.Switch.{switch_words};
 ghost use Rattle.lowering.specs.Limits.{max_bands};
@@ -12,7 +11,7 @@ ghost use Rattle.write_front.specs.Puts.{Puts};
 
 use lowering::{CASE_WIDTH, RANGE_WIDTH, SWITCH_WIDTH};
 use switch_tables::{ENTRIES, MOST_BANDS};
-use write_front::beyond;
+use write_front::put_section;
 use write_rows::{case_rows, range_rows, switch_rows};
 
 // How many tables there are, with `ranges` rows of ranges.
@@ -20,21 +19,6 @@ pub fn table_count(ranges: u32) -> u32
     ensures { result ≡ table_count ranges }
 {
     1 + ranges.min(1)
-}
-
-// A section of so many words at its place, as `write` writes it.
-fn put_section<F: FnOnce(&mut [u32])>(image: &mut [u32], at: usize, words: usize, write: F) -> usize
-    requires { (part : _) → length part.now ≡ words → F.pre write part }
-    ensures { (section : List ℕ) → length section ≡ words
-        → ((before after : List ℕ) → length before ≡ words → FnOnceReturnsAtMut F.FnOnce write before tt after → after ≡ section)
-        → Puts image.old image.new at result section }
-{
-    if beyond(image.len(), at, words) {
-        return at;
-    }
-    let e = at + words;
-    write(&mut image[at..e]);
-    e
 }
 
 // The tables.
@@ -57,6 +41,8 @@ pub fn put_switches(
     )
 }
 
+// Kept: `put_cases` and `put_ranges` are one call of `put_section` each, at another bound, width and row. One function of both would take
+// these three as well, and ask of the row's writer what `put_section` asks of `write`.
 // The rows of `n` cases, by the flat table.
 pub fn put_cases(image: &mut [u32], at: usize, flat: &[u32], n: usize) -> usize
     ensures { n ≤ max_entries → Puts image.old image.new at result

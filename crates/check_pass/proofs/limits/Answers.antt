@@ -4,4 +4,4 @@ use Rattle.check_pass.proofs.limits.Goals as goal
 
 pub returns : goal.returns
 returns c =
-    limits-read c.args.x c.args.blocks c.none.ensures c.any_of-most.ensures c.last-text.ensures c.none-none.ensures c.last-block.ensures
+    limits-read c.args.x c.args.blocks c.name_limits-t.ensures c.none-none.ensures c.last-block.ensures

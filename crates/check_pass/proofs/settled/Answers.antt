@@ -1,4 +1,4 @@
--- `check_pass::settled` meets its contract: a node that is not done stays, and so do all where all are done.
+-- `check_pass::settled` meets its contract: a node with a child left stays, and else those around it are closed up to one that has.
 use mathlib.Core.Path.{sym, ◌∙◌}
 use native.Mathlib.Omega.{arith}
 use Rattle.check_pass.specs.Levels.{stay}
@@ -6,16 +6,12 @@ use Rattle.check_pass.proofs.PassingLaws.{closed-to, first_inner}
 use Rattle.check_pass.proofs.settled.Goals as goal
 
 pub returns-then-at : goal.returns-then-at
-returns-then-at c = stay
+returns-then-at c = (stay, c.if-at.true)
 
-pub returns-then-not-done : goal.returns-then-not-done
-returns-then-not-done c = stay
-
-pub returns-in-Some : goal.returns-in-Some
-returns-in-Some c =
+pub returns-else-top : goal.returns-else-top
+returns-else-top c =
     let a = c.args in
-    let found = first_inner a.around.now a.n c.in-Some.d a.at.d (omega arith) c.in-Some.ensures in
-    closed-to a.around.now a.n a.at.top a.at.d _ (sym c.done.ensures ∙ c.if-not-done.false) found.0 found.1
-
-pub returns-in-None : goal.returns-in-None
-returns-in-None c = stay
+    let found = first_inner a.around.now a.n c.in-Some.d a.at.d (omega arith) c.in-Some.ensures in (
+      closed-to a.around.now a.n a.at.top a.at.d _ (sym c.done.ensures ∙ c.if-not-done.false) found.0 found.1,
+      omega (arith, c.if-top.false),
+    )

@@ -13,20 +13,21 @@ loop-n-init c = rw c.opened-top.ensures (state-start c.requires.sizes c.requires
 
 pub overflow_add-n : goal.overflow_add-n
 overflow_add-n c =
-    end_fits (state-closed c.loop-n.invariant c.settled-at.ensures) c.node-v.ensures (c.child_words.ensures c.if-not-child_words.false)
+    end_fits (state-closed c.loop-n.invariant c.in-Some.ensures.0) c.node-v.ensures (c.child_words.ensures c.if-not-child_words.false)
     (c.own_ok.ensures c.if-not-own_ok.false)
 
 pub loop-n-preserved : goal.loop-n-preserved
 loop-n-preserved c =
-    let state = state-closed c.loop-n.invariant c.settled-at.ensures in
+    let state = state-closed c.loop-n.invariant c.in-Some.ensures.0 in
     let v = c.node-v.ensures in
     let fit = c.child_words.ensures c.if-not-child_words.false in
     let own = c.own_ok.ensures c.if-not-own_ok.false in
     elim c.if-v-eq0.branch [
       | then-v-eq0+else-v-ne1 w ↦
-          rw (w.around-is, w.at-is) (state-leaf state v fit own (omega (arith, c.if-at.false)) w.if-v-eq0.true w.if-v-ne1.false)
+          rw (w.around-is, w.at-is) (state-leaf state v fit own c.in-Some.ensures.1 w.if-v-eq0.true w.if-v-ne1.false)
       | else-v-eq0+else-at-ge62 w ↦
-          rw (w.around-is, w.at-is, w.opened-at.ensures) (state-open state v fit own (omega (arith, c.if-at.false)) (omega (arith, w.if-at-ge62.false)))
+          rw (w.around-is, w.at-is, w.opened-at.ensures)
+          (state-open state v fit own c.in-Some.ensures.1 (omega (arith, w.if-at-ge62.false)))
     ]
 
 pub returns : goal.returns

@@ -1,8 +1,8 @@
 -- `check_texts::leaps` meets its contract: a mark that holds is a run, and a run may end where no tail byte stands. Assumes nothing.
+use mathlib.Core.Path.{sym, ◌∙◌}
 use mathlib.Core.Bool.{false≢true}
 use native.Mathlib.Omega.{arith}
-use borrow.Author.Tests.{ltb-true}
-use Rattle.check_texts.proofs.MarkLaws.{run-stays, mark-run, mark-end, low-cut, high_cut}
+use Rattle.check_texts.proofs.MarkLaws.{run-stays, mark-run, mark-end, tail-cut}
 use Rattle.check_texts.proofs.leaps.Goals as goal
 
 pub returns-then-i-end : goal.returns-then-i-end
@@ -26,12 +26,7 @@ pub returns-then-far-end-2 : goal.returns-then-far-end-2
 returns-then-far-end-2 c =
     λ h. mark-end c.requires.holds _ _ (omega arith) (omega arith) c.if-far-end-2.true (omega arith)
 
-pub returns-then-b-end-lt128 : goal.returns-then-b-end-lt128
-returns-then-b-end-lt128 c =
-    let r = mark-run c.requires.holds c.args.i (omega arith) (omega arith) (omega arith) in
-    λ h. low-cut r (omega arith) (omega arith) c.if-b-end-lt128.true
-
 pub returns : goal.returns
 returns c =
     let r = mark-run c.requires.holds c.args.i (omega arith) (omega arith) (omega arith) in
-    λ h. high_cut r (omega arith) (omega arith) (ltb-true _ _ h)
+    λ h. tail-cut r (omega arith) (omega arith) (sym c.no_tail.ensures ∙ h)

@@ -1,11 +1,15 @@
 -- `checks::check` meets its contract: where the pass says yes, what is left is the answer.
-use mathlib.Core.Path.{sym, ◌∙◌}
+use mathlib.Core.Path.{◌∙◌}
+use Rattle.checks.proofs.AskedLaws.{passes, refuses}
 use Rattle.checks.proofs.CheckedLaws.{says-1}
 use Rattle.checks.proofs.RestLaws.{rest_is}
 use Rattle.checks.proofs.check.Goals as goal
 
-pub returns-then-not-sizes_ok : goal.returns-then-not-sizes_ok
-returns-then-not-sizes_ok c = sym (says-1 _ (sym c.if-not-sizes_ok.ensures))
+pub returns-in_err-asked : goal.returns-in_err-asked
+returns-in_err-asked c =
+    refuses _ c.sizes_ok.ensures c.asked.ensures c.in_err-asked.was c.from_residual.ensures.1 (λ e. says-1 _ e)
 
 pub returns-then-passes : goal.returns-then-passes
-returns-then-passes c = c.rest.ensures ∙ rest_is _ (sym c.if-not-sizes_ok.ensures) (c.passes.ensures c.if-passes.true)
+returns-then-passes c =
+    let sizes = passes _ c.sizes_ok.ensures c.asked.ensures c.in_ok-asked.was in
+    c.rest.ensures ∙ rest_is _ sizes (c.passes.ensures c.if-passes.true)

@@ -1,25 +1,27 @@
 -- `checks::rest` meets its contract: a law for each answer.
-use mathlib.Core.Path.{sym, ◌∙◌}
+use Rattle.checks.proofs.AskedLaws.{passes, refuses, last}
 use Rattle.checks.proofs.RestLaws.{rest_0, rest-3, rest-4, rest-6, rest-7}
 use Rattle.checks.proofs.rest.Goals as goal
 
-pub returns-then-not-texts : goal.returns-then-not-texts
-returns-then-not-texts c = sym (rest-3 _ (sym c.texts_ok-texts.ensures ∙ c.if-not-texts.true))
+pub returns-in_err-asked : goal.returns-in_err-asked
+returns-in_err-asked c =
+    refuses _ c.texts_ok.ensures c.asked.ensures c.in_err-asked.was c.from_residual.ensures.1 (λ e. rest-3 _ e)
 
-pub returns-then-not-locals_ok : goal.returns-then-not-locals_ok
-returns-then-not-locals_ok c =
-    sym (rest-4 _ (sym c.texts_ok-texts.ensures ∙ c.if-not-texts.false) (sym c.if-not-locals_ok.ensures))
+pub returns-in_err-asked-2 : goal.returns-in_err-asked-2
+returns-in_err-asked-2 c =
+    let texts = passes _ c.texts_ok.ensures c.asked.ensures c.in_ok-asked.was in
+    refuses _ c.locals_ok.ensures c.asked-2.ensures c.in_err-asked-2.was c.from_residual-in_err-asked-2.ensures.1 (λ e. rest-4 _ texts e)
 
-pub returns-then-not-entries_ok : goal.returns-then-not-entries_ok
-returns-then-not-entries_ok c =
-    sym (rest-6 _ (sym c.texts_ok-texts.ensures ∙ c.if-not-texts.false) (sym c.if-not-locals_ok.ensures) (sym c.if-not-entries_ok.ensures))
-
-pub returns-then-not-cases_ok : goal.returns-then-not-cases_ok
-returns-then-not-cases_ok c =
-    sym (rest-7 _ (sym c.texts_ok-texts.ensures ∙ c.if-not-texts.false) (sym c.if-not-locals_ok.ensures) (sym c.if-not-entries_ok.ensures)
-    (sym c.if-not-cases_ok.ensures))
+pub returns-in_err-asked-3 : goal.returns-in_err-asked-3
+returns-in_err-asked-3 c =
+    let texts = passes _ c.texts_ok.ensures c.asked.ensures c.in_ok-asked.was in
+    let locals = passes _ c.locals_ok.ensures c.asked-2.ensures c.in_ok-asked-2.was in
+    refuses _ c.entries_ok.ensures c.asked-3.ensures c.in_err-asked-3.was c.from_residual-in_err-asked-3.ensures.1
+    (λ e. rest-6 _ texts locals e)
 
 pub returns : goal.returns
 returns c =
-    sym (rest_0 _ (sym c.texts_ok-texts.ensures ∙ c.if-not-texts.false) (sym c.if-not-locals_ok.ensures) (sym c.if-not-entries_ok.ensures)
-    (sym c.if-not-cases_ok.ensures))
+    let texts = passes _ c.texts_ok.ensures c.asked.ensures c.in_ok-asked.was in
+    let locals = passes _ c.locals_ok.ensures c.asked-2.ensures c.in_ok-asked-2.was in
+    let entries = passes _ c.entries_ok.ensures c.asked-3.ensures c.in_ok-asked-3.was in
+    last _ c.cases_ok.ensures c.asked-4.ensures (λ e. rest-7 _ texts locals entries e) (λ e. rest_0 _ texts locals entries e)

@@ -2,7 +2,6 @@
 use mathlib.Core.Path.{ap, ◌∙◌}
 use native.Mathlib.Omega.{arith}
 use Rattle.expr_rules.specs.Links.{links_left}
-use Rattle.expr_chains.proofs.TestLaws.{some-step}
 use Rattle.expr_rules.proofs.LinksLaws.{links-begin, links-turn, links-over}
 use Rattle.expr_chains.proofs.WalkedLaws.{few-operands, far-begins, far-goes, far-ends}
 use Rattle.expr_chains.proofs.far_of.Goals as goal
@@ -20,8 +19,7 @@ pub loop-p-preserved : goal.loop-p-preserved
 loop-p-preserved c =
     let r = c.loop-p.invariant in
     let u = links-turn c.next.new.self r.left c.in-Some.ensures.steps in
-    far-goes r u (some-step u.says c.ne-flattens.ensures) (c.step_lowers-lowers.ensures _ u.says)
-    (c.width-operands.ensures _ u.says)
+    far-goes r u (c.distance_with.ensures _ u.says) c.min-distance.ensures (c.width-operands.ensures _ u.says)
 
 pub returns : goal.returns
 returns c = far-ends c.loop-p.invariant (links-over c.loop-p.p-iterator c.in-None.ensures.steps.0)

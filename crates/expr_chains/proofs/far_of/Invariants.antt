@@ -3,4 +3,4 @@ use Rattle.expr_chains.proofs.WalkedLaws.{FarLeft}
 use Rattle.expr_chains.proofs.far_of.Given as goal
 
 abbrev pub invariant-loop-p : goal.invariant-loop-p
-invariant-loop-p l = FarLeft l.sheet l.j l.flattens l.lowers l.operands l.p-iterator
+invariant-loop-p l = FarLeft l.sheet l.j l.distance l.operands l.p-iterator

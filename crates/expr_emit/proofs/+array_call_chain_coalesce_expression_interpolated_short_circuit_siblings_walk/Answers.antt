@@ -1,15 +1,17 @@
 -- Each function does to the scratch what its definition does. The measure: four times the levels, plus the
 -- function's rank among its callers.
-use Rattle.sheet.proofs.WalkLaws.{skip_step}
+use Rattle.sheet.proofs.WalkedLaws.{walked-start, walked-on, walked-end}
 use Rattle.std.proofs.Common.{refl, sym, ap, ◌∙◌, arith}
 use Rattle.expr_emit.proofs.EndLaws.{end-held}
 use Rattle.expr_rules.specs.Links.{links_left}
+use Rattle.expr_chains.specs.Walked.{flattens_at, lowers_at}
 use Rattle.expr_rules.proofs.LinksLaws.{links-begin, links-turn, links-over}
 use Rattle.expr_emit.proofs.StepDoes.{link-ends}
 use Rattle.expr_emit.proofs.WalkDoes.{walk-starts, walk-done, walk-fails, walk-on}
-use Rattle.expr_emit.proofs.ArmDoes.{arm-none, arm-boolean, arm-unit, arm-constant, arm-variable, arm-this, arm-residual, arm-interpolated, arm-array, arm-call, arm-chain, arm-and, arm-or, arm-coalesce}
+use Rattle.expr_emit.proofs.ArmDoes.{arm-none, arm-boolean, arm-unit, arm-constant, arm-variable, arm-this, arm-residual, arm-interpolated}
+use Rattle.expr_emit.proofs.ArmDoes.{arm-array, arm-call, arm-chain, arm-and, arm-or, arm-coalesce}
 use Rattle.expr_emit.proofs.CycleMore.{short-does, coalesce-does, call-by-way, chain-does, chain-kept, chain_back}
-use Rattle.expr_emit.proofs.CycleDoes.{skip_first, rows_start, rows-done, rows_more, array-does, array-kept, interpolated-does}
+use Rattle.expr_emit.proofs.CycleDoes.{rows_start, rows-done, rows_more, array-does, array-kept, interpolated-does}
 use Rattle.scratch_store.proofs.DoesLaws.{held-slots, does-held}
 use Rattle.expr_emit.proofs.+array_call_chain_coalesce_expression_interpolated_short_circuit_siblings_walk.Goals as goal
 
@@ -32,27 +34,30 @@ call-returns t c =
     (c.siblings.ensures l)
     (c.close.ensures l))
 
-pub chain-returns-then-far-2 : goal.chain-returns-then-far-2
-chain-returns-then-far-2 t c =
-    let far = c.far_of-far.ensures in
-    λ l C L.
-    chain-does _ _ _ _ C L c.child-root.ensures c.temporary.ensures (sym far.lowers_is ∙ c.if-far-2.true)
-    (c.root_name.ensures l) (c.walk.ensures l) (c.siblings.ensures l)
-    (c.close_chain.ensures l far.operands_are)
+pub chain-returns-in-Nowhere : goal.chain-returns-in-Nowhere
+unfolding flattens_at
+chain-returns-in-Nowhere t c =
+    let flat = sym c.far_of-far.ensures.flattens_is ∙ ap flattens_at c.in-Nowhere.is in
+    λ l C L. chain-kept _ _ flat (c.residual.ensures l _)
 
-pub chain-returns-then-far : goal.chain-returns-then-far
-chain-returns-then-far t c =
+pub chain-returns-in-TakenBack : goal.chain-returns-in-TakenBack
+unfolding flattens_at lowers_at
+chain-returns-in-TakenBack t c =
     let far = c.far_of-far.ensures in
     λ l C L.
-    chain_back c.walk.new.store.state _ _ _ C L c.child-root.ensures (sym far.flattens_is ∙ c.if-far.true)
-    (sym far.lowers_is ∙ c.if-far-2.false) (c.root_name.ensures l) (c.walk.ensures l)
+    chain_back c.walk.new.store.state _ _ _ C L c.child.ensures (sym far.flattens_is ∙ ap flattens_at c.in-TakenBack.is)
+    (sym far.lowers_is ∙ ap lowers_at c.in-TakenBack.is) (c.root_name.ensures l) (c.walk.ensures l)
     c.take_back.ensures
-    (c.residual.ensures l _)
+    (c.residual-in-TakenBack.ensures l _)
 
-pub chain-returns : goal.chain-returns
-chain-returns t c =
+pub chain-returns-in-Whole : goal.chain-returns-in-Whole
+unfolding lowers_at
+chain-returns-in-Whole t c =
+    let far = c.far_of-far.ensures in
     λ l C L.
-    chain-kept _ _ (sym c.far_of-far.ensures.flattens_is ∙ c.if-far.false) (c.residual-2.ensures l _)
+    chain-does _ _ _ _ C L c.child-root.ensures c.temporary.ensures (sym far.lowers_is ∙ ap lowers_at c.in-Whole.is)
+    (c.root_name-in-Whole.ensures l) (c.walk-in-Whole.ensures l) (c.siblings.ensures l)
+    (c.close_chain.ensures l far.operands_are)
 
 pub coalesce-returns : goal.coalesce-returns
 coalesce-returns t c =
@@ -143,19 +148,30 @@ short_circuit-returns t c =
     (c.siblings.ensures l) (c.decision.ensures l _)
 
 pub siblings-loop-i-init : goal.siblings-loop-i-init
-siblings-loop-i-init t c = (skip_first _ _, λ l C R. rows_start _ _ 0 _ _ _)
+siblings-loop-i-init t c =
+    let gives = c.into_iter-i-iterator.ensures.into_iter_gives in
+    let made = c.enumerate-i-items.ensures in
+    let nodes = c.new.ensures in
+    let zero = ap (λ e. e.count) gives ∙ made.count in (
+      walked-start _ _ _ _ (ap (λ e. e.iter) gives ∙ made.source) nodes.sheet nodes.left nodes.at zero,
+      λ l C R. rows_start _ _ 0 _ _ zero _ _,
+    )
 
 pub siblings-loop-i-preserved : goal.siblings-loop-i-preserved
-siblings-loop-i-preserved t c = (
-  skip_step _ _ _ c.loop-i.invariant.0 c.next-j.ensures,
-  λ l C R. rows_more _ _ _ _ _ _ _ (omega arith) c.loop-i.invariant.0 c.position.ensures R
-      (c.loop-i.invariant.1 l C R) (λ u. c.expression.ensures l C u)
-      (c.after_one.ensures l _),
-)
+siblings-loop-i-preserved t c =
+    let steps = c.in-Some.ensures.steps in
+    let goes = walked-on _ _ _ _ _ c.loop-i.invariant.0 steps.0 in
+    rw steps.2 (
+      goes.walked,
+      λ l C R. rows_more _ _ _ _ _ _ _ _ goes.less (omega (arith, steps.1, goes.less)) goes.node c.position.ensures R
+          (c.loop-i.invariant.1 l C R) (λ u. c.expression.ensures l C u)
+          (c.after_one.ensures l _),
+    )
 
 pub siblings-returns : goal.siblings-returns
 siblings-returns t c =
-    λ l C R. rows-done _ _ _ _ _ (omega arith) (omega arith) (c.loop-i.invariant.1 l C R)
+    let is = walked-end _ _ _ _ _ c.loop-i.invariant.0 c.in-None.ensures.steps.0.0 in
+    λ l C R. rows-done _ _ _ _ _ is (c.loop-i.invariant.1 l C R)
 
 pub walk-loop-p-init : goal.walk-loop-p-init
 walk-loop-p-init t c =

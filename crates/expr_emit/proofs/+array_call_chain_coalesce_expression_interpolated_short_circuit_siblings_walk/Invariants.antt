@@ -1,6 +1,6 @@
 -- Each function does to the scratch what its definition does. The measure: four times the levels, plus the
 -- function's rank among its callers.
-use Rattle.std.proofs.Common.{◌≡◌, ◌+◌, ◌*◌}
+use Rattle.std.proofs.Common.{◌+◌, ◌*◌}
 use Rattle.expr_rules.specs.Links.{nodes_left}
 use Rattle.expr_rules.proofs.LinksLaws.{Left}
 use Rattle.expr_emit.proofs.WalkDoes.{Walking}
@@ -9,7 +9,8 @@ use Rattle.expr_model.specs.Made.{lowered}
 use Rattle.scratch_store.specs.Stores.{Done}
 use Rattle.expr_emit.specs.Linked.{Linked}
 use Rattle.lowering.specs.Nodes.{Right, Row}
-use Rattle.sheet.specs.Walk.{skip}
+use Rattle.sheet.specs.Rest.{rest}
+use Rattle.sheet.proofs.WalkedLaws.{Walked}
 use Rattle.scratch.specs.declared.Layout.{Layout}
 use Rattle.expr_emit.proofs.+array_call_chain_coalesce_expression_interpolated_short_circuit_siblings_walk.Given as goal
 
@@ -42,12 +43,14 @@ decreases-walk l = 4 * l.levels + 2
 
 abbrev pub invariant-siblings-loop-i : goal.invariant-siblings-loop-i
 invariant-siblings-loop-i v =
-    (v.j ≡ skip v.sheet v.i v.from)
+    let i = v.i-iterator.count in
+    Walked v.sheet v.from v.n i (rest v.i-iterator.iter)
     × ((l : Layout) → Right v.sheet → Row v.sheet v.n v.from
-    → Done v.sheet l v.initial.store v.store (rows v.sheet (lowered v.levels v.sheet) v.by v.i v.from))
+    → Done v.sheet l v.initial.store v.store (rows v.sheet (lowered v.levels v.sheet) v.by i v.from))
 
 abbrev pub invariant-walk-loop-p : goal.invariant-walk-loop-p
 invariant-walk-loop-p v =
     Left v.sheet v.p-iterator
     × ((l : Layout) → Right v.sheet → Linked v.sheet v.j
-    → Walking v.sheet l v.levels v.j v.initial.store.scratch.now v.initial.store.state v.store.scratch.now v.store.state (nodes_left v.p-iterator))
+    → Walking v.sheet l v.levels v.j v.initial.store.scratch.now v.initial.store.state v.store.scratch.now v.store.state
+    (nodes_left v.p-iterator))

@@ -3,8 +3,7 @@ use mathlib.Core.Path.{◌≡◌}
 use lib.ListN.{length}
 use Rattle.image_read.specs.Pools.{kind_of}
 use Rattle.image_spans.specs.Leaves.{Put}
-use Rattle.image_spans.proofs.PutLaws.{At}
 use Rattle.image_spans.proofs.put_targets.Given as goal
 
 abbrev pub invariant-loop-j : goal.invariant-loop-j
-invariant-loop-j l = (length l.t ≡ length l.initial.t) × At l.image.words.now (kind_of l.fn.pool) l.j l.from × Put l.image.words.now (kind_of l.fn.pool) l.at l.j l.initial.t l.t
+invariant-loop-j l = (length l.t ≡ length l.initial.t) × Put l.image.words.now (kind_of l.fn.pool) l.at l.j l.initial.t l.t

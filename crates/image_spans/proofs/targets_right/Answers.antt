@@ -15,6 +15,12 @@ returns-then-scratch-size c =
     let m = image.sized.ranges ∙ ap ranges c.of-image.ensures in
     λ s lie. absurd (omega (arith, rows-fit s, n, m, c.if-scratch-size.true))
 
+pub put_targets-requires : goal.put_targets-requires
+put_targets-requires c = omega (arith, length-take-le _ _ c.if-scratch-size.false)
+
+pub put_targets-requires-2 : goal.put_targets-requires-2
+put_targets-requires-2 c = omega (arith, length-take-le _ _ c.if-scratch-size.false, c.put_targets.auto.t)
+
 pub returns : goal.returns
 unfolding kind_of
 returns c =

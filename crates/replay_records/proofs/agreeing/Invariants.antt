@@ -1,7 +1,6 @@
--- `replay_records::agreeing` meets its contract: no more records agree than are passed.
-use Rattle.std.proofs.Common.{◌≤◌}
-use denote.Param.Always.{always_mut}
+-- `replay_records::agreeing` meets its contract: what the calls so far answered.
+use Rattle.replay_records.specs.Agreed.{Agreed}
 use Rattle.replay_records.proofs.agreeing.Given as goal
 
 abbrev pub invariant-loop : goal.invariant-loop
-invariant-loop g l = (l.same ≤ l.counter) × (always_mut g.F.FnMut l.initial.compare → always_mut g.F.FnMut l.compare)
+invariant-loop g l = Agreed (goal.F-post g l.compare) l.initial.reader l.counter l.same l.reader

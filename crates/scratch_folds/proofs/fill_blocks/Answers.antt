@@ -1,7 +1,7 @@
 -- `scratch_folds::fill_blocks` meets its contract. Invariant: the folds over the blocks passed are written, and h is the last of them.
-use native.Mathlib.Omega.{arith}
-use Rattle.scratch_folds.proofs.SumsLaws.{filling-starts, filling-goes, filling-length, filling-ends}
-use borrow.Author.Rules.{rules}
+use Rattle.std.proofs.Common.{ℕ, ◌/◌, List, length, [], get_or, ap, ◌∙◌, arith}
+use Rattle.scratch_folds.proofs.HashLaws.{chunk_at}
+use Rattle.scratch_folds.proofs.SumsLaws.{filling-starts, filling-goes, filling-ends}
 use Rattle.scratch_folds.proofs.fill_blocks.Goals as goal
 
 pub loop-k-init : goal.loop-k-init
@@ -9,21 +9,15 @@ loop-k-init c =
     let a = c.args in
     filling-starts a.b.now a.at a.scratch.now
 
-pub fold_on-h-requires : goal.fold_on-h-requires
-fold_on-h-requires c = let w = c.loop-k.invariant.word in search rules
-
 pub loop-k-preserved : goal.loop-k-preserved
 loop-k-preserved c =
     let w = c.loop-k in
     let a = c.args in
-    filling-goes a.b.now a.at w.k w.h _ _ a.scratch.now w.scratch _ w.invariant (omega arith) c.part.ensures
+    let e = c.as_chunks.ensures in
+    let b = a.b.now in
+    let item = ap (λ (f : List (List ℕ)). get_or f w.k []) e.front ∙ chunk_at 1024 (length b / 1024) b w.k (omega arith) in
+    filling-goes b a.at w.k w.h _ _ a.scratch.now w.scratch _ w.invariant (omega arith) item
     c.fold_on-h.ensures c.put.ensures
-
-pub shape_of-scratch : goal.shape_of-scratch
-shape_of-scratch c =
-    let w = c.loop-k in
-    let a = c.args in
-    filling-length a.b.now a.at w.k w.h a.scratch.now w.scratch w.invariant
 
 pub returns : goal.returns
 returns c =

@@ -1,23 +1,35 @@
--- `bytecode::table::effect_of` meets its contract: what is no kind has no effect.
-use mathlib.Core.Path.{sym, ap}
+-- `bytecode::table::effect_of` meets its contract: the table has the definition's rows, in the code's names.
+use mathlib.Core.Path.{◌≡◌, ◌∙◌, ap}
+use mathlib.Core.List.{map}
 use native.Mathlib.Omega.{arith}
+use lib.ListN.{get_or}
+use Rattle.std.specs.Option.{unwrap_or}
 use Rattle.bytecode.specs.Coded.{count_of, flow_of}
-use Rattle.bytecode.proofs.TableLaws.{no_effect}
+use Rattle.bytecode.specs.Effect.{row, effects, effect, fixed, on}
+use Rattle.bytecode.proofs.RowLaws.{coded_of, top_of, coded_flow, is_effect, counted_back, flows_back}
 use Rattle.bytecode.proofs.table.effect_of.Goals as goal
 
-pub returns-in_default-clause-pops : goal.returns-in_default-clause-pops
-returns-in_default-clause-pops c = sym (ap (λ e. e.pops) (no_effect _ (λ h. omega arith)))
+-- what is read is the row
+is-row : (c : goal.After-unwrap_or) → c.unwrap_or.result ≡ coded_of (effect c.args.kind)
+unfolding top_of coded_flow
+is-row c =
+    let k = c.args.kind in
+    let none = coded_of (row 0 0 0 fixed on) in
+    let read : c.unwrap_or.result ≡ get_or (map coded_of effects) k none =
+    c.unwrap_or.ensures ∙ ap (λ o. unwrap_or o none) c.copied.ensures ∙ c.get.ensures.lookup.4 (omega arith) none in
+    read ∙ is_effect k
 
-pub returns-in_default-clause-pushes : goal.returns-in_default-clause-pushes
-returns-in_default-clause-pushes c = sym (ap (λ e. e.pushes) (no_effect _ (λ h. omega arith)))
+pub returns-clause-pops : goal.returns-clause-pops
+returns-clause-pops c = ap (λ e. e.pops) (is-row c)
 
-pub returns-in_default-clause-keeps : goal.returns-in_default-clause-keeps
-returns-in_default-clause-keeps c = sym (ap (λ e. e.keeps) (no_effect _ (λ h. omega arith)))
+pub returns-clause-pushes : goal.returns-clause-pushes
+returns-clause-pushes c = ap (λ e. e.pushes) (is-row c)
 
-pub returns-in_default-clause-top : goal.returns-in_default-clause-top
-unfolding count_of
-returns-in_default-clause-top c = sym (ap (λ e. e.count) (no_effect _ (λ h. omega arith)))
+pub returns-clause-keeps : goal.returns-clause-keeps
+returns-clause-keeps c = ap (λ e. e.keeps) (is-row c)
 
-pub returns-in_default-clause-flow : goal.returns-in_default-clause-flow
-unfolding flow_of
-returns-in_default-clause-flow c = sym (ap (λ e. e.flow) (no_effect _ (λ h. omega arith)))
+pub returns-clause-top : goal.returns-clause-top
+returns-clause-top c = ap (λ e. count_of e.top) (is-row c) ∙ counted_back _
+
+pub returns-clause-flow : goal.returns-clause-flow
+returns-clause-flow c = ap (λ e. flow_of e.flow) (is-row c) ∙ flows_back _

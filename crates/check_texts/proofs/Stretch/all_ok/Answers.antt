@@ -1,17 +1,19 @@
--- `check_texts::Stretch::all_ok` meets its contract. The loop's invariant: the texts passed are right, if they are due. Assumes nothing.
+-- `check_texts::Stretch::all_ok` meets its contract: each text that is due is asked. Assumes nothing.
+use Rattle.std.proofs.Common.{rules}
+use Rattle.std.proofs.lemmas.Iterator.{YieldsList-from_range, cases_from_all}
+use mathlib.Core.Path.{refl}
+use mathlib.Core.Bool.{true, false}
+use Prim.Native.Nat.{◌+◌}
 use native.Mathlib.Omega.{arith}
-use Rattle.check_texts.proofs.TextsLaws.{due-none, due-more, due-fails, due_all}
+use Rattle.check_texts.specs.Marks.{stretch, Due}
+use Rattle.check_texts.proofs.TextsLaws.{due-chain}
 use Rattle.check_texts.proofs.Stretch.all_ok.Goals as goal
 
-pub loop-t-init : goal.loop-t-init
-loop-t-init c = due-none _ _ _
-
-pub loop-t-preserved : goal.loop-t-preserved
-loop-t-preserved c = due-more c.loop-t.t c.loop-t.invariant c.due_ok.ensures c.if-not-due_ok.false
-
-pub returns-then-not-due_ok : goal.returns-then-not-due_ok
-returns-then-not-due_ok c =
-    due-fails c.loop-t.t (omega (arith, c.args.self.now.texts.read.count_is)) c.due_ok.ensures c.if-not-due_ok.true
-
 pub returns : goal.returns
-returns c = due_all c.loop-t.t (omega (arith, c.args.self.now.texts.read.count_is)) c.loop-t.invariant
+returns c =
+    let texts = c.args.self.now.texts in
+    let s = texts.sheet.now in
+    let base = c.args.self.now.base in
+    due-chain texts.count texts.read.count_is _
+    (cases_from_all _ _ _ (λ t. Due s t base (base + stretch) true) (λ t. Due s t base (base + stretch) false) c.all.ensures.ran
+    (YieldsList-from_range 0 texts.count texts.count refl (omega arith)) (λ t q k. search rules) (λ t q k. search rules))

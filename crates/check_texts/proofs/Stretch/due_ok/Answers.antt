@@ -1,4 +1,5 @@
--- `check_texts::Stretch::due_ok` meets its contract: a text that is not due, one that is known to be right, and one that is read. Assumes nothing.
+-- `check_texts::Stretch::due_ok` meets its contract: a text that is not due, one that is known to be right, and one
+-- that is read. Assumes nothing.
 use native.Mathlib.Omega.{arith}
 use Rattle.check_texts.proofs.TextsLaws.{due-early, due-late, due-known, due-read}
 use Rattle.check_texts.proofs.Stretch.due_ok.Goals as goal

@@ -1,4 +1,5 @@
--- `check_texts::Texts::inside_ok` meets its contract: where the text bytes are ASCII, a text that lies within them is right. Assumes nothing.
+-- `check_texts::Texts::inside_ok` meets its contract: where the text bytes are ASCII, a text that lies within
+-- them is right. Assumes nothing.
 use mathlib.Core.Path.{sym}
 use Rattle.check_texts.proofs.PlainLaws.{plain-texts}
 use Rattle.check_texts.proofs.Texts.inside_ok.Goals as goal

@@ -1,4 +1,5 @@
--- `check_texts::Texts::total` meets its contract: the sum fits. The loop's invariant: it is below 2 ^ 32 for each text passed. Assumes nothing.
+-- `check_texts::Texts::total` meets its contract: the sum fits. The loop's invariant: it is below 2 ^ 32 for
+-- each text passed. Assumes nothing.
 use Prim.Native.Nat.{◌≤◌, ◌*◌, ◌^◌}
 use Rattle.check_texts.proofs.Texts.total.Given as goal
 

@@ -9,11 +9,11 @@ use Rattle.expr_count.proofs.tallies.spaced.Goals as goal
 most : (a b : ℕ) → a ≤ 4294967295 → b ≤ 4294967295 → a * b ≤ 18446744065119617025
 most a b h k = omega (arith, mul-le-mul_right b h)
 
-pub overflow_mul-k : goal.overflow_mul-k
-overflow_mul-k c = omega (arith, most c.from-2.result c.from-3.result (omega arith) (omega arith))
+pub overflow_mul-from : goal.overflow_mul-from
+overflow_mul-from c = omega (arith, most c.from-2.result c.from-3.result (omega arith) (omega arith))
 
-pub overflow_add-k : goal.overflow_add-k
-overflow_add-k c = omega (arith, most c.from-2.result c.from-3.result (omega arith) (omega arith))
+pub overflow_add-from : goal.overflow_add-from
+overflow_add-from c = omega (arith, most c.from-2.result c.from-3.result (omega arith) (omega arith))
 
 pub returns : goal.returns
 unfolding instructions

@@ -5,14 +5,14 @@ use Rattle.switch_emit.proofs.ArmDoes.{arms-begin, arms-on, arms_end}
 use Rattle.switch_emit.proofs.arms.list_arms.Goals as goal
 
 pub loop-i-init : goal.loop-i-init
-loop-i-init g c = λ l ls C G known H D. arms-begin _ _ _ _
+loop-i-init g c = λ l ls falls C G known H D. arms-begin _ _ _ _
 
 pub loop-i-preserved : goal.loop-i-preserved
 loop-i-preserved g c =
-    λ l ls C G known H D.
-    arms-on (c.loop-i.invariant l ls C G known H D) H _ refl _ _ (omega arith) c.get.ensures
-    (c.list-list.ensures.list known (omega arith)) (rw c.none_behind.ensures (D c.loop-i.i)) (c.arm.ensures l C G)
+    λ l ls falls C G known H D.
+    arms-on (c.loop-i.invariant l ls falls C G known H D) H _ refl _ _ (omega arith) c.get.ensures
+    (c.list-list.ensures.list known (omega arith)) D (c.arm.ensures l _ _ c.kept.ensures C G)
 
 pub returns : goal.returns
 returns g c =
-    λ l ls C G known H D. arms_end (c.loop-i.invariant l ls C G known H D) H _ refl (omega arith)
+    λ l ls falls C G known H D. arms_end (c.loop-i.invariant l ls falls C G known H D) H _ refl (omega arith)

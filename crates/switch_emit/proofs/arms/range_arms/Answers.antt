@@ -8,4 +8,4 @@ pub returns : goal.returns
 returns c =
     λ l C T.
     let all = capped-all _ _ _ _ c.min-n.ensures c.get.ensures T.few_band_heads in
-    arms-as _ _ _ c.get-to.ensures (c.list_arms.ensures l _ C T.guards T.few_spans (rw all (band_heads C T)) (λ i. refl))
+    arms-as _ _ _ c.get-to.ensures (c.list_arms.ensures l _ _ C T.guards T.few_spans (rw all (band_heads C T)) (λ i lt tried. refl))

@@ -1,8 +1,10 @@
 -- `switch_emit::bodies::bodies` meets its contract. The invariant: what is left of the bodies.
 use Rattle.switch_emit.proofs.BodyDoes.{bodies-begin, bodies-on, bodies-end}
-use Rattle.switch_emit.proofs.TableLaws.{capped-all, capped-below, behind-is}
-use Rattle.std.proofs.Common.{◌∙◌, arith}
+use Rattle.switch_emit.proofs.TableLaws.{capped-all, capped-below, last-at}
+use Rattle.std.proofs.Common.{refl, ap, ◌∙◌, arith}
+use Rattle.switch_emit.specs.Parts.{goes}
 use Rattle.switch_emit.proofs.bodies.bodies.Goals as goal
+use Rattle.switch_emit.proofs.bodies.bodies.Goals.{then-falls, else-falls}
 
 pub loop-k-init : goal.loop-k-init
 loop-k-init c = λ l C T. bodies-begin _ _ _
@@ -10,9 +12,13 @@ loop-k-init c = λ l C T. bodies-begin _ _ _
 pub loop-k-preserved : goal.loop-k-preserved
 loop-k-preserved c =
     λ l C T.
-    bodies-on (c.loop-k.invariant l C T) _ (c.none_behind.ensures ∙ behind-is _ _ _ _ c.last_wanted-last.ensures)
+    bodies-on (c.loop-k.invariant l C T) _
+    (elim c.if-falls.branch [
+      | then-falls w ↦ rw (w.if-falls.true, w.dropped-is) (λ on. last-at _ _ _ _ w.last_wanted-dropped.ensures (omega arith) on)
+      | else-falls w ↦ rw (w.if-falls.false, w.dropped-is) (λ on. refl)
+    ])
     (omega arith)
-    (c.body.ensures l C T.guards
+    (c.body.ensures l _ (c.kept.ensures ∙ ap (goes _) c.get-end.ensures) C T.guards
     (capped-below _ _ _ _ c.min-n.ensures c.field_a.ensures
     (omega arith)))
 

@@ -7,4 +7,5 @@ use Rattle.switch_emit.proofs.bodies.bodies.Given as goal
 
 abbrev pub invariant-loop-k : goal.invariant-loop-k
 invariant-loop-k v =
-    (l : Layout) → Ready v.sheet → Tables v.sheet v.flat → BodiesLeft v.sheet l v.initial.store.scratch.now v.initial.store.state v.flat v.falls v.n v.store.scratch.now v.store.state v.k
+    (l : Layout) → Ready v.sheet → Tables v.sheet v.flat
+    → BodiesLeft v.sheet l v.initial.store.scratch.now v.initial.store.state v.flat v.falls v.n v.store.scratch.now v.store.state v.k

@@ -4,9 +4,8 @@ use Rattle.switch_emit.proofs.jumps.end_arm.Goals as goal
 
 pub returns-then-any : goal.returns-then-any
 returns-then-any c =
-    λ l.
-    λ s. end-jumps _ _ _ c.if-any.true (c.jump.ensures l s)
+    λ l s drop place e.
+    end-jumps _ _ _ c.if-any.true (c.jump.ensures l s drop place e)
 
 pub returns-else-any : goal.returns-else-any
-returns-else-any c = λ l.
-    λ s. end_none _ _ _ c.if-any.false
+returns-else-any c = λ l s drop place e. end_none _ _ _ c.if-any.false

@@ -1,9 +1,10 @@
--- `switch_intervals::RangeNodes::points` meets its contract. The invariant is `Pointing`: the end points of the ranges passed stand in the array.
+-- `switch_intervals::RangeNodes::points` meets its contract. The invariant is `Pointing`: the end points of the
+-- ranges passed stand in the array.
 use mathlib.Core.Path.{ap, ◌∙◌}
 use native.Mathlib.Omega.{arith}
 use borrow.Author.Rules.{rules, sfits_of}
 use Rattle.switch_intervals.proofs.FirstLaws.{pointing-start, pointing-on, pointing-end}
-use Rattle.switch_intervals.proofs.WalkedLaws.{walked-start, walked-on, walked-end}
+use Rattle.sheet.proofs.WalkedLaws.{walked-start, walked-on, walked-end}
 use Rattle.switch_intervals.proofs.RangeNodes.points.Goals as goal
 
 pub loop-i-init : goal.loop-i-init

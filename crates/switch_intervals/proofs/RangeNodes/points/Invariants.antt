@@ -1,7 +1,8 @@
--- `switch_intervals::RangeNodes::points` meets its contract. The invariant is `Pointing`: the end points of the ranges passed stand in the array.
+-- `switch_intervals::RangeNodes::points` meets its contract. The invariant is `Pointing`: the end points of the
+-- ranges passed stand in the array.
 use Rattle.sheet.specs.Rest.{rest}
 use Rattle.switch_intervals.proofs.FirstLaws.{Pointing}
-use Rattle.switch_intervals.proofs.WalkedLaws.{Walked}
+use Rattle.sheet.proofs.WalkedLaws.{Walked}
 use Rattle.switch_intervals.proofs.RangeNodes.points.Given as goal
 
 abbrev pub invariant-loop-i : goal.invariant-loop-i

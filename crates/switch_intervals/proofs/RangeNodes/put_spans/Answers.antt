@@ -1,9 +1,10 @@
--- `switch_intervals::RangeNodes::put_spans` meets its contract. The invariant is `Spanning`: the ranges passed stand in the table, and are marked.
+-- `switch_intervals::RangeNodes::put_spans` meets its contract. The invariant is `Spanning`: the ranges passed
+-- stand in the table, and are marked.
 use mathlib.Core.Path.{ap, ◌∙◌}
 use native.Mathlib.Omega.{arith}
 use Rattle.switch_split.proofs.HeldLaws.{excesses-length}
 use Rattle.switch_intervals.proofs.SpanLaws.{spanning-start, spanning-on, spanning-end}
-use Rattle.switch_intervals.proofs.WalkedLaws.{walked-start, walked-on, walked-end}
+use Rattle.sheet.proofs.WalkedLaws.{walked-start, walked-on, walked-end}
 use Rattle.switch_intervals.proofs.RangeNodes.put_spans.Goals as goal
 
 pub loop-i-init : goal.loop-i-init

@@ -1,8 +1,9 @@
--- `switch_intervals::RangeNodes::put_spans` meets its contract. The invariant is `Spanning`: the ranges passed stand in the table, and are marked.
+-- `switch_intervals::RangeNodes::put_spans` meets its contract. The invariant is `Spanning`: the ranges passed
+-- stand in the table, and are marked.
 use Rattle.sheet.specs.Rest.{rest}
 use Rattle.switch_split.specs.Held.{excesses}
 use Rattle.switch_intervals.proofs.SpanLaws.{Spanning}
-use Rattle.switch_intervals.proofs.WalkedLaws.{Walked}
+use Rattle.sheet.proofs.WalkedLaws.{Walked}
 use Rattle.switch_intervals.proofs.RangeNodes.put_spans.Given as goal
 
 abbrev pub invariant-loop-i : goal.invariant-loop-i

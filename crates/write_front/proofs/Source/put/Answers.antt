@@ -1,4 +1,5 @@
 -- `write_front::Source::put` meets its contract: one part behind the other, by the layout that the counts tell.
+use Rattle.std.proofs.Common.{rules}
 use Rattle.scratch_store.proofs.DoesLaws.{laid-is}
 use Rattle.scratch_store.specs.Holds.{Holds}
 use Rattle.write_front.proofs.PutsLaws.{puts-as, puts-next}
@@ -18,7 +19,7 @@ returns c =
     let h = subst (λ (k : Layout). Holds it.sheet.now k it.scratch.now it.state m) (sym (laid-is g)) g in
     let z = c.sizes-n.ensures m h in
     let one = puts-as _ (front_sizes m t.switches t.cases t.ranges) z
-    (c.put_sizes-e.ensures (ap length z ∙ sizes-length m t.switches t.cases t.ranges)) in
+    (c.put_section-e.ensures _ (ap length z ∙ sizes-length m t.switches t.cases t.ranges) (λ b a l w. search rules)) in
     let two = puts-next _ _ one (c.put_code-f.ensures m h) in
     let three = puts-next _ _ two (c.put_pools-g.ensures m h) in
     puts-as _ _ (front-parts m t.switches t.cases t.ranges)

@@ -1,60 +1,38 @@
 -- `write_front::Source::put_chains` meets its contract: a part of the image becomes the section.
-use Rattle.write_front.proofs.RoomLaws.{end_fits, place-fits, none-puts, rows-length, few-steps}
-use Rattle.write_front.proofs.FrontLaws.{chains-few, chain-rows, chains-inside, chains-written}
-use Rattle.write_front.proofs.PutsLaws.{puts-part}
-use Rattle.lowering.specs.Limits.{chain_width}
-use Rattle.lowering.specs.Image.{section}
-use Rattle.bytecode.specs.Chain.{chain_words}
-use Rattle.scratch.proofs.RegionLaws.{region-length}
-use Rattle.scratch.specs.declared.Layout.{Layout}
-use Rattle.scratch_store.specs.Holds.{Holds}
+use native.Mathlib.Omega.{arith}
 use Prim.Native.Nat.{◌*◌}
-use lib.ListN.{length}
-use mathlib.Core.Path.{refl, sym, ap, subst, ◌∙◌}
+use mathlib.Core.Path.{refl, sym, ap, ◌∙◌}
+use Rattle.lowering.specs.Limits.{chain_width}
+use Rattle.write_front.proofs.RoomLaws.{few-steps, part_length}
+use Rattle.write_front.proofs.PutsLaws.{puts-part, puts_none}
+use Rattle.write_front.proofs.FrontLaws.{chains-few, chain-keys-long, chain-rows, chains-written}
 use Rattle.write_front.proofs.Source.put_chains.Goals as goal
 
-pub returns-in_default : goal.returns-in_default
-returns-in_default c =
-    let it = c.args.self.now in
-    let p = c.chains_at in
-    λ m g.
-    let h = subst (λ (k : Layout). Holds it.sheet.now k it.scratch.now it.state m) (sym c.layout-layout.ensures) g in
-    absurd (chains-inside h p.result p.ensures c.in_default.ensures)
+pub returns-then-keys-gt-MAX_CHAINS : goal.returns-then-keys-gt-MAX_CHAINS
+returns-then-keys-gt-MAX_CHAINS c =
+    λ m h. absurd (chains-few h (omega (arith, c.if-keys-gt-MAX_CHAINS.true, chain-keys-long h (c.chain_keys-keys.ensures m h))))
 
 pub returns-then-beyond : goal.returns-then-beyond
 returns-then-beyond c =
-    let a = c.args in
-    let it = a.self.now in
-    λ m h. none-puts a.image.now a.at (chain_width * it.state.chains) (section chain_words m.pools.chains) (chain-rows h)
-    (c.beyond.ensures.beyond c.if-beyond.true)
+    λ m h. puts_none _ _ _ (omega (
+      arith,
+      c.beyond.ensures.beyond c.if-beyond.true,
+      chain-rows h,
+      chain-keys-long h (c.chain_keys-keys.ensures m h),
+    ))
 
 pub overflow_add-e : goal.overflow_add-e
-overflow_add-e c =
-    end_fits _ _ _ (c.beyond.ensures.within c.if-beyond.false) c.well_formed.1.0.0
-
-pub offset_bounds-image-at : goal.offset_bounds-image-at
-offset_bounds-image-at c =
-    place-fits _ _ _ (c.beyond.ensures.within c.if-beyond.false) c.well_formed.1.0.1
-
-pub returns-then-k-gt-MAX_CHAINS : goal.returns-then-k-gt-MAX_CHAINS
-returns-then-k-gt-MAX_CHAINS c = λ m h. absurd (chains-few h c.if-k-gt-MAX_CHAINS.true)
+overflow_add-e c = omega (arith, c.beyond.ensures.within c.if-beyond.false)
 
 pub chains-requires : goal.chains-requires
-chains-requires c =
-    let a = c.args in
-    let it = a.self.now in
-    let keys = c.in-Some.ensures in
-    let many = ap length keys.1 ∙ region-length c.chains_at.result it.state.chains it.scratch.now keys.0 in record {
-      out_len = rows-length a.image.now _ a.at 6 it.state.chains _ (c.beyond.ensures.within c.if-beyond.false) many refl;
-      js_bound = few-steps it.sheet.now _ it.state.chains many c.if-k-gt-MAX_CHAINS.false;
-    }
+chains-requires c = record {
+  out_len = part_length _ _ _ (c.beyond.ensures.within c.if-beyond.false);
+  js_bound = few-steps _ _ _ refl c.if-keys-gt-MAX_CHAINS.false;
+}
 
 pub returns : goal.returns
 returns c =
-    let a = c.args in
-    let it = a.self.now in
-    let p = c.chains_at in
-    λ m g.
-    let h = subst (λ (k : Layout). Holds it.sheet.now k it.scratch.now it.state m) (sym c.layout-layout.ensures) g in
-    puts-part a.image.now a.at (chain_width * it.state.chains) _ (section chain_words m.pools.chains)
-    (chains-written h p.result p.ensures _ _ c.in-Some.ensures.1 c.chains.ensures) (chain-rows h)
+    λ m h.
+    let keys = c.chain_keys-keys.ensures m h in
+    puts-part _ _ _ _ _ (chains-written h c.names.ensures.sheet (c.names.ensures.held m h) keys refl c.chains.ensures)
+    (chain-rows h ∙ ap (λ i. chain_width * i) (sym (chain-keys-long h keys)))

@@ -1,8 +1,9 @@
 -- `write_front::Source::put_code` meets its contract: one part behind the other.
-use Rattle.write_front.proofs.FrontLaws.{code_put, positions-put}
-use Rattle.write_front.proofs.PutsLaws.{puts-next}
+use Rattle.std.proofs.Common.{rules}
+use Rattle.write_front.proofs.FrontLaws.{code-are, positions-are}
+use Rattle.write_front.proofs.PutsLaws.{puts-as, puts-next}
 use Rattle.write_front.specs.Front.{code_part}
-use mathlib.Core.Path.{sym, subst}
+use mathlib.Core.Path.{refl, sym, subst}
 use Rattle.scratch.specs.declared.Layout.{Layout}
 use Rattle.scratch_store.specs.Holds.{Holds}
 use Rattle.write_front.proofs.Source.put_code.Goals as goal
@@ -13,5 +14,7 @@ returns c =
     let it = c.args.self.now in
     λ m g.
     let h = subst (λ (k : Layout). Holds it.sheet.now k it.scratch.now it.state m) (sym c.layout.ensures) g in
-    puts-next _ _ (code_put h c.put_rows-e.ensures)
-    (positions-put h c.positions_at-b.result c.positions_at-b.ensures c.put_rows.ensures)
+    puts-next _ _
+    (puts-as _ _ (code-are h c.keys-code.ensures) (c.put_section-e.ensures _ refl (λ b a l w. search rules)))
+    (puts-as _ _ (positions-are h c.positions_at.ensures c.keys-positions.ensures)
+    (c.put_section.ensures _ refl (λ b a l w. search rules)))

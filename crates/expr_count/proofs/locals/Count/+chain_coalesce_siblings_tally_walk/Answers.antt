@@ -5,17 +5,17 @@ use Rattle.expr_count.specs.Locals.{answer}
 use Rattle.expr_count.specs.Link.{reach_number}
 use Rattle.expr_count.specs.Plan.{is_leaf}
 use Rattle.expr_count.proofs.CodeLaws.{sum-none, leaf-tally, tally-none, tally-coalesce, tally-chain}
-use Rattle.expr_count.proofs.AnswerLaws.{chain-plain, sum-begins, sum-passes}
+use Rattle.expr_count.proofs.AnswerLaws.{chain-plain, rest-is, sum-begins, sum-more, sum-passes}
 use Rattle.expr_count.proofs.AnswerLaws.{sum_goes, sum-ends, coalesce-counted, tally-parted}
 use Rattle.expr_count.proofs.AnswerLaws.{walk_begins, walk-goes, walk-failed, walk-lost, walk_ends}
-use Rattle.expr_count.proofs.AnswerLaws.{lowers-two, reach-begins, reach-goes, reach-lost, reach-ends}
+use Rattle.expr_count.proofs.AnswerLaws.{reach-begins, reach-goes, reach-lost, reach-ends}
+use Rattle.expr_count.proofs.FarLaws.{comes-least}
 use Rattle.expr_count.proofs.AnswerLaws.{chain-stayed, chain-failed, chain-lowered}
 use native.Mathlib.Omega.{arith}
 use Rattle.expr_rules.specs.Links.{links_left}
 use Rattle.expr_rules.proofs.LinksLaws.{links-begin, links-turn, links-over}
 use Rattle.expr_count.specs.Count as counts
 use Rattle.expr_count.proofs.locals.Count.+chain_coalesce_siblings_tally_walk.Goals as goal
-use Rattle.expr_count.proofs.locals.Count.+chain_coalesce_siblings_tally_walk.Goals.{siblings-then-is_leaf, siblings-else-is_leaf}
 
 pub chain-returns-then-is_plain : goal.chain-returns-then-is_plain
 chain-returns-then-is_plain t c =
@@ -69,45 +69,45 @@ siblings-returns-then-n-eq0 t c =
     sum-none it.sheet.now (counts.tally_by (answer it.told it.sheet.now) a.levels it.sheet.now) a.gap a.n a.from
     c.if-n-eq0.true c.nothing.ensures
 
-pub siblings-loop-i-init : goal.siblings-loop-i-init
-siblings-loop-i-init t c =
+pub siblings-loop-j-init : goal.siblings-loop-j-init
+siblings-loop-j-init t c =
     let a = c.args in
     let it = a.self.now in
-    sum-begins it.sheet.now (counts.tally_by (answer it.told it.sheet.now) a.levels it.sheet.now) a.gap a.n
-    a.from
-    c.nothing-sum.ensures
+    let w = c.new-j-items.ensures in
+    let whole = rest-is c.into_iter-j-iterator.ensures.into_iter_gives w.sheet w.left w.at in
+    sum-begins it.sheet.now (counts.tally_by (answer it.told it.sheet.now) a.levels it.sheet.now) a.gap a.n a.from c.nothing-sum.ensures
+    whole
 
 pub siblings-overflow_add-leaves : goal.siblings-overflow_add-leaves
 siblings-overflow_add-leaves t c =
-    let l = c.loop-i in
-    omega (arith, l.invariant.few)
-
-pub siblings-loop-i-preserved : goal.siblings-loop-i-preserved
-siblings-loop-i-preserved t c =
-    let l = c.loop-i in
     let a = c.args in
     let it = a.self.now in
     let s = it.sheet.now in
-    let rec = counts.tally_by (answer it.told s) a.levels s in
+    omega (arith, sum-more s (counts.tally_by (answer it.told s) a.levels s) a.gap a.n a.from c.loop-j.invariant c.in-Some.ensures.steps)
+
+pub siblings-loop-j-preserved-then-is_leaf : goal.siblings-loop-j-preserved-then-is_leaf
+siblings-loop-j-preserved-then-is_leaf t c =
+    let a = c.args in
+    let it = a.self.now in
+    let s = it.sheet.now in
     let leaf-is = c.is_leaf.ensures ∙ ap is_leaf c.kind.ensures in
-    elim c.if-is_leaf.branch [
-      | siblings-then-is_leaf w ↦
-          let one = leaf-tally (answer it.told s) a.levels s l.j (sym leaf-is ∙ w.if-is_leaf.true) in
-          sum-passes s rec a.gap a.n a.from l.leaves l._i l.j l.sum l.invariant c.loop-i-test.true one w.sum-is w.leaves-is
-          c.next-j.ensures
-      | siblings-else-is_leaf w ↦
-          sum_goes s rec a.gap a.n a.from l.leaves l._i l.j l.sum l.invariant c.loop-i-test.true w.tally.ensures
-          (w.sum-is ∙ w.plus-sum.ensures) w.leaves-is c.next-j.ensures
-    ]
+    let one = leaf-tally (answer it.told s) a.levels s _ (sym leaf-is ∙ c.if-is_leaf.true) in
+    sum-passes s (counts.tally_by (answer it.told s) a.levels s) a.gap a.n a.from c.loop-j.invariant c.in-Some.ensures.steps one refl refl
+
+pub siblings-loop-j-preserved : goal.siblings-loop-j-preserved
+siblings-loop-j-preserved t c =
+    let a = c.args in
+    let it = a.self.now in
+    let s = it.sheet.now in
+    sum_goes s (counts.tally_by (answer it.told s) a.levels s) a.gap a.n a.from c.loop-j.invariant c.in-Some.ensures.steps
+    c.tally.ensures c.plus-sum.ensures refl
 
 pub siblings-returns : goal.siblings-returns
 siblings-returns t c =
-    let l = c.loop-i in
     let a = c.args in
     let it = a.self.now in
     sum-ends it.sheet.now (counts.tally_by (answer it.told it.sheet.now) a.levels it.sheet.now) a.gap a.n a.from
-    l.leaves l._i l.j l.sum l.invariant
-    c.loop-i-test.false c.spaced.ensures c.plus.ensures
+    c.loop-j.invariant c.in-None.ensures.steps.0 c.spaced.ensures c.plus.ensures
 
 pub tally-returns-then-levels-eq0 : goal.tally-returns-then-levels-eq0
 tally-returns-then-levels-eq0 t c =
@@ -152,7 +152,7 @@ walk-loop-p-preserved t c =
     let told = c.in-Lowers.is in
     let says = c.link_with.ensures _ u.says in (
       walk-goes l.invariant.0 u says told c.siblings.ensures c.plus-sum.ensures,
-      reach-goes l.invariant.1 u says (lowers-two told) refl,
+      reach-goes l.invariant.1 u says told,
     )
 
 pub walk-returns-in-Fails : goal.walk-returns-in-Fails
@@ -161,7 +161,7 @@ walk-returns-in-Fails t c =
     let u = links-turn c.next.new.self l.invariant.0.left c.in-Some.ensures.steps in
     record {
       sum_value = walk-failed l.invariant.0 u (c.link_with.ensures _ u.says) c.in-Fails.is;
-      far_value = c.reach-far.ensures;
+      far_value = comes-least c.args.self.now.sheet.now c.far_of-far.ensures;
     }
 
 pub walk-returns-in-Nowhere : goal.walk-returns-in-Nowhere

@@ -1,6 +1,7 @@
 -- The cycle of calls of the count. The measure: four for each level left, and a step for each member between a node and its operands.
 -- Invariant of both loops: what is passed and what is left make the whole, cut off.
 use Prim.Native.Nat.{◌+◌, ◌*◌}
+use Rattle.sheet.specs.Rest.{rest}
 use Rattle.expr_count.specs.Locals.{answer}
 use Rattle.expr_count.proofs.AnswerLaws.{SumLeft}
 use Rattle.expr_count.proofs.AnswerLaws.{WalkLeft}
@@ -23,11 +24,11 @@ decreases-tally l = 4 * l.levels
 abbrev pub decreases-walk : goal.decreases-walk
 decreases-walk l = 4 * l.levels + 2
 
-abbrev pub invariant-siblings-loop-i : goal.invariant-siblings-loop-i
-invariant-siblings-loop-i l = SumLeft l.self.sheet.now
-    (counts.tally_by (answer l.self.told l.self.sheet.now) l.levels l.self.sheet.now) l.gap l.n l.from l.sum l.leaves l._i l.j
+abbrev pub invariant-siblings-loop-j : goal.invariant-siblings-loop-j
+invariant-siblings-loop-j l = SumLeft l.self.sheet.now
+    (counts.tally_by (answer l.self.told l.self.sheet.now) l.levels l.self.sheet.now) l.gap l.n l.from l.sum l.leaves (rest l.j-iterator)
 
 abbrev pub invariant-walk-loop-p : goal.invariant-walk-loop-p
 invariant-walk-loop-p l =
     WalkLeft l.self.sheet.now (counts.tally_by (answer l.self.told l.self.sheet.now) l.levels l.self.sheet.now) l.j l.sum l.p-iterator
-    × ReachLeft l.self.sheet.now l.j 2 l.p-iterator
+    × ReachLeft l.self.sheet.now l.j l.p-iterator

@@ -1,0 +1,2 @@
+-- Laws of a list that is zeroed from the front.
+pub mod ZeroLaws
