@@ -39,8 +39,10 @@ use sheet::{Siblings, child, count, field_a, position, skip};
 // `n` siblings from node `from` on, each with `by` behind it.
 // Kept: that the sheet is right and the node valid are premises here and below: each function stands for every
 // sheet, so no value brings them.
+// This, `walk` and `short_circuit` are drawn into `expression`: a level of the sheet then takes one frame, and not two or three.
 // Kept: `levels` and `sheet` are two parameters here and below. `levels` goes down at each node, so a struct of both would be made anew for
 // each call, and be passed through memory.
+#[inline(always)]
 #[cycle(array_call_chain_coalesce_expression_interpolated_short_circuit_siblings_walk)]
 fn siblings(levels: u32, sheet: &[u8], store: &mut Store, by: After, n: u32, from: u32)
     ensures { let sheet = sheet.now in ((l : Layout) → Right sheet → Row sheet n from
@@ -88,6 +90,7 @@ fn interpolated(levels: u32, sheet: &[u8], store: &mut Store, j: u32)
 }
 
 // And and Or, which stop at `stop`, with the code's end at place `end`.
+#[inline(always)]
 #[cycle(array_call_chain_coalesce_expression_interpolated_short_circuit_siblings_walk)]
 fn short_circuit(levels: u32, sheet: &[u8], store: &mut Store, stop: bool, end: u32, j: u32)
     ensures { let sheet = sheet.now in ((l : Layout) → Right sheet → Valid sheet j
@@ -137,6 +140,7 @@ fn call(levels: u32, sheet: &[u8], store: &mut Store, j: u32)
 }
 
 // The operands and names of the links of chain `j`, up to one that does not lower.
+#[inline(always)]
 #[cycle(array_call_chain_coalesce_expression_interpolated_short_circuit_siblings_walk)]
 fn walk(levels: u32, sheet: &[u8], store: &mut Store, j: u32)
     ensures { let sheet = sheet.now in ((l : Layout) → Right sheet → Linked sheet j
