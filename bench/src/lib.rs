@@ -11,6 +11,7 @@ pub mod workloads;
 
 extern "C" {
     /// crates/api. They ask nothing of their caller; a slice goes as a pointer and a length.
+    // Kept: the wrapper has these four too, for itself alone. It gives out a Result, and here numbers and words are compared as they come.
     fn sheet_check(sheet: *const u8, length: usize) -> u32;
     fn sheet_needs(sheet: *const u8, length: usize, words: *mut u64) -> u32;
     fn sheet_lower(
@@ -39,6 +40,7 @@ pub fn check(sheet: &[u8]) -> u32 {
 }
 
 /// What a sheet needs: 0 and the scratch words that its lowering asks for, or one of the numbers 1 to 10 and 0.
+// Kept: a pair and no Result, here and in `lower`: `compare` holds both against the oracle's, whatever the number is.
 pub fn needs(sheet: &[u8]) -> (u32, u64) {
     let mut words = u64::MAX;
     // The pointer and the length are those of a slice, and the function writes the number alone.

@@ -26,6 +26,7 @@ pub const fn scratch_words(emitted: usize, nodes: usize) -> usize {
     PER_EMITTED * emitted + PER_NODE * nodes + BESIDES
 }
 
+// Kept: bench has these four too. What is given out here is a Result, and what is compared and timed there is the number.
 mod sys {
     extern "C" {
         pub fn sheet_check(sheet: *const u8, sheet_len: usize) -> u32;
@@ -54,6 +55,7 @@ mod sys {
 }
 
 /// Why a sheet or an image is refused: the first of the numbers 1 to 13 that fits.
+// Kept: the number, here and in `cause`. It is what the C interface answers, and callers have it as a public field.
 #[derive(Clone, Copy, Debug, PartialEq, Eq)]
 pub struct Refused(pub u32);
 
@@ -87,13 +89,18 @@ impl fmt::Display for Refused {
 
 impl core::error::Error for Refused {}
 
-/// Checks a sheet: which of the numbers 1 to 8 refuses it, if any does. `lower` makes the same check by itself.
-pub fn check(sheet: &[u8]) -> Result<(), Refused> {
-    // The pointer and the length are those of a slice, and the function only reads.
-    match unsafe { sys::sheet_check(sheet.as_ptr(), sheet.len()) } {
+/// What the library answers by a number: 0, or why it refuses.
+fn answered(number: u32) -> Result<(), Refused> {
+    match number {
         0 => Ok(()),
         number => Err(Refused(number)),
     }
+}
+
+/// Checks a sheet: which of the numbers 1 to 8 refuses it, if any does. `lower` makes the same check by itself.
+pub fn check(sheet: &[u8]) -> Result<(), Refused> {
+    // The pointer and the length are those of a slice, and the function only reads.
+    answered(unsafe { sys::sheet_check(sheet.as_ptr(), sheet.len()) })
 }
 
 /// How many words of scratch the lowering of a sheet needs, or which of the numbers 1 to 10 refuses it whatever is lent.
@@ -102,10 +109,8 @@ pub fn check(sheet: &[u8]) -> Result<(), Refused> {
 pub fn needs(sheet: &[u8]) -> Result<usize, Refused> {
     let mut words = 0u64;
     // The pointer and the length are those of a slice, and the function writes to the number alone.
-    match unsafe { sys::sheet_needs(sheet.as_ptr(), sheet.len(), &mut words) } {
-        0 => Ok(words as usize),
-        number => Err(Refused(number)),
-    }
+    answered(unsafe { sys::sheet_needs(sheet.as_ptr(), sheet.len(), &mut words) })?;
+    Ok(words as usize)
 }
 
 /// Lowers a sheet into the front of `image`, and answers that part.
@@ -126,11 +131,8 @@ pub fn lower<'a>(sheet: &[u8], image: &'a mut [u32], scratch: &mut [u32]) -> Res
             &mut words,
         )
     };
-    if number == 0 {
-        Ok(&image[..words as usize])
-    } else {
-        Err(Refused(number))
-    }
+    answered(number)?;
+    Ok(&image[..words as usize])
 }
 
 /// Checks that an image is well made for its sheet, with a scratch of at least as many words as the image has.
@@ -152,8 +154,5 @@ pub fn check_image(sheet: &[u8], image: &[u32], scratch: &mut [u32]) -> Result<(
             scratch.len(),
         )
     };
-    match number {
-        0 => Ok(()),
-        number => Err(Refused(number)),
-    }
+    answered(number)
 }

@@ -330,7 +330,7 @@ fn sheet(
 }
 
 fn main() -> ExitCode {
-    let (mut seed, mut count, mut seconds) = (1, u64::MAX, None);
+    let (mut seed, mut count, mut seconds) = (1, None, None);
     let (mut only, mut guard) = (None, None);
     let mut out = "differs.sheet".to_string();
     let mut words = std::env::args().skip(1);
@@ -338,7 +338,7 @@ fn main() -> ExitCode {
         let mut value = || words.next().expect("a value after the option");
         match word.as_str() {
             "--seed" => seed = value().parse().expect("a number"),
-            "--count" => count = value().parse().expect("a number of sheets"),
+            "--count" => count = Some(value().parse::<u64>().expect("a number of sheets")),
             "--seconds" => seconds = Some(value().parse::<f64>().expect("a number of seconds")),
             "--profile" => {
                 let name = value();
@@ -357,8 +357,8 @@ fn main() -> ExitCode {
     }
     let limit = match (seconds, count) {
         (Some(seconds), _) => Duration::from_secs_f64(seconds),
-        (None, u64::MAX) => Duration::from_secs(60),
-        _ => Duration::MAX,
+        (None, None) => Duration::from_secs(60),
+        (None, Some(_)) => Duration::MAX,
     };
     let mut random = Random::new(seed ^ 0x4015E);
     let mut driver = Driver {
@@ -369,8 +369,10 @@ fn main() -> ExitCode {
         tally: Tally::default(),
     };
     let start = Instant::now();
-    let mut index = 0;
-    while index < count && start.elapsed() < limit {
+    for index in 0..count.unwrap_or(u64::MAX) {
+        if limit <= start.elapsed() {
+            break;
+        }
         let mut random = Random::for_index(seed ^ 0xC0_4A2E, index);
         let (profile, damaged, sheet) = sheet(seed, index, only, &mut random);
         *driver.tally.profiles.entry(profile).or_default() += 1;
@@ -382,7 +384,6 @@ fn main() -> ExitCode {
             println!("the sheet stands in {out}");
             return ExitCode::FAILURE;
         }
-        index += 1;
     }
     driver.print(start.elapsed().as_secs_f64());
     println!("differences: 0 (seed {seed})");

@@ -173,6 +173,7 @@ pub fn effect_of(kind: u32) -> Effect
 
 #[tactic(auto, unfolding(crate::specs::Effect::ref_argc))]
 // A Local receiver is not on the stack.
+// Kept: the receiver's kind as a number. It is a word that a stranger may send, and is asked only whether it is Local (0).
 fn ref_argc(b: u32) -> u32
     ensures { result ≡ ref_argc b }
 {

@@ -97,12 +97,12 @@ child-plain p a b i k h e =
     ∙ ap (λ t. t || (leb 23 k && leb k 25)) (both f.0 (le-leb k 18 (omega (arith, ltb-true k 19 f.1))))
 
 -- the tests of a child, on its words
-pub words-child : (p a b e i j k w : ℕ) {r : Bool} → (r ≡ true → child_kind p a b i k ≡ true)
-    → (leb 1 w && leb (j + w) e && r) ≡ true → child_words p a b e i j k w ≡ true
+pub words-child : (p a b e i j k w : ℕ) {q r : Bool} → q ≡ (leb 1 w && leb (j + w) e) → (r ≡ true → child_kind p a b i k ≡ true)
+    → (q && r) ≡ true → child_words p a b e i j k w ≡ true
 unfolding child_words
-words-child p a b e i j k w {r} f h =
-    let g = (and-eq-true_iff (leb 1 w && leb (j + w) e) r).0 h in
-    both g.0 (f g.1)
+words-child p a b e i j k w {q} {r} hq f h =
+    let g = (and-eq-true_iff q r).0 h in
+    both (sym hq ∙ g.0) (f g.1)
 
 pub words-fit : (s : List ℕ) (p a b e i j : ℕ) {k w m x y z : ℕ} → NodeIs s j k w m x y z → child_words p a b e i j k w ≡ true
     → child_fits s p a b e i j ≡ true

@@ -15,7 +15,7 @@ ghost use Rattle.check_pass.specs.Sizes.{Sizes, Root};
 ghost use Rattle.check_pass.specs.Levels.{done, AllDone, Closed};
 ghost use Rattle.std.specs.Option.{MatchOption};
 
-use check_shape::{ANY, BOUNDS, Bounds, child_kind, own_rule, root_ok, scalar};
+use check_shape::{ANY, BOUNDS, Bounds, child_kind, fits, own_rule, root_ok, scalar};
 use sheet::kinds::{
     BLOCK, CHAR, DYNAMIC_CONSTANT, FN_CALL, LAST_KIND, MAP, METHOD_CALL, PROPERTY, RANGE, REF,
     STRING, SWITCH, VARIABLE,
@@ -232,9 +232,7 @@ fn opened(v: Node, end: u32) -> Open
 fn child_words(p: Open, a: u32, b: u32, n: u32, v: Node) -> bool
     ensures { result ≡ true → shapes.child_words p.kind a b p.end p.passed n v.kind v.span ≡ true }
 {
-    let w = v.span;
-    let end = (n as u64) + (w as u64);
-    (1 <= w) & (end <= (p.end as u64)) & child_ok(p.kind, a, b, p.passed, v.kind)
+    fits(n, v.span, p.end) & child_ok(p.kind, a, b, p.passed, v.kind)
 }
 
 // No node.
@@ -341,7 +339,7 @@ fn pass(sheet: &[u8]) -> bool
     let r = node(sheet, 0);
     let table = limits(text_count(sheet), r.a);
     let row = row_ok(&table, r);
-    if (r.span == total) & row & own_rule(r.kind, r.count, r.a, r.b) & call_ok(sheet, r) {
+    if (r.span == total) & row & own_rule(r) & call_ok(sheet, r) {
         return walk(sheet, &table, total, r);
     }
     false

@@ -1,7 +1,7 @@
 // Refusal 2: node kind, shape or field wrong.
 #![tactic(auto)]
 
-ghost use Rattle.std.specs.Prelude.{◌≡◌, ◌+◌, ◌*◌, ◌<◌, ◌≤◌};
+ghost use Rattle.std.specs.Prelude.{◌≡◌, ◌+◌, ◌*◌, ◌<◌, ◌≤◌, ◌&&◌, leb};
 ghost use Rattle.sheet.specs.Sections.{node_count};
 ghost use Rattle.sheet.specs.Node as nodes;
 ghost use Rattle.check_shape.specs.Kinds as kinds;
@@ -192,11 +192,11 @@ fn within_bounds(v: Node) -> bool
 }
 
 // A Char is a scalar value, and a Switch has a subject, its blocks and its cases.
-pub fn own_rule(k: u32, m: u32, a: u32, b: u32) -> bool
-    ensures { result ≡ shape.own_rule k m a b }
+pub fn own_rule(v: Node) -> bool
+    ensures { result ≡ shape.own_rule v.kind v.count v.a v.b }
 {
-    let wanted = 1 + 2 * (a as u64) + (b as u64);
-    ((k != CHAR) | scalar(a)) & ((k != SWITCH) | (wanted <= (m as u64)))
+    let wanted = 1 + 2 * (v.a as u64) + (v.b as u64);
+    ((v.kind != CHAR) | scalar(v.a)) & ((v.kind != SWITCH) | (wanted <= (v.count as u64)))
 }
 
 // Node 0 is an expression or a Switch, and its subtree is the whole sheet.
@@ -207,19 +207,24 @@ pub fn root_ok(sheet: &[u8]) -> bool
     (expression(k) | (k == SWITCH)) & (span(sheet, 0) == node_count(sheet))
 }
 
+// A node at `n` has some span `w`, and its subtree ends at `e` or before.
+pub fn fits(n: u32, w: u32, e: u32) -> bool
+    ensures { result ≡ (leb 1 w && leb (n + w) e) }
+{
+    let end = (n as u64) + (w as u64);
+    (1 <= w) & (end <= (e as u64))
+}
+
 // Node `j` may be child `i` of node `p`, and its subtree ends at `e` or before.
-// Kept: two comparisons that stand in `self_ok` too, and in `child_words` of check_pass, which has a node by
-// its words and not by its number.
 fn child_ok(sheet: &[u8], p: Node, e: u32, i: u32, j: u32) -> bool
     ensures { result ≡ shape.child_fits sheet.now p.kind p.a p.b e i j }
 {
-    let w = span(sheet, j);
-    let end = (j as u64) + (w as u64);
-    (1 <= w) & (end <= (e as u64)) & child_kind(p.kind, p.a, p.b, i, kind(sheet, j))
+    fits(j, span(sheet, j), e) & child_kind(p.kind, p.a, p.b, i, kind(sheet, j))
 }
 
 // The children of node `n`, which was read as `v`, tile the nodes from behind it up to `e`.
-// Kept: not `Siblings`, which does not say where the last child ends, and that is asked at the end.
+// Kept: a walk by hand. Where the last child ends is asked behind the loop: over `Siblings` that takes `by_ref`, a method of it that tells,
+// and `enumerate` with a cast of its number, in the place of `j`.
 fn tiles(sheet: &[u8], n: u32, v: Node, e: u32) -> bool
     requires p_value { (v.kind ≡ nodes.kind sheet.now n) × (v.count ≡ nodes.count sheet.now n) }
     requires a_value { (v.a ≡ nodes.field_a sheet.now n) × (v.b ≡ nodes.field_b sheet.now n) }
@@ -240,9 +245,7 @@ fn tiles(sheet: &[u8], n: u32, v: Node, e: u32) -> bool
 fn self_ok(n: u32, v: Node, total: u32) -> bool
     ensures { result ≡ shape.self_fits n v.kind v.span v.count v.a v.b v.c total }
 {
-    let w = v.span;
-    let end = (n as u64) + (w as u64);
-    within_bounds(v) & own_rule(v.kind, v.count, v.a, v.b) & (1 <= w) & (end <= (total as u64))
+    within_bounds(v) & own_rule(v) & fits(n, v.span, total)
 }
 
 // Node `n` of `total` is right, and so are its children's places.

@@ -2,13 +2,14 @@
 use Prim.Native.Nat.{ℕ, zero, suc, ◌+◌, ◌-◌, ◌*◌, ◌<◌, ◌≤◌}
 use mathlib.Core.Path.{◌≡◌, refl, ap, ap₂, sym, ◌∙◌}
 use mathlib.Core.Bool.{Bool, true, false, ◌&&◌, not}
-use mathlib.Core.List.{List}
+use mathlib.Core.List.{List, [], ◌∷◌}
 use native.Mathlib.Omega.{arith}
 use native.Mathlib.Decide.{ℕ_discrete, dec_lt}
 use lib.Dec.{eqb}
 use lib.ListN.{length, take, drop, get_or, set, length-take}
 use lib.Seq.{get_or-take, get_or-set_same, get_or-set_other}
 use borrow.Author.Tests.{le-leb, lt-leb, eq-eqb, ne_eqb}
+use Rattle.std.specs.Int.{from_le_bytes, w32}
 use Rattle.text.proofs.SameLaws.{same_false}
 use Rattle.words.specs.Word.{byte_of, word}
 use Rattle.sheet.specs.Kinds.{string_kind}
@@ -21,9 +22,10 @@ use Rattle.check_switches.specs.Key.{text_key, value_key}
 
 -- what the code reads of a text
 module _ (x : List ℕ) where
-  pub few-key : {a b c : ℕ} → length x < 4 → a ≡ byte_of x 0 → b ≡ byte_of x 1 → c ≡ byte_of x 2 → a + 256 * b + 65536 * c ≡ text_key x
+  pub few-key : {a b c : ℕ} → length x < 4 → a ≡ byte_of x 0 → b ≡ byte_of x 1 → c ≡ byte_of x 2
+      → from_le_bytes w32 (a ∷ b ∷ c ∷ 0 ∷ []) ≡ text_key x
   unfolding text_key
-  few-key h ha hb hc = rw (ha, hb, hc, lt-leb 4 (length x) h, text_key)
+  few-key h ha hb hc = rw (ha, hb, hc, lt-leb 4 (length x) h, text_key) (omega arith)
 
   pub long-key : {a b : ℕ} {y : List ℕ} → 4 ≤ length x → a ≡ word x 0 → y ≡ take 4 (drop (length x - 4) x) → b ≡ word y 0
       → a + 4294967296 * b ≡ text_key x

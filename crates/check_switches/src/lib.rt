@@ -102,7 +102,7 @@ fn apart_from(sheet: &[u8], p: u32, mut rest: Siblings<'_>) -> bool
 }
 
 // `m` Cases from node `at` on differ: each is compared with all behind it.
-// Kept: `while let`, since each turn hands on the iterator as it stands, and a `for` would own it.
+// Kept: `while let`, since each turn hands on the iterator as it stands, and a `for` would own it, or hold its loan.
 fn each_apart(sheet: &[u8], m: u32, at: u32) -> bool
     ensures { result ≡ switches.distinct sheet.now m at }
 {
@@ -116,12 +116,13 @@ fn each_apart(sheet: &[u8], m: u32, at: u32) -> bool
 }
 
 // A number that equal texts have in common: the first four bytes and the last four, or the three that there are.
+// Kept: two words joined by hand, here and in `value_key`: std joins bytes, not words, as at `from_words` of switch_split.
 fn text_key(x: &[u8]) -> u64
     ensures { result ≡ keys.text_key x.now }
 {
     let n = x.len();
     if n < 4 {
-        return (byte(x, 0) as u64) + 256 * (byte(x, 1) as u64) + 65536 * (byte(x, 2) as u64);
+        return u64::from(u32::from_le_bytes([byte(x, 0), byte(x, 1), byte(x, 2), 0]));
     }
     (word_at(x, 0) as u64) + 4294967296 * (word_at(part(x, n - 4, 4), 0) as u64)
 }
@@ -152,8 +153,9 @@ fn among(k: &[u64], key: u64) -> bool
 }
 
 // Some Cases, not too few and not too many, from node `at` on differ already by their numbers.
-// Kept: count and first Case apart: whether there are 6 to 64 is asked first, which an iterator does not tell. The keys lie in an array,
-// `n` of them in front: there is no heap.
+// Kept: sheet, count and first Case apart, here and in `distinct`, `each_apart` and `all_refs_ok`. `distinct` hands the same three on
+// twice; as a `Siblings` its contract would say them by its fields, and be longer. The keys lie in an array, `n` of them in front: there
+// is no heap.
 fn keys_apart(sheet: &[u8], m: u32, at: u32) -> bool
     ensures { result ≡ true → switches.distinct sheet.now m at ≡ true }
 {

@@ -180,8 +180,8 @@ fn wide(v: u32) -> usize
 }
 
 // Whether `q` is well-formed.
-// Kept: not std's `str::from_utf8`, which answers for a whole string. What is between two marks is read by the same `run`, which stops at
-// the place where no character starts.
+// Kept: not std's `str::from_utf8`. `run` stands here for the marks anyway, and promises what `utf8` says of the bytes; std answers by a
+// definition of its own (`IsUtf8`), which a law would have to show equal to `utf8`.
 fn read_whole(q: &[u8]) -> bool
     ensures { result ≡ utf8 q.now }
 {

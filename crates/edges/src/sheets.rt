@@ -97,6 +97,7 @@ fn deep(sheet: &mut [u8], last: u32) -> u32
 }
 
 // An array of `n` Units.
+// Kept: `call` ends as this does, at another kind. A function of both ends would be longer than what it saves in both.
 fn array(sheet: &mut [u8], n: u32) -> u32
     requires { n ≤ 100000 }
     ensures { result ≡ n + 1 }

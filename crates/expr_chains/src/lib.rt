@@ -59,6 +59,8 @@ pub fn same_text(sheet: &[u8], a: u32, b: u32) -> bool
 
 #[tactic(auto, unfolding(crate::specs::Same::same_index))]
 // The steps of the links that say `p` and `q`, both indexes, are the same.
+// Kept: the sheet and two Reads, here and in `same_as` and `same_step`, and that a Read was read there (`Reads`) as a premise, here and
+// below. `same_steps` alone would make a type of the three; and `Read` is public: who makes one need not have read it.
 fn same_index(sheet: &[u8], p: Read, q: Read) -> bool
     ensures { let sheet = sheet.now in (Reads sheet p.link p → Reads sheet q.link q → result ≡ sames.same_index sheet p.link q.link) }
 {

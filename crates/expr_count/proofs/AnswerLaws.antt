@@ -18,13 +18,14 @@ use Rattle.expr_rules.specs.declared.chains.Links.{Links}
 use Rattle.expr_rules.specs.Links.{nodes_left}
 use Rattle.expr_rules.proofs.LinksLaws.{Left, Begun, Turn}
 use Rattle.expr_count.specs.declared.tallies.Tally.{Tally}
+use Rattle.expr_count.specs.declared.operands.Operands.{Operands}
 use Rattle.expr_count.specs.declared.plans.Plan.{Plan}
 use Rattle.expr_count.specs.declared.plans.Plan.TheVariants.{Parts}
 use Rattle.expr_count.specs.declared.links.Link.{Link}
 use Rattle.expr_count.specs.declared.links.Link.TheVariants.{Lowers, Fails, Nowhere}
 use Rattle.expr_count.specs.Tally.{instructions, nothing, plus, taken_back, capped}
 use Rattle.expr_count.proofs.TallyLaws.{nothing-plus, capped-capped}
-use Rattle.expr_count.specs.Plan.{operands, array, plan}
+use Rattle.expr_count.specs.Plan.{one, operands, array, plan}
 use Rattle.expr_count.proofs.PlanLaws.{array-few, array-many}
 use Rattle.expr_count.specs.Link.{is_plain, link, least, temporary}
 use Rattle.expr_count.proofs.LinkLaws.{plain-chain, reach-on, reach-none}
@@ -53,7 +54,7 @@ use Rattle.expr_count.proofs.CodeLaws.{
 pub array-lowers : (s : List ℕ) (j : ℕ) {n : ℕ} → n ≡ count s j → n ≤ max_elements → operands s j 1 1 ≡ array s j
 array-lowers s j e h = array-few s j (omega arith)
 
-pub array-stays : (s : List ℕ) (j : ℕ) {n : ℕ} → n ≡ count s j → max_elements < n → Parts 0 0 0 (instructions 1) ≡ array s j
+pub array-stays : (s : List ℕ) (j : ℕ) {n : ℕ} → n ≡ count s j → max_elements < n → one ≡ array s j
 array-stays s j e h = array-many s j (omega arith)
 
 -- a sum of the code, by what is summed
@@ -145,16 +146,16 @@ module _ {s : List ℕ} {t : Rec} {j : ℕ} {a : Tally} {it : Links} where
 
   module _ (W : WalkLeft s t j a it) where
     pub walk-goes :
-        {p : Read} {k : Links} {l : Link} {n from : ℕ} {u b : Tally} → Turn s it p k → l ≡ link s p.link → l ≡ Lowers n from
-        → u ≡ capped (siblings s t 0 n from) → b ≡ capped (plus a u) → WalkLeft s t j b k
-    walk-goes {k = k} {n = n} {from = from} {u = u} turn l-is told u-is b_is =
+        {p : Read} {k : Links} {l : Link} {o : Operands} {u b : Tally} → Turn s it p k → l ≡ link s p.link → l ≡ Lowers o
+        → u ≡ capped (siblings s t 0 o.n o.from) → b ≡ capped (plus a u) → WalkLeft s t j b k
+    walk-goes {k = k} {o = o} {u = u} turn l-is told u-is b_is =
         let all = b_is ∙ ap (λ (x : Tally). capped (plus a x)) u-is in
         record {
           left = turn.left;
           cut = sum-cut a u b_is;
           rest =
               ap (λ (x : Tally). capped (plus x (walk s t (nodes_left k)))) all
-              ∙ walk_more s t a turn.nodes n from (sym l-is ∙ told)
+              ∙ walk_more s t a turn.nodes o (sym l-is ∙ told)
               ∙ W.rest;
         }
 
@@ -181,7 +182,7 @@ module _ {s : List ℕ} {j : ℕ} {it : Links} where
 
   module _ (R : ReachLeft s j it) where
     pub reach-goes :
-        {p : Read} {k : Links} {l : Link} {n from : ℕ} → Turn s it p k → l ≡ link s p.link → l ≡ Lowers n from → ReachLeft s j k
+        {p : Read} {k : Links} {l : Link} {o : Operands} → Turn s it p k → l ≡ link s p.link → l ≡ Lowers o → ReachLeft s j k
     reach-goes turn l-is told =
         record { left = turn.left; rest = sym (reach-on s turn.nodes (sym l-is ∙ told)) ∙ R.rest }
 
@@ -228,8 +229,8 @@ module _ (s : List ℕ) (t : Rec) (j : ℕ) where
       sum_by others last-all r-is ∙ coalesce-counts s t j
 
 pub tally-parted :
-    (here : ℕ → Bool) (levels : ℕ) (s : List ℕ) (j : ℕ) {p : Plan} {gap n from : ℕ} {rest u r : Tally} → (levels ≡ 0 → ⊥)
-    → p ≡ plan here s j → p ≡ Parts gap n from rest
-    → u ≡ capped (siblings s (tally_by here (levels - 1) s) gap n from) → r ≡ capped (plus u rest) → r ≡ capped (tally_by here levels s j)
-tally-parted here levels s j {gap = gap} {n = n} {from = from} {rest = rest} h p-is told u-is r-is =
-    r-is ∙ ap (λ (x : Tally). capped (plus x rest)) u-is ∙ tally-parts here levels s j gap n from rest h (sym p-is ∙ told)
+    (here : ℕ → Bool) (levels : ℕ) (s : List ℕ) (j : ℕ) {p : Plan} {gap : ℕ} {o : Operands} {rest u r : Tally} → (levels ≡ 0 → ⊥)
+    → p ≡ plan here s j → p ≡ Parts gap o rest
+    → u ≡ capped (siblings s (tally_by here (levels - 1) s) gap o.n o.from) → r ≡ capped (plus u rest) → r ≡ capped (tally_by here levels s j)
+tally-parted here levels s j {gap = gap} {o = o} {rest = rest} h p-is told u-is r-is =
+    r-is ∙ ap (λ (x : Tally). capped (plus x rest)) u-is ∙ tally-parts here levels s j gap o rest h (sym p-is ∙ told)

@@ -74,7 +74,7 @@ module _ (s : List ℕ) (t u : Rec) (U : Under t u) where
 
   on_below : (l : Link) (a b : Tally) → Below a b → Below (walk_on l s t a) (walk_on l s u b)
   unfolding walk_on
-  on_below (Lowers n from) a b g = below-plus (siblings-below 0 n from) g
+  on_below (Lowers o) a b g = below-plus (siblings-below 0 o.n o.from) g
   on_below Fails a b g = below-refl nothing
   on_below Nowhere a b g = below-refl nothing
 
@@ -91,7 +91,7 @@ module _ (s : List ℕ) (t u : Rec) (U : Under t u) where
 
   follow-below : (p : Plan) (j : ℕ) → Below (follow p s t j) (follow p s u j)
   unfolding follow coalesce chain
-  follow-below (Parts gap n from rest) j = below-plus (siblings-below gap n from) (below-refl rest)
+  follow-below (Parts gap o rest) j = below-plus (siblings-below gap o.n o.from) (below-refl rest)
   follow-below Coalesce j =
       below-plus (siblings-below 2 (count s j - 1) (child j)) (U.each (skip s (count s j - 1) (child j)))
   follow-below Chain j =

@@ -44,8 +44,8 @@ use Rattle.expr_count.proofs.PlanAdds.{name-alike, residual-adds}
 
 -- a step adds what its link says; it fails where its link does
 abbrev pub StepAdds : List ℕ → Count.Rec → Pools → Link → Stepped → Type 0
-StepAdds s t p (Lowers n from) (stepped code x k q) = Adds p (siblings s t 0 n from) (length code) q
-StepAdds s t p (Lowers n from) (failed q) = ⊥
+StepAdds s t p (Lowers o) (stepped code x k q) = Adds p (siblings s t 0 o.n o.from) (length code) q
+StepAdds s t p (Lowers o) (failed q) = ⊥
 StepAdds s t p Fails (stepped code x k q) = ⊥
 StepAdds s t p Fails (failed q) = Alike p q
 StepAdds s t p Nowhere (stepped code x k q) = ⊥
@@ -138,11 +138,11 @@ module _ (s : List ℕ) (rec : Rec) (t : Count.Rec) (C : Counts rec t) where
       by : (l : Link) (st : Stepped) → link s c ≡ l → step_by (step_rule s c) s rec c n b d p ≡ st → StepAdds s t p l st
           → ((n b d : ℕ) (p : Pools) → WalkAdds p (walk s t cs) (least s cs) (steps s rec cs n b d p))
           → WalkAdds p (walk s t (c ∷ cs)) (least s (c ∷ cs)) (steps s rec (c ∷ cs) n b d p)
-      by (Lowers m from) (stepped code x k q) e f g ih =
+      by (Lowers o) (stepped code x k q) e f g ih =
           rw (e, f, walk, least, steps)
-          (onto-adds p q (siblings s t 0 m from) (walk s t cs) (least s cs) code x (steps s rec cs (n + k) (b + length code) (d + k) q) g
+          (onto-adds p q (siblings s t 0 o.n o.from) (walk s t cs) (least s cs) code x (steps s rec cs (n + k) (b + length code) (d + k) q) g
           (ih (n + k) (b + length code) (d + k) q))
-      by (Lowers m from) (failed q) e f g ih = absurd g
+      by (Lowers o) (failed q) e f g ih = absurd g
       by Fails (stepped code x k q) e f g ih = absurd g
       by Fails (failed q) e f g ih = rw (e, f, walk, least, steps) (omega arith, nothing-back p q g)
       by Nowhere (stepped code x k q) e f g ih = absurd g

@@ -8,6 +8,7 @@ use Rattle.sheet.specs.Limits.{max_depth}
 use Rattle.sheet.specs.Node.{kind, count, child, next}
 use Rattle.sheet.specs.Walk.{skip, sibling_list}
 use Rattle.lowering.specs.Flatten.{links}
+use Rattle.expr_count.specs.declared.operands.Operands.{Operands}
 use Rattle.expr_count.specs.declared.tallies.Tally.{Tally}
 use Rattle.expr_count.specs.declared.plans.Plan.TheVariants.{Parts, Coalesce, Chain}
 use Rattle.expr_count.specs.declared.links.Link.TheVariants.{Lowers, Fails, Nowhere}
@@ -136,14 +137,14 @@ leaf-tally here (suc levels) s j h =
 -- ---- links: cs are left, the next of them c, and a is the sum of those passed
 
 module _ (s : List ℕ) (t : Rec) (a : Tally) {c : ℕ} {cs ds : List ℕ} (is : cs ≡ c ∷ ds) where
-  walk-on : (n from : ℕ) → link s c ≡ Lowers n from → walk s t cs ≡ plus (siblings s t 0 n from) (walk s t ds)
+  walk-on : (o : Operands) → link s c ≡ Lowers o → walk s t cs ≡ plus (siblings s t 0 o.n o.from) (walk s t ds)
   unfolding walk walk_on
-  walk-on n from h = rw (is, h)
+  walk-on o h = rw (is, h)
 
-  pub walk_more : (n from : ℕ) → link s c ≡ Lowers n from
-      → capped (plus (capped (plus a (capped (siblings s t 0 n from)))) (walk s t ds)) ≡ capped (plus a (walk s t cs))
-  walk_more n from l =
-      capped-more a (siblings s t 0 n from) (walk s t ds) ∙ ap (λ x. capped (plus a x)) (sym (walk-on n from l))
+  pub walk_more : (o : Operands) → link s c ≡ Lowers o
+      → capped (plus (capped (plus a (capped (siblings s t 0 o.n o.from)))) (walk s t ds)) ≡ capped (plus a (walk s t cs))
+  walk_more o l =
+      capped-more a (siblings s t 0 o.n o.from) (walk s t ds) ∙ ap (λ x. capped (plus a x)) (sym (walk-on o l))
 
   pub walk-fails : link s c ≡ Fails → capped a ≡ a → a ≡ capped (plus a (walk s t cs))
   unfolding walk walk_on
@@ -212,10 +213,10 @@ module _ (here : ℕ → Bool) (levels : ℕ) (s : List ℕ) (j : ℕ) where
   unfolding tally_by
   tally-some h = let e : levels ≡ suc (levels - 1) = omega arith in ap (λ n. tally_by here n s j) e
 
-  pub tally-parts : (gap n from : ℕ) (rest : Tally) → (levels ≡ 0 → ⊥) → plan here s j ≡ Parts gap n from rest
-      → capped (plus (capped (siblings s (tally_by here (levels - 1) s) gap n from)) rest) ≡ capped (tally_by here levels s j)
+  pub tally-parts : (gap : ℕ) (o : Operands) (rest : Tally) → (levels ≡ 0 → ⊥) → plan here s j ≡ Parts gap o rest
+      → capped (plus (capped (siblings s (tally_by here (levels - 1) s) gap o.n o.from)) rest) ≡ capped (tally_by here levels s j)
   unfolding follow
-  tally-parts gap n from rest h p = rw (tally-some h, p) (capped_left (siblings s (tally_by here (levels - 1) s) gap n from) rest)
+  tally-parts gap o rest h p = rw (tally-some h, p) (capped_left (siblings s (tally_by here (levels - 1) s) gap o.n o.from) rest)
 
   pub tally-coalesce : (levels ≡ 0 → ⊥) → plan here s j ≡ Coalesce
       → capped (coalesce s (tally_by here (levels - 1) s) j) ≡ capped (tally_by here levels s j)

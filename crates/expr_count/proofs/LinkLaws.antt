@@ -14,7 +14,9 @@ use Rattle.lowering.specs.Kinds.{property_kind, dot_kind}
 use Rattle.lowering.specs.Flatten.{rest_of, goes_on, operand_of, links, property, dot_rule, step_rule}
 use Rattle.expr_count.specs.Tally.{instructions, nothing, plus}
 use Rattle.expr_count.specs.Count.{Rec, siblings, walk_on, walk, chain_by, chain}
+use Rattle.expr_count.specs.declared.operands.Operands.{Operands}
 use Rattle.expr_count.specs.declared.links.Link.TheVariants.{Lowers, Nowhere}
+use Rattle.expr_count.specs.Operands.{some_from}
 use Rattle.expr_count.specs.Link.{link_by, link, grade, least, temporary, is_plain}
 
 module _ (s : List ℕ) where
@@ -32,7 +34,7 @@ least-least s (c ∷ cs) = let h = least-least s cs in omega arith
 
 -- with the links cs it comes as far as behind a first one that lowers, and nowhere with one that has no step
 module _ (s : List ℕ) {c : ℕ} {cs ds : List ℕ} (is : cs ≡ c ∷ ds) where
-  pub reach-on : {n from : ℕ} → link s c ≡ Lowers n from → least s cs ≡ least s ds
+  pub reach-on : {o : Operands} → link s c ≡ Lowers o → least s cs ≡ least s ds
   unfolding least grade
   reach-on h = rw (is, h) (omega (arith, least-least s ds))
 
@@ -56,7 +58,7 @@ module _ (s : List ℕ) (t : Rec) (j : ℕ) where
     unfolding step_rule
     step_is = rw (dot, step_rule) dot-step
 
-    link-is : link s j ≡ Lowers 0 (operand_of s j)
+    link-is : link s j ≡ Lowers (some_from 0 (operand_of s j))
     unfolding link link_by
     link-is = ap (λ r. link_by r s (operand_of s j)) step_is
 

@@ -12,17 +12,18 @@ use Rattle.expr_count.specs.declared.locals.Locals.TheVariants.{Sought}
 use Rattle.expr_count.specs.Locals.{is_local, answer}
 use Rattle.expr_count.specs.Tally.{instructions, plus, capped}
 use Rattle.expr_count.specs.Count.{Rec, siblings}
+use Rattle.expr_count.specs.Operands.{some_from}
 use Rattle.expr_count.specs.Plan.{array}
 use Rattle.expr_count.proofs.PlanLaws.{array-few}
 use Rattle.expr_count.proofs.TallyLaws.{plus-nothing}
 
 -- plans are equal by their parts
-parts-path : {gap n m from at : ℕ} {a b : Tally} → n ≡ m → from ≡ at → a ≡ b → Parts gap n from a ≡ Parts gap m at b
-parts-path {gap = gap} p q r = λ i. Parts gap (p i) (q i) (r i)
+parts-path : {gap n m from at : ℕ} {a b : Tally} → n ≡ m → from ≡ at → a ≡ b → Parts gap (some_from n from) a ≡ Parts gap (some_from m at) b
+parts-path {gap = gap} p q r = λ i. Parts gap (some_from (p i) (q i)) (r i)
 
 pub array_parts :
     (s : List ℕ) (j : ℕ) {n from : ℕ} {rest : Tally} → n ≡ count s j → n ≤ max_elements → from ≡ child j → rest ≡ instructions 1
-    → Parts 1 n from rest ≡ array s j
+    → Parts 1 (some_from n from) rest ≡ array s j
 array_parts s j e h f g = parts-path e f g ∙ array-few s j (omega arith)
 
 -- nothing is told

@@ -8,7 +8,7 @@ use native.Mathlib.Omega.{arith}
 use lib.Dec.{eqb}
 use lib.ListN.{get_or}
 use borrow.Author.Tests.{ne_eqb, le-leb, lt-leb}
-use Rattle.sheet.specs.Node.{kind, count, child}
+use Rattle.sheet.specs.Node.{kind, count}
 use Rattle.lowering.specs.Limits.{max_elements}
 use Rattle.lowering.specs.Call.{call_rule}
 use Rattle.lowering.specs.Expression.{rules, rule, residual}
@@ -26,6 +26,7 @@ use Rattle.expr_count.specs.declared.plans.Plan.TheVariants.{Parts}
 use Rattle.expr_count.specs.declared.links.Link.TheVariants.{Lowers, Fails}
 use Rattle.expr_count.specs.Tally.{instructions}
 use Rattle.expr_count.specs.Locals.{receiver_by}
+use Rattle.expr_count.specs.Operands.{all}
 use Rattle.expr_count.specs.Plan.{one, is_leaf, array, rotates, call_by, fn_call_by, fn_call, plan_by, plan}
 use Rattle.expr_count.specs.Link.{link_by, link, temporary}
 
@@ -69,7 +70,7 @@ module _ (s : List ℕ) (j : ℕ) where
         → call_by (first_from k) s j ≡ call_by (receiver_by here s j) s j
     call_at k h = ap (λ f. call_by f s j) (first-is (receiver_by here s j) k h)
 
-  pub array-few : count s j ≤ max_elements → Parts 1 (count s j) (child j) (instructions 1) ≡ array s j
+  pub array-few : count s j ≤ max_elements → Parts 1 (all s j) (instructions 1) ≡ array s j
   unfolding array
   array-few h = rw (le-leb (count s j) max_elements h, array)
 
@@ -81,7 +82,7 @@ module _ (s : List ℕ) (j : ℕ) where
   unfolding link
   link_at k h = ap (λ r. link_by r s (operand_of s j)) (step_is (step_rule s j) k h)
 
-  pub method-lowers : is_lowerable_method s j ≡ true → Lowers (count s j) (child j) ≡ link_by Flatten.method s j
+  pub method-lowers : is_lowerable_method s j ≡ true → Lowers (all s j) ≡ link_by Flatten.method s j
   unfolding link_by
   method-lowers h = rw (h, link_by)
 

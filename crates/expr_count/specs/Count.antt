@@ -30,7 +30,7 @@ coalesce s rec j =
 
 -- the operands of a link, and the rest behind it, up to a link that does not lower
 unfoldable pub walk_on : Link → List ℕ → Rec → Tally → Tally
-walk_on (Lowers n from) s rec rest = plus (siblings s rec 0 n from) rest
+walk_on (Lowers o) s rec rest = plus (siblings s rec 0 o.n o.from) rest
 walk_on Fails s rec rest = nothing
 walk_on Nowhere s rec rest = nothing
 
@@ -50,7 +50,7 @@ chain s rec j =
     chain_by (least s ls) (walk s rec ls) (siblings s rec 0 (temporary s (child j)) (child j))
 
 unfoldable pub follow : Plan → List ℕ → Rec → ℕ → Tally
-follow (Parts gap n from rest) s rec j = plus (siblings s rec gap n from) rest
+follow (Parts gap o rest) s rec j = plus (siblings s rec gap o.n o.from) rest
 follow Coalesce s rec j = coalesce s rec j
 follow Chain s rec j = chain s rec j
 

@@ -1,6 +1,6 @@
 -- What of a chain's link is counted: the operands of its step.
 use Rattle.std.specs.Prelude.{ℕ, min, Bool, true, false, ◌&&◌, List, [], ◌∷◌, eqb}
-use Rattle.sheet.specs.Node.{kind, count, child}
+use Rattle.sheet.specs.Node.{kind, child}
 use Rattle.lowering.specs.Kinds.{variable_kind, this_kind, property_kind, dot_kind}
 use Rattle.lowering.specs.Flatten.{rest_of, goes_on, operand_of, StepRule, index, property, method, none, step_rule}
 use Rattle.lowering.specs.Steps.{is_lowerable_method}
@@ -8,12 +8,13 @@ use Rattle.expr_count.specs.declared.links.Link.{Link}
 use Rattle.expr_chains.specs.declared.Distance.{Distance}
 use Rattle.expr_chains.specs.declared.Distance.TheVariants as Distances
 use Rattle.expr_count.specs.declared.links.Link.TheVariants.{Lowers, Fails, Nowhere}
+use Rattle.expr_count.specs.Operands.{some_from, all}
 
--- n operands from a node on; a method that does not lower; no step at all
+-- a step's operands; a method that does not lower; no step at all
 unfoldable pub link_by : StepRule → List ℕ → ℕ → Link
-link_by index s x = Lowers 1 x
-link_by property s x = Lowers 0 x
-link_by method s x = elim (is_lowerable_method s x) [ true ↦ Lowers (count s x) (child x) | false ↦ Fails ]
+link_by index s x = Lowers (some_from 1 x)
+link_by property s x = Lowers (some_from 0 x)
+link_by method s x = elim (is_lowerable_method s x) [ true ↦ Lowers (all s x) | false ↦ Fails ]
 link_by none s x = Nowhere
 
 unfoldable pub link : List ℕ → ℕ → Link
@@ -21,7 +22,7 @@ link s c = link_by (step_rule s c) s (operand_of s c)
 
 -- how far a chain comes with this link: it does not flatten; it fails; it lowers
 unfoldable pub grade : Link → ℕ
-grade (Lowers n from) = 2
+grade (Lowers o) = 2
 grade Fails = 1
 grade Nowhere = 0
 

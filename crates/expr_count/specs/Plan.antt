@@ -2,32 +2,34 @@
 -- beside the lowering's definition of the same construct. A plan goes by the node alone, and not down into its operands. `here` says of a
 -- Variable whether it is a local.
 use Rattle.std.specs.Prelude.{ℕ, ◌+◌, ◌-◌, Bool, true, false, ◌&&◌, ◌||◌, List, leb, eqb}
-use Rattle.sheet.specs.Node.{count, child, next}
+use Rattle.sheet.specs.Node.{count, child}
 use Rattle.lowering.specs.Limits.{max_elements}
 use Rattle.lowering.specs.Call.{CallRule, fn_ptr, fn_ptr_call, lowerable, eval, call_rule, First, local, named}
 use Rattle.lowering.specs.Call as Call
 use Rattle.lowering.specs.Expression as Expression
 use Rattle.lowering.specs.Expression.{Rule, rule}
+use Rattle.expr_count.specs.declared.operands.Operands.{Operands}
 use Rattle.expr_count.specs.declared.tallies.Tally.{Tally}
 use Rattle.expr_count.specs.declared.plans.Plan.{Plan}
 use Rattle.expr_count.specs.declared.plans.Plan.TheVariants.{Parts, Coalesce, Chain}
+use Rattle.expr_count.specs.Operands.{some_from, all, others}
 use Rattle.expr_count.specs.Tally.{instructions, evaluation}
 use Rattle.expr_count.specs.Locals.{receiver_by}
 
 -- a node without operands: its value is one instruction, and so is a residual
 abbrev pub alone : Tally → Plan
-alone t = Parts 0 0 0 t
+alone t = Parts 0 (some_from 0 0) t
 
 abbrev pub one : Plan
 one = alone (instructions 1)
 
--- n siblings from node j on, each with `gap` instructions behind it, and `more` instructions
-abbrev pub parts : ℕ → ℕ → ℕ → ℕ → Plan
-parts gap n j more = Parts gap n j (instructions more)
+-- these operands, each with `gap` instructions behind it, and `more` instructions
+abbrev pub parts : ℕ → Operands → ℕ → Plan
+parts gap o more = Parts gap o (instructions more)
 
 -- all operands of node j, each with `gap` instructions behind it, and `more` instructions
 abbrev pub operands : List ℕ → ℕ → ℕ → ℕ → Plan
-operands s j gap more = parts gap (count s j) (child j) more
+operands s j gap more = parts gap (all s j) more
 
 -- a kind whose nodes are one instruction without operands: Bool, Unit, the constants, Variable, This
 unfoldable pub is_leaf : ℕ → Bool
@@ -48,7 +50,7 @@ short_circuit s j = operands s j 1 3
 
 -- the argument; MakeFnPtr
 unfoldable pub make_fn_ptr : ℕ → Plan
-make_fn_ptr j = parts 0 1 (child j) 1
+make_fn_ptr j = parts 0 (some_from 1 (child j)) 1
 
 -- all arguments; CallFnPtr or Call
 unfoldable pub all_args : List ℕ → ℕ → Plan
@@ -56,7 +58,7 @@ all_args s j = operands s j 0 1
 
 -- the arguments after the first, and n instructions
 unfoldable pub other_args : List ℕ → ℕ → ℕ → Plan
-other_args s j n = parts 0 (count s j - 1) (next s (child j)) n
+other_args s j n = parts 0 (others s j) n
 
 -- 1 where the receiver's value is moved under others
 unfoldable pub rotates : ℕ → ℕ

@@ -12,6 +12,7 @@ ghost use Rattle.expr_count.specs.Count as counts;
 
 pub mod links;
 pub mod locals;
+pub mod operands;
 pub mod plans;
 pub mod tallies;
 
@@ -19,6 +20,7 @@ use expr_chains::{Distance, far_of};
 use expr_rules::chains::links_of;
 use links::{Link, is_plain, link_with, temporary};
 use locals::Count;
+use operands::Operands;
 use plans::{Plan, is_leaf};
 use sheet::{Siblings, child, kind, skip};
 use tallies::{Tally, instructions, nothing, plus, spaced, taken_back};
@@ -33,28 +35,28 @@ struct Walked {
 }
 
 impl<'a> Count<'a> {
-    // `n` siblings from node `from` on, each with `gap` instructions behind it, with `levels` levels each.
+    // Some operands, each with `gap` instructions behind it, with `levels` levels each.
     // Leaves are counted without a call.
     #[cycle(chain_coalesce_siblings_tally_walk)]
-    fn siblings(&self, levels: u32, gap: u32, n: u32, from: u32) -> Tally
+    fn siblings(&self, levels: u32, gap: u32, of: Operands) -> Tally
         ensures { let it = self.now in
             let sheet = it.sheet.now in
             let t = counts.tally_by (answer it.told sheet) levels sheet in
-            result ≡ capped (counts.siblings sheet t gap n from) }
+            result ≡ capped (counts.siblings sheet t gap of.n of.from) }
     {
-        if n == 0 {
+        if of.n == 0 {
             return nothing();
         }
         let mut sum = nothing();
         let mut leaves: u32 = 0;
-        for j in Siblings::new(self.sheet, n, from) {
+        for j in Siblings::new(self.sheet, of.n, of.from) {
             if is_leaf(kind(self.sheet, j)) {
                 leaves += 1;
             } else {
                 sum = plus(sum, self.tally(levels, j));
             }
         }
-        plus(sum, spaced(leaves, gap, n))
+        plus(sum, spaced(leaves, gap, of.n))
     }
 
     // Coalesce: two instructions behind each operand but the last.
@@ -67,7 +69,7 @@ impl<'a> Count<'a> {
     {
         let n = sheet::count(self.sheet, j).saturating_sub(1);
         let first = child(j);
-        let others = self.siblings(levels, 2, n, first);
+        let others = self.siblings(levels, 2, Operands { n, from: first });
         plus(others, self.tally(levels, skip(self.sheet, n, first)))
     }
 
@@ -83,8 +85,8 @@ impl<'a> Count<'a> {
         let mut sum = nothing();
         for p in links_of(self.sheet, j) {
             match link_with(self.sheet, p) {
-                Link::Lowers { n, from } => {
-                    sum = plus(sum, self.siblings(levels, 0, n, from));
+                Link::Lowers(of) => {
+                    sum = plus(sum, self.siblings(levels, 0, of));
                 }
                 Link::Fails => {
                     let far = far_of(self.sheet, j).distance;
@@ -119,14 +121,15 @@ impl<'a> Count<'a> {
             Distance::TakenBack => plus(taken_back(w.sum), instructions(1)),
             Distance::Whole => {
                 let root = child(j);
-                let lowered = self.siblings(levels, 0, temporary(self.sheet, root), root);
+                let n = temporary(self.sheet, root);
+                let lowered = self.siblings(levels, 0, Operands { n, from: root });
                 plus(plus(w.sum, lowered), instructions(1))
             }
         }
     }
 
     // The tally of node `j`, with that many levels left.
-    // Kept: a match on the plan. The arms take other data (four words, or node `j`), and the definition is the same three cases.
+    // Kept: a match on the plan. The arms take other data (a plan's parts, or node `j`), and the definition is the same three cases.
     #[cycle(chain_coalesce_siblings_tally_walk)]
     pub fn tally(&self, levels: u32, j: u32) -> Tally
         ensures { let it = self.now in let sheet = it.sheet.now in result ≡ capped (counts.tally_by (answer it.told sheet) levels sheet j) }
@@ -135,10 +138,7 @@ impl<'a> Count<'a> {
             return instructions(1);
         }
         match self.plan(j) {
-            Plan::Parts { gap, n, from, rest } => plus(
-                self.siblings(levels - 1, gap, n, from),
-                rest,
-            ),
+            Plan::Parts { gap, of, rest } => plus(self.siblings(levels - 1, gap, of), rest),
             Plan::Coalesce => self.coalesce(levels - 1, j),
             Plan::Chain => self.chain(levels - 1, j),
         }

@@ -4,16 +4,17 @@ ghost use Rattle.lowering.specs.Flatten as chains;
 ghost use Rattle.expr_rules.specs.Reads.{Reads};
 ghost use Rattle.expr_count.specs.Link as linked;
 
+use crate::operands::Operands;
 use expr_rules::chains::{Read, StepRule, goes_on, is_lowerable_method, rest_of};
 use sheet::kinds::{DOT, PROPERTY, THIS, VARIABLE};
-use sheet::{child, count, kind};
+use sheet::{child, kind};
 
-// The `n` operands from node `from` on of a link's step; a method that does not lower; no step at all.
+// The operands of a link's step; a method that does not lower; no step at all.
 // Kept: not a Result. `Result<_, Distance>` would have `Whole` as an error, which no link has; an enum of the two others would be one more,
 // with a definition. `walk` tells them apart: behind `Fails` it asks `far_of`, behind `Nowhere` not.
 #[derive(Clone, Copy)]
 pub enum Link {
-    Lowers { n: u32, from: u32 },
+    Lowers(Operands),
     Fails,
     Nowhere,
 }
@@ -23,10 +24,7 @@ fn method(sheet: &[u8], x: u32) -> Link
     ensures { result ≡ linked.link_by chains.method sheet.now x }
 {
     if is_lowerable_method(sheet, x) {
-        return Link::Lowers {
-            n: count(sheet, x),
-            from: child(x),
-        };
+        return Link::Lowers(Operands::of(sheet, x));
     }
     Link::Fails
 }
@@ -38,8 +36,8 @@ pub fn link_with(sheet: &[u8], p: Read) -> Link
     let by = p.rule;
     let x = p.with;
     match by {
-        StepRule::Index => Link::Lowers { n: 1, from: x },
-        StepRule::Property => Link::Lowers { n: 0, from: x },
+        StepRule::Index => Link::Lowers(Operands { n: 1, from: x }),
+        StepRule::Property => Link::Lowers(Operands { n: 0, from: x }),
         StepRule::Method => method(sheet, x),
         StepRule::Nothing => Link::Nowhere,
     }

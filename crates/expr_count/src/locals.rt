@@ -36,6 +36,7 @@ fn sought(sheet: &[u8], v: u32) -> bool
 }
 
 // Variable `v` is a local, as the words tell. What is no node is looked up.
+// Kept: a word of the scratch, where 0 is no local, as scratch_locals writes it; it is asked once.
 fn told_by(sheet: &[u8], words: &[u32], v: u32) -> bool
     ensures { result ≡ locals.told_by words.now sheet.now v }
 {

@@ -4,23 +4,19 @@ ghost use Rattle.expr_count.specs.Locals.{answer, receiver_by};
 ghost use Rattle.expr_count.specs.Plan as plans;
 
 use crate::locals::Count;
+use crate::operands::Operands;
 use crate::tallies::{Tally, evaluation, instructions};
 use expr_rules::calls::{CallRule, First, call_rule};
 use expr_rules::kinds::Rule;
 use expr_rules::rule;
 use lowering::MAX_ELEMENTS;
 use sheet::kinds::{BOOL, STRING, THIS, VARIABLE};
-use sheet::{child, count, next};
+use sheet::{child, count};
 
-// `n` siblings from node `from` on, each with `gap` instructions behind it, and `rest` besides; or a construct with a rule of its own.
+// Operands, each with `gap` instructions behind it, and `rest` besides; or a construct with a rule of its own.
 #[derive(Clone, Copy)]
 pub enum Plan {
-    Parts {
-        gap: u32,
-        n: u32,
-        from: u32,
-        rest: Tally,
-    },
+    Parts { gap: u32, of: Operands, rest: Tally },
     Coalesce,
     Chain,
 }
@@ -31,20 +27,18 @@ fn alone(rest: Tally) -> Plan
 {
     Plan::Parts {
         gap: 0,
-        n: 0,
-        from: 0,
+        of: Operands { n: 0, from: 0 },
         rest,
     }
 }
 
-// `n` siblings from node `from` on, each with `gap` instructions behind it, and `more` instructions.
-fn parts(gap: u32, n: u32, from: u32, more: u32) -> Plan
-    ensures { result ≡ plans.parts gap n from more }
+// These operands, each with `gap` instructions behind it, and `more` instructions.
+fn parts(gap: u32, of: Operands, more: u32) -> Plan
+    ensures { result ≡ plans.parts gap of more }
 {
     Plan::Parts {
         gap,
-        n,
-        from,
+        of,
         rest: instructions(more),
     }
 }
@@ -53,19 +47,14 @@ fn parts(gap: u32, n: u32, from: u32, more: u32) -> Plan
 fn operands(sheet: &[u8], j: u32, gap: u32, more: u32) -> Plan
     ensures { let s = sheet.now in result ≡ plans.operands s j gap more }
 {
-    parts(gap, count(sheet, j), child(j), more)
+    parts(gap, Operands::of(sheet, j), more)
 }
 
 // The operands after the first, and `more` instructions.
 fn others(sheet: &[u8], j: u32, more: u32) -> Plan
     ensures { result ≡ plans.other_args sheet.now j more }
 {
-    parts(
-        0,
-        count(sheet, j).saturating_sub(1),
-        next(sheet, child(j)),
-        more,
-    )
+    parts(0, Operands::others(sheet, j), more)
 }
 
 // A node of kind `k` is one instruction without operands: Bool, Unit, the constants, Variable, This.
@@ -118,7 +107,13 @@ impl<'a> Count<'a> {
         ensures { let it = self.now in let sheet = it.sheet.now in result ≡ plans.fn_call (answer it.told sheet) sheet j }
     {
         match call_rule(self.sheet, j) {
-            CallRule::FnPtr => parts(0, 1, child(j), 1),
+            CallRule::FnPtr => {
+                let first = Operands {
+                    n: 1,
+                    from: child(j),
+                };
+                parts(0, first, 1)
+            }
             CallRule::FnPtrCall => operands(self.sheet, j, 0, 1),
             CallRule::Lowerable => self.call(j),
             CallRule::Eval => alone(evaluation()),

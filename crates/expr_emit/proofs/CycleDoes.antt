@@ -7,6 +7,8 @@ use Rattle.bytecode.specs.declared.Op.TheVariants.{MakeArray, InterpolateStart, 
 use Rattle.lowering.specs.Limits.{max_elements}
 use Rattle.lowering.specs.Nodes.{Right, Valid, Row}
 use Rattle.lowering.proofs.NodesLaws.{children}
+use Rattle.expr_count.specs.declared.operands.Operands.{Operands}
+use Rattle.expr_count.specs.Operands.{all}
 use Rattle.expr_model.specs.Made.{Made, emit, residual, lowered}
 use Rattle.expr_model.specs.Construct.{Low, array, interpolated}
 use Rattle.expr_model.proofs.WayLaws.{array-few, array-many}
@@ -78,37 +80,36 @@ rows_more {s} {l} {ws} {xs} {ys} {zs} {st} {q} {t} {r} levels by n from i k j po
 
 -- ---- array, interpolated string
 
-module _ {s : List ℕ} {l : Layout} {xs ys zs : List ℕ} {st q r : State} (levels j n from pos : ℕ) where
-  pub array-does : Right s → Valid s j → n ≡ count s j → n ≤ max_elements → from ≡ child j → pos ≡ position s j
-      → (Right s → Row s n from → Does s l xs st ys q (rows s (lowered levels s) CheckPlace n from))
-      → Does s l ys q zs r (emit (MakeArray n) pos 0) → Does s l xs st zs r (array s (lowered levels s) j)
-  array-does C v n-is few from_is pos-is d e =
-      let row : Row s n from = subst (λ m. Row s m from) (sym n-is) (subst (Row s (count s j)) (sym from_is) (children s C j v)) in
-      let few' : count s j ≤ max_elements = omega (arith, n-is) in
+module _ {s : List ℕ} {l : Layout} {xs ys zs : List ℕ} {st q r : State} (levels j : ℕ) (o : Operands) (pos : ℕ) where
+  pub array-does : Right s → Valid s j → o ≡ all s j → o.n ≤ max_elements → pos ≡ position s j
+      → (Right s → Row s o.n o.from → Does s l xs st ys q (rows s (lowered levels s) CheckPlace o.n o.from))
+      → Does s l ys q zs r (emit (MakeArray o.n) pos 0) → Does s l xs st zs r (array s (lowered levels s) j)
+  array-does C v is few pos-is d e =
+      let row : Row s o.n o.from = subst (λ x. Row s x.n x.from) (sym is) (children s C j v) in
+      let few' : count s j ≤ max_elements = subst (λ x. x.n ≤ max_elements) is few in
       does-same (array s (lowered levels s) j)
       (λ a h. ap (emit (MakeArray (count s j)) (position s j) 0) (rows-elements s (lowered levels s) (count s j) (child j) a)
       ∙ array-few s (lowered levels s) j a few')
       (does-seq (growing-emit (MakeArray (count s j)) (position s j) 0)
-      (does_at (λ m. rows s (lowered levels s) CheckPlace m (child j)) n-is
-      (does_at (λ f. rows s (lowered levels s) CheckPlace n f) from_is (d C row)))
-      (does_at (λ m. emit (MakeArray m) (position s j) 0) n-is (does_at (λ p. emit (MakeArray n) p 0) pos-is e)))
+      (does_at (λ x. rows s (lowered levels s) CheckPlace x.n x.from) is (d C row))
+      (does_at (λ x. emit (MakeArray x.n) (position s j) 0) is (does_at (λ p. emit (MakeArray o.n) p 0) pos-is e)))
 
-pub array-kept : {s : List ℕ} {l : Layout} {xs ys : List ℕ} {st r : State} (levels j n : ℕ) → n ≡ count s j → max_elements < n
+pub array-kept : {s : List ℕ} {l : Layout} {xs ys : List ℕ} {st r : State} (levels j : ℕ) (o : Operands) → o ≡ all s j → max_elements < o.n
     → Does s l xs st ys r (residual j) → Does s l xs st ys r (array s (lowered levels s) j)
-array-kept {s} levels j n n-is many d =
-    let many' : max_elements < count s j = omega (arith, n-is) in
+array-kept {s} levels j o is many d =
+    let many' : max_elements < count s j = subst (λ x. max_elements < x.n) is many in
     does-same (array s (lowered levels s) j) (λ a h. array-many s (lowered levels s) j a many') d
 
-pub interpolated-does : {s : List ℕ} {l : Layout} {ws xs ys zs : List ℕ} {st p q r : State} (levels j n from : ℕ) → Right s → Valid s j
-    → n ≡ count s j → from ≡ child j → Does s l ws st xs p (emit InterpolateStart 0 0)
-    → (Right s → Row s n from → Does s l xs p ys q (rows s (lowered levels s) Append n from)) → Does s l ys q zs r (emit InterpolateEnd 0 0)
+pub interpolated-does : {s : List ℕ} {l : Layout} {ws xs ys zs : List ℕ} {st p q r : State} (levels j : ℕ) (o : Operands) → Right s → Valid s j
+    → o ≡ all s j → Does s l ws st xs p (emit InterpolateStart 0 0)
+    → (Right s → Row s o.n o.from → Does s l xs p ys q (rows s (lowered levels s) Append o.n o.from)) → Does s l ys q zs r (emit InterpolateEnd 0 0)
     → Does s l ws st zs r (interpolated s (lowered levels s) j)
 unfolding interpolated
-interpolated-does {s} {l} {ws} {xs} {ys} {zs} {st} {p} {q} {r} levels j n from C v n-is from_is first d last =
-    let row : Row s n from = subst (λ m. Row s m from) (sym n-is) (subst (Row s (count s j)) (sym from_is) (children s C j v)) in
+interpolated-does {s} {l} {ws} {xs} {ys} {zs} {st} {p} {q} {r} levels j o C v is first d last =
+    let row : Row s o.n o.from = subst (λ x. Row s x.n x.from) (sym is) (children s C j v) in
     let low = lowered levels s in
     let body : Does s l xs p ys q (rows s low Append (count s j) (child j)) =
-    does_at (λ m. rows s low Append m (child j)) n-is (does_at (λ f. rows s low Append n f) from_is (d C row)) in
+    does_at (λ x. rows s low Append x.n x.from) is (d C row) in
     does-same (interpolated s low j)
     (λ a h. ap (emit InterpolateEnd 0 0) (rows-segments s low (count s j) (child j) (emit InterpolateStart 0 0 a)))
     (does-seq (growing-emit InterpolateEnd 0 0) (does-seq (rows_grow levels s Append (count s j) (child j)) first body) last)

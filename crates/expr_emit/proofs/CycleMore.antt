@@ -13,6 +13,8 @@ use Rattle.scratch_keys.specs.Used.{ChainKey}
 use Rattle.expr_emit.specs.Linked.{Linked}
 use Rattle.expr_chains.specs.Pooled.{Pooled}
 use Rattle.expr_chains.specs.Lowers.{lowers}
+use Rattle.expr_count.specs.declared.operands.Operands.{Operands}
+use Rattle.expr_count.specs.Operands.{all}
 use Rattle.expr_count.specs.Link.{temporary}
 use Rattle.expr_model.specs.Made.{Made, residual, take_back, lowered}
 use Rattle.expr_model.specs.Construct.{Low, short_circuit, coalesce, fn_call, operands, chain, close_chain, root_name, root_value, steps}
@@ -30,7 +32,7 @@ use Rattle.scratch_store.specs.Does.{Fits, Growing, Does}
 use Rattle.scratch_store.proofs.DoesLaws.{does-seq, does-same}
 use Rattle.expr_emit.specs.declared.after.After.TheVariants.{Nothing, Decide, Unless}
 use Rattle.expr_emit.specs.declared.calls.Way.{Way}
-use Rattle.expr_emit.specs.Ways.{way_of, arg_count, first_arg, opened, opened_at, closed}
+use Rattle.expr_emit.specs.Ways.{way_of, arg_count, first_arg, arguments, opened, opened_at, closed}
 use Rattle.expr_emit.specs.Decision.{decision}
 use Rattle.expr_emit.proofs.EndDoes.{decision-grows}
 use Rattle.expr_emit.proofs.StepDoes.{temporary-few}
@@ -55,18 +57,18 @@ short-is : (s : List ℕ) (low : Low) (stop : Bool) (end j : ℕ) (a : Made)
 unfolding short_circuit decision
 short-is s low stop end j a = ap (decision (from_bool stop) end a.depth) (rows-decided s low stop (end - 1) (count s j) (child j) a)
 
-pub short-does : {s : List ℕ} {l : Layout} {xs ys zs : List ℕ} {st q r : State} (levels : ℕ) (stop : Bool) (end to j n from : ℕ) → Right s → Valid s j
-    → to ≡ end - 1 → n ≡ count s j → from ≡ child j
-    → (Right s → Row s n from → Does s l xs st ys q (rows s (lowered levels s) (Decide stop to) n from))
+pub short-does : {s : List ℕ} {l : Layout} {xs ys zs : List ℕ} {st q r : State} (levels : ℕ) (stop : Bool) (end to j : ℕ) (o : Operands) → Right s → Valid s j
+    → to ≡ end - 1 → o ≡ all s j
+    → (Right s → Row s o.n o.from → Does s l xs st ys q (rows s (lowered levels s) (Decide stop to) o.n o.from))
     → ((a : Made) → st.depth ≤ a.pools.emitted → Holds s l ys q a → Fits l (decision (from_bool stop) end st.depth a)
     → Holds s l zs r (decision (from_bool stop) end st.depth a))
     → Does s l xs st zs r (short_circuit (from_bool stop) s (lowered levels s) end j)
-short-does {s} {l} {xs} {ys} {zs} {st} {q} {r} levels stop end to j n from C v to_is n-is from_is d e =
+short-does {s} {l} {xs} {ys} {zs} {st} {q} {r} levels stop end to j o C v to_is is d e =
     let low = lowered levels s in
-    let row : Row s n from = subst (λ m. Row s m from) (sym n-is) (subst (Row s (count s j)) (sym from_is) (children s C j v)) in
+    let row : Row s o.n o.from = subst (λ x. Row s x.n x.from) (sym is) (children s C j v) in
     let body : Does s l xs st ys q (rows s low (Decide stop (end - 1)) (count s j) (child j)) =
     does_at (λ t. rows s low (Decide stop t) (count s j) (child j)) to_is
-    (does_at (λ m. rows s low (Decide stop to) m (child j)) n-is (does_at (λ f. rows s low (Decide stop to) n f) from_is (d C row))) in
+    (does_at (λ x. rows s low (Decide stop to) x.n x.from) is (d C row)) in
     record {
       holds = λ a h f.
           let x = rows s low (Decide stop (end - 1)) (count s j) (child j) a in
@@ -103,46 +105,45 @@ coalesce-does {s} {l} {xs} {ys} {zs} {st} {q} {r} levels end j m n from k C v so
 
 -- ---- FnCall
 
-call-does : {s : List ℕ} {l : Layout} {ws xs ys zs : List ℕ} {st p q r : State} (levels j at n from : ℕ) (w : Way)
+call-does : {s : List ℕ} {l : Layout} {ws xs ys zs : List ℕ} {st p q r : State} (levels j at : ℕ) (o : Operands) (w : Way)
     → Right s → Row s (arg_count w s j) (first_arg w s j)
     → ((a : Made) → closed w s j (opened_at w s j a) (operands s (lowered levels s) (arg_count w s j) (first_arg w s j) (opened w s j a))
     ≡ fn_call s (lowered levels s) j a)
     → Growing (closed w s j at)
-    → n ≡ arg_count w s j → from ≡ first_arg w s j
+    → o ≡ arguments w s j
     → Does s l ws st xs p (opened w s j)
     → ((a : Made) → Holds s l ws st a → at ≡ opened_at w s j a)
-    → (Right s → Row s n from → Does s l xs p ys q (rows s (lowered levels s) Nothing n from))
+    → (Right s → Row s o.n o.from → Does s l xs p ys q (rows s (lowered levels s) Nothing o.n o.from))
     → Does s l ys q zs r (closed w s j at)
     → Does s l ws st zs r (fn_call s (lowered levels s) j)
-call-does {s} {l} {ws} {xs} {ys} {zs} {st} {p} {q} {r} levels j at n from w C row is grows n-is from_is first found d last =
+call-does {s} {l} {ws} {xs} {ys} {zs} {st} {p} {q} {r} levels j at o w C row same grows is first found d last =
     let low = lowered levels s in
     let N = arg_count w s j in
     let F = first_arg w s j in
-    let row' : Row s n from = subst (λ t. Row s t from) (sym n-is) (subst (Row s N) (sym from_is) row) in
-    let args : Does s l xs p ys q (rows s low Nothing N F) =
-    does_at (λ t. rows s low Nothing t F) n-is (does_at (λ f. rows s low Nothing n f) from_is (d C row')) in
+    let row' : Row s o.n o.from = subst (λ x. Row s x.n x.from) (sym is) row in
+    let lowers_args : Does s l xs p ys q (rows s low Nothing N F) = does_at (λ x. rows s low Nothing x.n x.from) is (d C row') in
     does-same (fn_call s low j)
-    (λ a h. ap (closed w s j (opened_at w s j a)) (rows-operands s low N F (opened w s j a)) ∙ is a)
-    (does-placed (closed w s j) grows found (does-seq (rows_grow levels s Nothing N F) first args) last)
+    (λ a h. ap (closed w s j (opened_at w s j a)) (rows-operands s low N F (opened w s j a)) ∙ same a)
+    (does-placed (closed w s j) grows found (does-seq (rows_grow levels s Nothing N F) first lowers_args) last)
 
 -- the way as the code finds it
-pub call-by-way : {s : List ℕ} {l : Layout} {ws xs ys zs : List ℕ} {st p q r : State} (levels j at n from : ℕ) (w : Way)
-    → Right s → Valid s j → kind s j ≡ 13 → w ≡ way_of s j → n ≡ arg_count w s j → from ≡ first_arg w s j
+pub call-by-way : {s : List ℕ} {l : Layout} {ws xs ys zs : List ℕ} {st p q r : State} (levels j at : ℕ) (o : Operands) (w : Way)
+    → Right s → Valid s j → kind s j ≡ 13 → w ≡ way_of s j → o ≡ arguments w s j
     → (Facts w s j → Does s l ws st xs p (opened w s j))
     → (Facts w s j → (a : Made) → Holds s l ws st a → at ≡ opened_at w s j a)
-    → (Right s → Row s n from → Does s l xs p ys q (rows s (lowered levels s) Nothing n from))
+    → (Right s → Row s o.n o.from → Does s l xs p ys q (rows s (lowered levels s) Nothing o.n o.from))
     → (Facts w s j → Does s l ys q zs r (closed w s j at))
     → Does s l ws st zs r (fn_call s (lowered levels s) j)
-call-by-way {s} levels j at n from w C v k w-is n-is from_is first found d last =
+call-by-way {s} levels j at o w C v k w-is is first found d last =
     let facts : Facts w s j = subst (λ (z : Way). Facts z s j) (sym w-is) (way-facts s j C v k) in
     let row : Row s (arg_count w s j) (first_arg w s j) =
     subst (λ (z : Way). Row s (arg_count z s j) (first_arg z s j)) (sym w-is) (way-row C v) in
-    call-does levels j at n from w C row
+    call-does levels j at o w C row
     (λ a. sym (subst
     (λ (z : Way). fn_call s (lowered levels s) j a
     ≡ closed z s j (opened_at z s j a) (operands s (lowered levels s) (arg_count z s j) (first_arg z s j) (opened z s j a)))
     (sym w-is) (way-is s (lowered levels s) j a)))
-    (closed-grows w s j at) n-is from_is (first facts) (found facts) d (last facts)
+    (closed-grows w s j at) is (first facts) (found facts) d (last facts)
 
 -- ---- Dot, Index
 

@@ -69,9 +69,9 @@ length-low t u e = let n = capped-len t u e in omega arith
 pub end-held :
     {s : List ℕ} {l : Layout} {xs : List ℕ} {st : State} {a : Made} {r : ℕ} (levels j : ℕ) → EndsAt levels s xs st j r → Holds s l xs st a
     → Fits l (lowered levels s j a) → r ≡ place a + (tally levels s j).len
-end-held levels j e h room = e.is (h.laid.nodes ∙ h.fit.nodes) (held-slots refl h) ∙ end-right levels j h room
+end-held levels j e h room = e.is (ap (λ (k : Layout). k.nodes) h.laid.layout ∙ h.fit.nodes) (held-slots refl h) ∙ end-right levels j h room
 
--- by the layout that the counts tell
+-- by the layout beside the counts
 pub ends_at :
     {s : List ℕ} {l : Layout} {xs : List ℕ} {st : State} {r : ℕ} (levels j : ℕ) → l ≡ layout_of st
     → (l.nodes ≡ node_count s → Slots s l xs → r ≡ end_place levels s st.code j) → EndsAt levels s xs st j r

@@ -4,6 +4,7 @@ use Rattle.sheet.specs.Limits.{max_depth}
 use Rattle.lowering.specs.Flatten.{links, operand_of, step_rule}
 use Rattle.lowering.specs.Nodes.{Right, Valid, Row}
 use Rattle.expr_count.specs.declared.links.Link.TheVariants.{Lowers}
+use Rattle.expr_count.specs.declared.operands.Operands.{Operands}
 use Rattle.expr_count.specs.Link.{link}
 use Rattle.expr_model.specs.Made.{lowered}
 use Rattle.expr_model.specs.Construct.{steps}
@@ -28,9 +29,9 @@ open_kept {s} {l} {xs} {st} w j e = subst (Opens s l xs st xs st 0 j) (sym e) ((
 
 -- the last link lowers
 pub walk_ends :
-    {s : List ℕ} {l : Layout} {ws xs ys zs : List ℕ} {st q t r : State} {bs cs : List ℕ} (levels j c n : ℕ) {from : ℕ} → bs ≡ c ∷ cs
-    → Right s → Walking s l levels j ws st xs q bs → link s c ≡ Lowers n from
-    → (Right s → Row s n from → Does s l xs q ys t (rows s (lowered levels s) Nothing n from))
+    {s : List ℕ} {l : Layout} {ws xs ys zs : List ℕ} {st q t r : State} {bs cs : List ℕ} (levels j c : ℕ) (o : Operands) → bs ≡ c ∷ cs
+    → Right s → Walking s l levels j ws st xs q bs → link s c ≡ Lowers o
+    → (Right s → Row s o.n o.from → Does s l xs q ys t (rows s (lowered levels s) Nothing o.n o.from))
     → (Valid s (operand_of s c) → ChainKey s c → Does s l ys t zs r (step_names (step_rule s c) s (operand_of s c)))
     → cs ≡ [] → Does s l ws st zs r (steps s (lowered levels s) (links max_depth s j))
-walk_ends levels j c n e C W is args names last = walk-done levels j last (walk-on levels j c n e C W is args names)
+walk_ends levels j c o e C W is args names last = walk-done levels j last (walk-on levels j c o e C W is args names)

@@ -3,7 +3,7 @@ use Rattle.std.proofs.Common.{◌≡◌, ℕ, zero, suc, ◌+◌, ◌-◌, ◌*�
 use borrow.Author.Tests.{eqb-false}
 use Rattle.scratch_store.proofs.GrowingLaws.{growing-name}
 use Rattle.sheet.specs.Limits.{max_depth}
-use Rattle.sheet.specs.Node.{kind, count, field_a, field_b, field_c, position, child}
+use Rattle.sheet.specs.Node.{kind, field_a, field_b, field_c, position, child}
 use Rattle.sheet.specs.Walk.{skip}
 use Rattle.bytecode.specs.declared.Op.TheVariants.{Chain}
 use Rattle.lowering.specs.Limits.{max_args, names_per_node}
@@ -25,6 +25,8 @@ use Rattle.expr_chains.proofs.LoopLaws.{width_few, operands-more, operands-last,
 use Rattle.expr_chains.specs.Lowers.{lowers_by, step_lowers}
 use Rattle.expr_count.specs.declared.links.Link.{Link}
 use Rattle.expr_count.specs.declared.links.Link.TheVariants.{Lowers, Fails, Nowhere}
+use Rattle.expr_count.specs.declared.operands.Operands.{Operands}
+use Rattle.expr_count.specs.Operands.{all}
 use Rattle.expr_count.specs.Link.{link_by, link, grade, temporary}
 use Rattle.scratch_keys.specs.Keys.{key_of, call_kind, field_of, is_marked, mark_by, mark_of, name_of}
 use Rattle.scratch_keys.specs.Used.{ChainKey, NameKey}
@@ -255,17 +257,17 @@ close-does {s} j pos n at a at-pos takes found h d room =
 
 -- the operands of a link
 unfoldable operands_at : List ℕ → Low → Link → Made → Made
-operands_at s low (Lowers n from) a = operands s low n from a
+operands_at s low (Lowers o) a = operands s low o.n o.from a
 operands_at s low Fails a = a
 operands_at s low Nowhere a = a
 
 abbrev RowAt : List ℕ → Link → Type 0
-RowAt s (Lowers n from) = Row s n from
+RowAt s (Lowers o) = Row s o.n o.from
 RowAt s Fails = Prim.Unit {0}
 RowAt s Nowhere = Prim.Unit {0}
 
 module _ (s : List ℕ) (x : ℕ) where
-  method-lowers : is_lowerable_method s x ≡ true → link_by Flatten.method s x ≡ Lowers (count s x) (child x)
+  method-lowers : is_lowerable_method s x ≡ true → link_by Flatten.method s x ≡ Lowers (all s x)
   unfolding link_by
   method-lowers h = rw (h, link_by)
 
@@ -318,9 +320,9 @@ module _ (s : List ℕ) (c : ℕ) where
       ap (λ (k : Link). add_name s (name (field_a s x) 0) (operands_at s low k a)) (sym (method-lowers s x h))
   by_names Flatten.none low a h = refl
 
-  pub link-lowers : (n from : ℕ) → link s c ≡ Lowers n from → step_lowers s c ≡ true
+  pub link-lowers : (o : Operands) → link s c ≡ Lowers o → step_lowers s c ≡ true
   unfolding link step_lowers grade
-  link-lowers n from h = by-grade (step_rule s c) (ap grade h)
+  link-lowers o h = by-grade (step_rule s c) (ap grade h)
 
   link-fails : link s c ≡ Fails → step_lowers s c ≡ false
   unfolding link step_lowers grade
@@ -335,23 +337,23 @@ module _ (s : List ℕ) (c : ℕ) where
   link-ends e (inl h) = link-fails (sym e ∙ h)
   link-ends e (inr h) = link-nowhere (sym e ∙ h)
 
-  step_is : (low : Low) (n from : ℕ) (a : Made) → link s c ≡ Lowers n from
-      → step_by (step_rule s c) s low c a ≡ step_names (step_rule s c) s (operand_of s c) (operands s low n from a)
+  step_is : (low : Low) (o : Operands) (a : Made) → link s c ≡ Lowers o
+      → step_by (step_rule s c) s low c a ≡ step_names (step_rule s c) s (operand_of s c) (operands s low o.n o.from a)
   unfolding link step_lowers operands_at
-  step_is low n from a h =
-      by_names (step_rule s c) low a (link-lowers n from h)
+  step_is low o a h =
+      by_names (step_rule s c) low a (link-lowers o h)
       ∙ ap (λ (k : Link). step_names (step_rule s c) s (operand_of s c) (operands_at s low k a)) h
 
-  pub link_row : (n from : ℕ) → Right s → Linked.Link s c → link s c ≡ Lowers n from → Row s n from
+  pub link_row : (o : Operands) → Right s → Linked.Link s c → link s c ≡ Lowers o → Row s o.n o.from
   unfolding link
-  link_row n from C l h = subst (RowAt s) h (by_row s (operand_of s c) (step_rule s c) C (LinkedLaws.operand-valid s C c l))
+  link_row o C l h = subst (RowAt s) h (by_row s (operand_of s c) (step_rule s c) C (LinkedLaws.operand-valid s C c l))
 
 -- the operands of a link, and then its names
-pub step-does : {s : List ℕ} {l : Layout} {xs ys zs : List ℕ} {st q r : State} (low : Low) (c n from : ℕ) → link s c ≡ Lowers n from
-    → Does s l xs st ys q (rows s low Nothing n from) → Does s l ys q zs r (step_names (step_rule s c) s (operand_of s c))
+pub step-does : {s : List ℕ} {l : Layout} {xs ys zs : List ℕ} {st q r : State} (low : Low) (c : ℕ) (o : Operands) → link s c ≡ Lowers o
+    → Does s l xs st ys q (rows s low Nothing o.n o.from) → Does s l ys q zs r (step_names (step_rule s c) s (operand_of s c))
     → Does s l xs st zs r (step_by (step_rule s c) s low c)
-step-does {s} low c n from h d e =
+step-does {s} low c o h d e =
     let v = operand_of s c in
-    let same : (a : Made) → step_names (step_rule s c) s v (rows s low Nothing n from a) ≡ step_by (step_rule s c) s low c a =
-    λ a. ap (step_names (step_rule s c) s v) (rows-operands s low n from a) ∙ sym (step_is s c low n from a h) in
+    let same : (a : Made) → step_names (step_rule s c) s v (rows s low Nothing o.n o.from a) ≡ step_by (step_rule s c) s low c a =
+    λ a. ap (step_names (step_rule s c) s v) (rows-operands s low o.n o.from a) ∙ sym (step_is s c low o a h) in
     does-same (step_by (step_rule s c) s low c) (λ a g. same a) (does-seq (names-grow (step_rule s c) s v) d e)

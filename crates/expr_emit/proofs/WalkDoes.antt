@@ -7,6 +7,7 @@ use Rattle.lowering.specs.Nodes.{Right, Valid, Row}
 use Rattle.expr_chains.specs.Lowers.{step_lowers}
 use Rattle.expr_chains.specs.Pooled.{All}
 use Rattle.expr_count.specs.declared.links.Link.TheVariants.{Lowers}
+use Rattle.expr_count.specs.declared.operands.Operands.{Operands}
 use Rattle.expr_count.specs.Link.{link}
 use Rattle.expr_model.specs.Made.{Made, lowered}
 use Rattle.expr_model.specs.Construct.{Low, steps, step_by}
@@ -87,9 +88,9 @@ module _ {s : List ℕ} {l : Layout} {ws xs : List ℕ} {st q : State} {bs ds : 
             };
       })
 
-module _ {s : List ℕ} {l : Layout} {ws xs ys zs : List ℕ} {st q t r : State} {bs cs : List ℕ} (levels j c n : ℕ) {from : ℕ}
-    (e : bs ≡ c ∷ cs) (C : Right s) (W : Walking s l levels j ws st xs q bs) (is : link s c ≡ Lowers n from)
-    (args : Right s → Row s n from → Does s l xs q ys t (rows s (lowered levels s) Nothing n from))
+module _ {s : List ℕ} {l : Layout} {ws xs ys zs : List ℕ} {st q t r : State} {bs cs : List ℕ} (levels j c : ℕ) (o : Operands)
+    (e : bs ≡ c ∷ cs) (C : Right s) (W : Walking s l levels j ws st xs q bs) (is : link s c ≡ Lowers o)
+    (args : Right s → Row s o.n o.from → Does s l xs q ys t (rows s (lowered levels s) Nothing o.n o.from))
     (names : Valid s (operand_of s c) → ChainKey s c → Does s l ys t zs r (step_names (step_rule s c) s (operand_of s c))) where
   walk-links : All (Linked s) (c ∷ cs)
   walk-links = subst (All (Linked s)) e W.linked
@@ -97,13 +98,13 @@ module _ {s : List ℕ} {l : Layout} {ws xs ys zs : List ℕ} {st q t r : State}
   link-does : Does s l xs q zs r (step_by (step_rule s c) s (lowered levels s) c)
   link-does =
       let L = walk-links.0 in
-      step-does (lowered levels s) c n from is (args C (link_row s c n from C L.link is)) (names (link-node s C c L.link) L.key)
+      step-does (lowered levels s) c o is (args C (link_row s c o C L.link is)) (names (link-node s C c L.link) L.key)
 
   pub walk-on : Walking s l levels j ws st zs r cs
   walk-on = record {
     linked = walk-links.1;
     rest =
         left-by (steps s (lowered levels s) cs) W.rest link-does
-        (λ b k. ap (λ ds. steps s (lowered levels s) ds b) e ∙ steps_on s (lowered levels s) c cs b (link-lowers s c n from is))
+        (λ b k. ap (λ ds. steps s (lowered levels s) ds b) e ∙ steps_on s (lowered levels s) c cs b (link-lowers s c o is))
         (steps-grows levels s cs);
   }

@@ -1,4 +1,4 @@
--- The way of a call, its arguments and its first argument, answer by answer.
+-- The way of a call, answer by answer.
 use Rattle.std.proofs.Common.{◌≡◌, ℕ, List, sym, refl, ap, ◌∙◌}
 use mathlib.Core.Option as Search
 use mathlib.Core.Option.{none, some}
@@ -16,7 +16,7 @@ use Rattle.expr_rules.proofs.InverseLaws.{call_rule_from, call-is}
 use Rattle.expr_rules.proofs.ReceiverLaws.{receiver-variable, receiver-this, receiver-value}
 use Rattle.expr_emit.specs.declared.calls.Way.{Way}
 use Rattle.expr_emit.specs.declared.calls.Way.TheVariants.{FnPtr, FnPtrCall, This, Value, Eval, Kept}
-use Rattle.expr_emit.specs.Ways.{way_first, way_found, way_by, way_of, arg_count, first_arg}
+use Rattle.expr_emit.specs.Ways.{way_first, way_found, way_by, way_of}
 
 found_first : (o : Search.Option ℕ) → way_found (found o) ≡ way_first (elim o [ some slot ↦ Call.local slot | none ↦ Call.named ])
 unfolding way_found way_first found
@@ -70,12 +70,3 @@ module _ (s : List ℕ) (j : ℕ) where
   pub way-kept : (k : Calls.CallRule) → k ≡ call_rule_of (call_rule s j) → k ≡ Calls.TheVariants.Residual → Kept ≡ way_of s j
   unfolding way_by call_rule_from
   way-kept k e h = way-told Calls.TheVariants.Residual (sym e ∙ h)
-
-  module _ (w : Way) where
-    -- how many arguments
-    pub count-at : (v : Way) → w ≡ v → arg_count v s j ≡ arg_count w s j
-    count-at v e = ap (λ (k : Way). arg_count k s j) (sym e)
-
-    -- the first of them
-    pub first-at : (v : Way) → w ≡ v → first_arg v s j ≡ first_arg w s j
-    first-at v e = ap (λ (k : Way). first_arg k s j) (sym e)

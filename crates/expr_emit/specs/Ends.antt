@@ -13,4 +13,4 @@ end_place levels s code j = (code + min (tally levels s j).len cap) % 2 ^ 32
 
 -- r is the place behind the code of node j, which is next, where the scratch has the local of each Variable
 pub record EndsAt (levels : ℕ) (s xs : List ℕ) (st : State) (j r : ℕ) : Type 0 where
-  pub is : st.nodes ≡ node_count s → Slots s (layout_of st) xs → r ≡ end_place levels s st.code j
+  pub is : st.layout.nodes ≡ node_count s → Slots s (layout_of st) xs → r ≡ end_place levels s st.code j

@@ -6,6 +6,8 @@ use Rattle.bytecode.specs.declared.Op.TheVariants.{LoadNamed, LoadThis, MakeFnPt
 use Rattle.lowering.specs.Pools.{name, name_at}
 use Rattle.lowering.specs.Call.{CallRule, First, call_rule, receiver}
 use Rattle.lowering.specs.Call as Call
+use Rattle.expr_count.specs.declared.operands.Operands.{Operands}
+use Rattle.expr_count.specs.Operands.{some_from}
 use Rattle.expr_model.specs.Made.{Made, emit, add_name, defeated, residual}
 use Rattle.expr_model.specs.Construct.{call_ref, rotate, call_end}
 use Rattle.expr_emit.specs.declared.calls.Way.{Way}
@@ -53,6 +55,10 @@ first_arg This s j = next s (child j)
 first_arg Value s j = child j
 first_arg Eval s j = child j
 first_arg Kept s j = child j
+
+-- both
+abbrev pub arguments : Way → List ℕ → ℕ → Operands
+arguments w s j = some_from (arg_count w s j) (first_arg w s j)
 
 unfoldable pub opened : Way → List ℕ → ℕ → Made → Made
 opened FnPtr s j a = a

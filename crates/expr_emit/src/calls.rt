@@ -19,11 +19,12 @@ ghost use Rattle.expr_emit.specs.WayFacts.{Facts};
 
 use crate::names::add_name;
 use bytecode::{Op, Receiver};
+use expr_count::operands::Operands;
 use expr_rules::calls::{CallRule, call_rule, receiver_kind, stores_token};
 use scratch_locals::local_of;
 use scratch_store::Store;
 use sheet::kinds::{THIS, VARIABLE};
-use sheet::{child, count, field_b, next, position};
+use sheet::{child, count, field_b, position};
 
 // The ways of a call: `Fn`; `call`; through a local, a name, `this`; of values; `eval`; kept as it is.
 #[derive(Clone, Copy)]
@@ -43,22 +44,19 @@ pub enum Way {
 fn way_variable(found: Option<u32>) -> Way
     ensures { result ≡ ways.way_found found }
 {
-    match found {
-        Some(slot) => Way::Local(slot),
-        None => Way::Named,
-    }
+    found.map_or(Way::Named, Way::Local)
 }
 
 // The way of a call that generic dispatch takes.
+// Kept: the sheet beside the store, here and below: lib.rt says why.
+// Kept: that the slots stand (`Slots`) is a premise here and in `way_of`, and what is known of the call and of its name (`Facts`, `Plain`,
+// `NameKey`, fewer than 256 arguments) one below: each function answers for every sheet and scratch, so no value brings them.
 fn way_first(sheet: &[u8], store: &Store, j: u32) -> Way
     ensures { let sheet = sheet.now in let it = store.now in
         (Slots sheet (layout_of it.state) it.scratch.now → result ≡ ways.way_first (calling.receiver sheet j)) }
 {
     match receiver_kind(sheet, j) {
-        VARIABLE => {
-            let layout = store.state.layout();
-            way_variable(local_of(sheet, store.words(), layout, child(j)))
-        }
+        VARIABLE => way_variable(local_of(sheet, store.words(), store.state.layout, child(j))),
         THIS => Way::This,
         _ => Way::Value,
     }
@@ -165,28 +163,22 @@ fn close_pointer(sheet: &[u8], store: &mut Store, j: u32)
 }
 
 impl Way {
-    // How many arguments are lowered.
-    #[tactic(auto, unfolding(crate::specs::Ways::arg_count))]
-    pub fn arg_count(self, sheet: &[u8], j: u32) -> u32
-        ensures { result ≡ ways.arg_count self sheet.now j }
+    // The arguments that are lowered.
+    #[tactic(auto, unfolding(crate::specs::Ways::arg_count, crate::specs::Ways::first_arg))]
+    pub fn arguments(self, sheet: &[u8], j: u32) -> Operands
+        ensures { result ≡ ways.arguments self sheet.now j }
     {
         match self {
-            Way::FnPtr => 1,
-            Way::FnPtrCall | Way::Value => count(sheet, j),
-            Way::Local(_) | Way::Named | Way::This => count(sheet, j).saturating_sub(1),
-            Way::Eval | Way::Kept => 0,
-        }
-    }
-
-    // The first of them.
-    #[tactic(auto, unfolding(crate::specs::Ways::first_arg))]
-    pub fn first_arg(self, sheet: &[u8], j: u32) -> u32
-        ensures { result ≡ ways.first_arg self sheet.now j }
-    {
-        let first = child(j);
-        match self {
-            Way::Local(_) | Way::Named | Way::This => next(sheet, first),
-            Way::FnPtr | Way::FnPtrCall | Way::Value | Way::Eval | Way::Kept => first,
+            Way::FnPtr => Operands {
+                n: 1,
+                from: child(j),
+            },
+            Way::FnPtrCall | Way::Value => Operands::of(sheet, j),
+            Way::Local(_) | Way::Named | Way::This => Operands::others(sheet, j),
+            Way::Eval | Way::Kept => Operands {
+                n: 0,
+                from: child(j),
+            },
         }
     }
 

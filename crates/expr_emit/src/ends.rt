@@ -20,24 +20,26 @@ use scratch_locals::FEW;
 use scratch_store::Store;
 use sheet::local_count;
 
+// Kept: that the slots stand is a premise, here and in `EndsAt`, as those in `calls`. The sheet is beside the store: lib.rt says why.
 // What is told of the locals: beside many of them the scratch says which Variables are some, from behind its lists on.
 fn told<'a>(sheet: &[u8], store: &'a Store) -> Locals<'a>
     ensures { let sheet = sheet.now in
         let it = store.now in
-        (it.state.nodes ≡ node_count sheet → Slots sheet (layout_of it.state) it.scratch.now → (v : ℕ)
+        (it.state.layout.nodes ≡ node_count sheet → Slots sheet (layout_of it.state) it.scratch.now → (v : ℕ)
         → nodes.kind sheet v ≡ variable_kind
         → answer result sheet v ≡ is_local sheet v) }
 {
     if local_count(sheet) <= FEW {
         return Locals::Sought;
     }
-    match store.words().get(store.state.layout().links_at()..) {
+    match store.words().get(store.state.layout.links_at()..) {
         Some(words) => Locals::Told(words),
         None => Locals::Sought,
     }
 }
 
 // The place behind the code of node `j`, which is next, as a word.
+// Kept: `%` as the definition has it, of a u64, as in `count_one` of scratch_store.
 pub fn end_of(levels: u32, sheet: &[u8], store: &Store, j: u32) -> u32
     ensures { EndsAt levels sheet.now store.now.scratch.now store.now.state j result }
 {

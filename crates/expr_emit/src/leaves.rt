@@ -25,6 +25,8 @@ pub fn constant(sheet: &[u8], store: &mut Store, j: u32)
 }
 
 // A name, loaded.
+// Kept: that the node has no mark and names a key are premises here and below, as those in `calls`. The sheet is beside the store: lib.rt
+// says why.
 fn load_named(sheet: &[u8], store: &mut Store, j: u32)
     ensures { let sheet = sheet.now in ((l : Layout) → Plain sheet j → NameKey sheet (key_of j 0)
         → Done sheet l store.old store.new (constructs.load_named sheet j)) }
@@ -38,8 +40,7 @@ pub fn variable(sheet: &[u8], store: &mut Store, j: u32)
     ensures { let sheet = sheet.now in ((l : Layout) → Plain sheet j → NameKey sheet (key_of j 0)
         → Done sheet l store.old store.new (constructs.variable sheet j)) }
 {
-    let layout = store.state.layout();
-    match local_of(sheet, store.words(), layout, j) {
+    match local_of(sheet, store.words(), store.state.layout, j) {
         Some(slot) => store.emit(Op::LoadLocal(slot), 0, 0),
         None => load_named(sheet, store, j),
     }

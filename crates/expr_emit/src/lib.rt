@@ -28,6 +28,7 @@ use calls::way_of;
 use ends::{decision, end_of};
 use expr_chains::{Distance, far_of};
 use expr_count::links::{Link, link_with, temporary};
+use expr_count::operands::Operands;
 use expr_rules::chains::links_of;
 use expr_rules::kinds::Rule;
 use expr_rules::rule;
@@ -36,20 +37,21 @@ use lowering::MAX_ELEMENTS;
 use scratch_store::Store;
 use sheet::{Siblings, child, count, field_a, position, skip};
 
-// `n` siblings from node `from` on, each with `by` behind it.
+// Some operands, each with `by` behind it.
 // Kept: that the sheet is right and the node valid are premises here and below: each function stands for every
 // sheet, so no value brings them.
 // This, `walk` and `short_circuit` are drawn into `expression`: a level of the sheet then takes one frame, and not two or three.
 // Kept: `levels` and `sheet` are two parameters here and below. `levels` goes down at each node, so a struct of both would be made anew for
 // each call, and be passed through memory.
+// Kept: the sheet beside the store, here and in all modules: `Store` of scratch_store says why.
 #[inline(always)]
 #[cycle(array_call_chain_coalesce_expression_interpolated_short_circuit_siblings_walk)]
-fn siblings(levels: u32, sheet: &[u8], store: &mut Store, by: After, n: u32, from: u32)
-    ensures { let sheet = sheet.now in ((l : Layout) → Right sheet → Row sheet n from
+fn siblings(levels: u32, sheet: &[u8], store: &mut Store, by: After, of: Operands)
+    ensures { let sheet = sheet.now in ((l : Layout) → Right sheet → Row sheet of.n of.from
         → Done sheet l store.old store.new (rows sheet
-        (lowered levels sheet) by n from)) }
+        (lowered levels sheet) by of.n of.from)) }
 {
-    for (i, j) in Siblings::new(sheet, n, from).enumerate() {
+    for (i, j) in Siblings::new(sheet, of.n, of.from).enumerate() {
         expression(levels, sheet, store, j);
         after_one(store, by, i as u32, position(sheet, j));
     }
@@ -62,10 +64,10 @@ fn array(levels: u32, sheet: &[u8], store: &mut Store, j: u32)
         → Done sheet l store.old store.new (constructs.array sheet
         (lowered levels sheet) j)) }
 {
-    let n = count(sheet, j);
-    if n <= MAX_ELEMENTS {
-        siblings(levels, sheet, store, After::CheckPlace, n, child(j));
-        store.emit(Op::MakeArray(n), position(sheet, j), 0);
+    let of = Operands::of(sheet, j);
+    if of.n <= MAX_ELEMENTS {
+        siblings(levels, sheet, store, After::CheckPlace, of);
+        store.emit(Op::MakeArray(of.n), position(sheet, j), 0);
     } else {
         store.residual(j);
     }
@@ -78,14 +80,7 @@ fn interpolated(levels: u32, sheet: &[u8], store: &mut Store, j: u32)
         → Done sheet l store.old store.new (constructs.interpolated sheet (lowered levels sheet) j)) }
 {
     store.emit(Op::InterpolateStart, 0, 0);
-    siblings(
-        levels,
-        sheet,
-        store,
-        After::Append,
-        count(sheet, j),
-        child(j),
-    );
+    siblings(levels, sheet, store, After::Append, Operands::of(sheet, j));
     store.emit(Op::InterpolateEnd, 0, 0);
 }
 
@@ -101,7 +96,7 @@ fn short_circuit(levels: u32, sheet: &[u8], store: &mut Store, stop: bool, end: 
         to: end.saturating_sub(1),
     };
     let d = store.state.depth;
-    siblings(levels, sheet, store, by, count(sheet, j), child(j));
+    siblings(levels, sheet, store, by, Operands::of(sheet, j));
     decision(store, stop, end, d);
 }
 
@@ -114,7 +109,8 @@ fn coalesce(levels: u32, sheet: &[u8], store: &mut Store, end: u32, j: u32)
 {
     let n = count(sheet, j).saturating_sub(1);
     let first = child(j);
-    siblings(levels, sheet, store, After::Unless { to: end }, n, first);
+    let others = Operands { n, from: first };
+    siblings(levels, sheet, store, After::Unless { to: end }, others);
     expression(levels, sheet, store, skip(sheet, n, first));
 }
 
@@ -127,15 +123,7 @@ fn call(levels: u32, sheet: &[u8], store: &mut Store, j: u32)
 {
     let w = way_of(sheet, store, j);
     let at = w.open(sheet, store, j);
-    let n = w.arg_count(sheet, j);
-    siblings(
-        levels,
-        sheet,
-        store,
-        After::Nothing,
-        n,
-        w.first_arg(sheet, j),
-    );
+    siblings(levels, sheet, store, After::Nothing, w.arguments(sheet, j));
     w.close(sheet, store, j, at);
 }
 
@@ -149,8 +137,8 @@ fn walk(levels: u32, sheet: &[u8], store: &mut Store, j: u32)
 {
     for p in links_of(sheet, j) {
         match link_with(sheet, p) {
-            Link::Lowers { n, from } => {
-                siblings(levels, sheet, store, After::Nothing, n, from);
+            Link::Lowers(of) => {
+                siblings(levels, sheet, store, After::Nothing, of);
                 steps::step_names(sheet, store, p);
             }
             Link::Fails | Link::Nowhere => return,
@@ -166,6 +154,7 @@ fn chain(levels: u32, sheet: &[u8], store: &mut Store, j: u32)
         (lowered levels sheet) j)) }
 {
     let far = far_of(sheet, j);
+    // Kept: a match on how far the chain comes. It is read from the sheet, so closures would be chosen by the same match.
     match far.distance {
         Distance::Nowhere => store.residual(j),
         Distance::TakenBack => {
@@ -179,13 +168,13 @@ fn chain(levels: u32, sheet: &[u8], store: &mut Store, j: u32)
             let root = child(j);
             steps::root_name(sheet, store, root);
             walk(levels, sheet, store, j);
+            let n = temporary(sheet, root);
             siblings(
                 levels,
                 sheet,
                 store,
                 After::Nothing,
-                temporary(sheet, root),
-                root,
+                Operands { n, from: root },
             );
             steps::close_chain(sheet, store, j, far.operands);
         }

@@ -34,6 +34,8 @@ pub fn root_name(sheet: &[u8], store: &mut Store, v: u32)
 }
 
 // The name, getter and setter of property `v`, which a link is taken with.
+// Kept: that a node is valid, and of which kind, are premises here, above and below, as those in `calls`. The sheet is beside the store:
+// lib.rt says why.
 fn property(sheet: &[u8], store: &mut Store, v: u32, link: u32)
     ensures { let sheet = sheet.now in
         ((l : Layout) → nodes.kind sheet v ≡ 11 → v ≡ flatten.operand_of sheet link → nodes.kind sheet link ≡ 14 → Valid sheet v

@@ -30,7 +30,7 @@ abbrev Within : Tally → Type 0
 Within t = t.len ≤ t.emitted
 
 abbrev Some : Plan → Type 0
-Some (Parts gap n from rest) = (1 ≤ rest.emitted) × Within rest
+Some (Parts gap o rest) = (1 ≤ rest.emitted) × Within rest
 Some Coalesce = Prim.Unit {0}
 Some Chain = Prim.Unit {0}
 
@@ -95,7 +95,7 @@ siblings-within s t h gap (suc n) j =
 
 on-within : (l : Links.Link) (s : List ℕ) (t : Rec) (rest : Tally) → ((i : ℕ) → Within (t i)) → Within rest → Within (walk_on l s t rest)
 unfolding walk_on
-on-within (Links.TheVariants.Lowers n from) s t rest h g = plus-within (siblings s t 0 n from) rest (siblings-within s t h 0 n from) g
+on-within (Links.TheVariants.Lowers o) s t rest h g = plus-within (siblings s t 0 o.n o.from) rest (siblings-within s t h 0 o.n o.from) g
 on-within Links.TheVariants.Fails s t rest h g = nothing-within
 on-within Links.TheVariants.Nowhere s t rest h g = nothing-within
 
@@ -113,7 +113,7 @@ chain-some (suc (suc far)) u v g h = omega arith
 follow-some : (p : Plan) (s : List ℕ) (t : Rec) (j : ℕ) → Some p → ((i : ℕ) → 1 ≤ (t i).emitted) → ((i : ℕ) → Within (t i))
     → (1 ≤ (follow p s t j).emitted) × Within (follow p s t j)
 unfolding follow plus coalesce chain
-follow-some (Parts gap n from rest) s t j h more fits = let g = siblings-within s t fits gap n from in omega arith
+follow-some (Parts gap o rest) s t j h more fits = let g = siblings-within s t fits gap o.n o.from in omega arith
 follow-some Coalesce s t j h more fits =
     let v = skip s (count s j - 1) (child j) in
     let l = more v in

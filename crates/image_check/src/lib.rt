@@ -43,10 +43,12 @@ fn judge(sheet: &[u8], image: &[u32], scratch: &mut [u32]) -> Result<(), Refusal
     ensures { let sheet = sheet.now in (checked sheet ≡ Ok tt → Answers sheet image.now scratch.old result scratch.new) }
 {
     let m = image.len();
-    if scratch.len() < m {
+    // Kept: no `get_mut(..m)`. Tried: std's contract of it does not say what the slice ends as, not even where it has no such part, and
+    // under 11 the scratch has to be as it was.
+    let Some((part, _)) = scratch.split_at_mut_checked(m) else {
         return Err(Refusal::ScratchShort);
-    }
-    let made = well_made(sheet, image, &mut scratch[..m]);
+    };
+    let made = well_made(sheet, image, part);
     zero(scratch);
     if made {
         return Ok(());

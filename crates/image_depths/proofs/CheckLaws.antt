@@ -2,14 +2,15 @@
 use Prim.Native.Nat.{ℕ, zero, suc, ◌+◌, ◌-◌, ◌<◌, ◌≤◌, max}
 use mathlib.Core.Path.{◌≡◌, refl, sym, ap, ap₂, ◌∙◌}
 use mathlib.Core.Bool.{Bool, true, false, ◌&&◌}
-use mathlib.Core.List.{List}
+use mathlib.Core.List.{List, [], ◌∷◌}
 use native.Mathlib.Omega.{arith}
 use lib.Dec.{eqb, leb}
 use native.Mathlib.Decide.{dec_lt}
 use lib.ListN.{length}
 use lib.ListN.{take}
 use lib.Seq.{take_all}
-use Rattle.std.specs.List.{fold}
+use Rattle.std.specs.List.{fold, reduce}
+use Rattle.std.specs.Option.{unwrap_or}
 use Rattle.std.proofs.lemmas.List.{get_or_past}
 use Rattle.std.proofs.lemmas.List.Sums.{fold_more}
 use Rattle.std.proofs.Math.Nat.{max-zero, zero-max}
@@ -106,6 +107,14 @@ most-fold l zero = most-step l 0 ∙ zero-max (mark l 0)
 most-fold l (suc n) =
     let s : n + 1 ≡ suc n = omega arith in
     most-step l (suc n) ∙ ap (λ (x : ℕ). max x (mark l (suc n))) (ap (λ (i : ℕ). fold max 0 (take i l)) (sym s) ∙ most-fold l n)
+
+-- the greatest of them, or 0 where there is none
+reduced : (l : List ℕ) → unwrap_or (reduce max l) 0 ≡ fold max 0 l
+reduced [] = refl
+reduced (x ∷ l) = ap (λ (y : ℕ). fold max y l) (sym (zero-max x))
+
+pub most-reduced : (l : List ℕ) (n : ℕ) → unwrap_or (reduce max (take (n + 1) l)) 0 ≡ most l n
+most-reduced l n = reduced (take (n + 1) l) ∙ most-fold l n
 
 -- the four tests joined
 pub marks-by : (w l : List ℕ) (n g : ℕ) (a b : Bool) (x y : ℕ) → n ≡ instructions w → g ≡ greatest_depth w → a ≡ places_right w l

@@ -109,6 +109,8 @@ fn ways(image: &Image, c: Code, p: u32) -> (usize, usize)
 // If no mark has come to table `i` before, its rows and its default are come to.
 // Kept: marks and rows apart, here and below, as in image_rows. That rows lie in their pools (`Pooled`) and are counted (`Runs`) are
 // premises: no code knows the first, and a slice does not say the second.
+// Kept: that a mark is not 0 is a premise, here, below and in `come_rows`. `come` writes it as a word and asks for nothing, so a
+// `NonZeroU32` would be unmade at each of its calls, and be made of a sum in `pass`, with an arm that never comes.
 fn enter(image: &Image, m: u32, found: &mut [u32], rows: &mut [u32], i: u32)
     ensures { let image = image.now.words.now in
         (Pooled image i → 0 < m → Does image (marks.enter image i m) found.old rows.old found.new rows.new) }
@@ -158,15 +160,16 @@ fn pass(image: &Image, p: u32, found: &mut [u32], rows: &mut [u32]) -> bool
         return true;
     }
     let c = code_at(image, p);
-    let n = after(c, m - 1) + 1;
-    if 4294967295 < n {
+    let Ok(n) = u32::try_from(after(c, m - 1) + 1) else {
         return false;
-    }
-    hand_on(image, c, p, n as u32, found, rows);
+    };
+    hand_on(image, c, p, n, found, rows);
     true
 }
 
 // The marks of the whole code.
+// Kept: a loop, and no `all`. Tried: the closure would hold `found` and `rows` by `&mut`, and nothing is known of what they are behind
+// `all`. An `Option<()>` of `pass` with `?` would be unmade in `depths_right`, whose answer is a bool.
 fn mark_all(image: &Image, found: &mut [u32], rows: &mut [u32]) -> bool
     ensures { let image = image.now.words.now in
         (TablesNamed image
@@ -239,13 +242,16 @@ fn tables_right(image: &Image, found: &[u32], rows: &[u32]) -> bool
 }
 
 // The greatest of the marks 0 to `n`.
+// Kept: the number beside the slice, which has the marks of the tables too, behind those of the places.
 fn most(found: &[u32], n: u32) -> u32
     ensures { result ≡ marks.most found.now n }
 {
     found
         .iter()
         .take((n as usize) + 1)
-        .fold(0, |x, m| x.max(*m))
+        .copied()
+        .max()
+        .unwrap_or(0)
 }
 
 // The marks agree everywhere, one value remains, and the reported depth is the greatest.
@@ -270,10 +276,9 @@ pub fn depths_right(image: &[u32], scratch: &mut [u32]) -> bool
 {
     let image = Image::of(image);
     let there = image.marks_there();
-    if scratch.len() < there {
+    let Some((found, rows)) = scratch.split_at_mut_checked(there) else {
         return false;
-    }
-    let (found, rows) = scratch.split_at_mut(there);
+    };
     if !mark_all(&image, found, rows) {
         return false;
     }

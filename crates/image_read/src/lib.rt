@@ -135,6 +135,8 @@ impl Rows {
 }
 
 // How many records each section has.
+// Kept: two structs, this and `Starts`, and not a count and a start for each section. All sizes are read before any start is known, the
+// code has no start beside its size, and `SizesOf` and `Placed` speak of one struct each.
 #[derive(Clone, Copy)]
 pub struct Sizes {
     pub places: u32,

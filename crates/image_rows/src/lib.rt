@@ -86,6 +86,7 @@ fn come_row(image: &Image, m: u32, found: &mut [u32], rows: &mut [u32], k: usize
 // All rows of table `i` are come to. Each row on the way is noted as seen up to the table's last one, and rows that were seen are passed
 // over at once: for n rows and tables in all these are at most some n log n steps, however the tables share rows, since a step
 // either at least doubles what is noted of a row or halves the way that is left.
+// Kept: that the mark is not 0 is a premise, and no `NonZeroU32`: `enter` of image_depths, which calls this, says why.
 pub fn come_rows(image: &Image, m: u32, found: &mut [u32], rows: &mut [u32], i: u32)
     ensures { let image = image.now.words.now in
         let change = marks.comes m (runs.row_target image i) (words.switch_word image i 2) in

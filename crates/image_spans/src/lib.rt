@@ -41,7 +41,8 @@ fn put_needs(image: &Image, t: &mut [u32])
 {
     let n = image.sizes.steps as usize;
     // Kept: by number, here and in `put_targets`: a step and a row are read from the image by a u32, and `enumerate` gives a usize, which
-    // would be made that again at each of the reads.
+    // would be made that again at each of the reads. Tried, `t[n..].iter_mut().zip(..)` with the numbers: an invariant then has the
+    // iterator and not the words that are put, as at `copy` of write_sections.
     for j in 0..image.sizes.steps {
         t[n + j as usize] = need(
             StepKind::of(image.step_word(j, 0)),
@@ -85,16 +86,16 @@ fn chains_fit(image: &Image, t: &[u32]) -> bool
 }
 
 // Whether each step of each chain has its operands in that chain.
+// Kept: the frame of `targets_right` too. A function over it would take what is put and what is asked as closures, for two callers.
 pub fn operands_right(image: &[u32], scratch: &mut [u32]) -> bool
     ensures { let image = image.now in
         (Sized image scratch.old → ChainsLie image → result ≡ test.operands_right image) }
 {
     let image = Image::of(image);
     let n = 2 * (image.sizes.steps as usize);
-    if scratch.len() < n {
+    let Some(t) = scratch.get_mut(..n) else {
         return false;
-    }
-    let t = &mut scratch[..n];
+    };
     put_needs(&image, t);
     build(t);
     chains_fit(&image, t)
@@ -157,10 +158,9 @@ pub fn targets_right(image: &[u32], scratch: &mut [u32]) -> bool
     let n = image.sizes.cases;
     let m = image.sizes.ranges;
     let size = n as usize + m as usize;
-    if scratch.len() < 2 * size {
+    let Some(t) = scratch.get_mut(..2 * size) else {
         return false;
-    }
-    let t = &mut scratch[..2 * size];
+    };
     put_targets(&image, t, Rows::Cases, size, n);
     put_targets(&image, t, Rows::Ranges, size + n as usize, m);
     build(t);

@@ -40,6 +40,7 @@ fn put_words<W: Write>(writer: &mut W, words: &[u32]) -> io::Result<()>
 // Lowers the sheet that the reader holds, and writes the answer.
 // Kept: image and scratch are two buffers, as the C interface has them. A `Result` of std has no Display, and its two cases are written by
 // two types.
+// Kept: sheetcheck has these lines too. What both share is `read_whole`; what is written differs.
 pub fn answer<R: Read, W: Write>(reader: &mut R, writer: &mut W) -> io::Result<()>
     ensures { OnOk result (IfSome (R.remaining reader.old) (λ input.
         Appends (W.contents writer.old) (W.contents writer.new) (said input))) }

@@ -82,6 +82,8 @@ fn counted(sheet: &[u8], told: Locals) -> Tally
 }
 
 // An accepted Switch read into its table and counted, by the locals that are told.
+// Kept: that the sheet is accepted, and that it is a Switch, are premises, here and below, as to_image says: a type that has them would
+// ask more of callers.
 fn planned(sheet: &[u8], told: Locals, table: &mut Table) -> Tally
     ensures { let sheet = sheet.now in
         let t = tally_by (answer told.entry sheet) max_depth sheet in

@@ -4,7 +4,7 @@
 
 use checks::check;
 use refusals::number;
-use replay_records::{agreeing, fill, replay};
+use replay_records::{agreeing, fill, read_sheet, replay};
 use std::io;
 use std::io::{Read, writer};
 use words::word_at;
@@ -18,12 +18,10 @@ fn compare_one<R: Read>(reader: &mut R) -> io::Result<bool> {
     let Some(head) = fill(reader, &mut head, 8)? else {
         return Ok(false);
     };
-    let expected = word_at(head, 0);
-    let len = word_at(head, 1) as usize;
-    let Some(padded) = fill(reader, &mut sheet, len.next_multiple_of(4))? else {
+    let Some(sheet) = read_sheet(reader, &mut sheet, word_at(head, 1))? else {
         return Ok(false);
     };
-    Ok(number(&check(&padded[..len])) == expected)
+    Ok(number(&check(sheet)) == word_at(head, 0))
 }
 
 // Kept: replay_lower has these lines too. What both share is `replay` and `agreeing`; a `main` is its program's own.

@@ -7,7 +7,7 @@ ghost use Rattle.std.specs.Prelude.{◌≡◌, ◌≤◌, ◌<◌, ◌^◌, IfOk
 
 use image_check::check_image;
 use refusals::Refusal;
-use replay_records::{Counted, agreeing, fill, left_as, put_noise, replay};
+use replay_records::{Counted, agreeing, fill, left_as, put_noise, read_sheet, replay};
 use std::io;
 use std::io::{Read, writer};
 use words::word_at;
@@ -72,14 +72,12 @@ fn of_sheet<R: Read>(reader: &mut R, size: u32, most: u32) -> io::Result<Counted
     ensures most { IfOk result (λ counted. counted.most ≡ most) }
 {
     let mut sheet = [0u8; 65536];
-    let n = size as usize;
-    let Some(padded) = fill(reader, &mut sheet, n.next_multiple_of(4))? else {
+    let Some(sheet) = read_sheet(reader, &mut sheet, size)? else {
         return Ok(Counted {
             same: 0,
             most: u64::from(most),
         });
     };
-    let sheet = &padded[..n];
     agreeing(reader, most, |reader| compare_one(reader, sheet))
 }
 

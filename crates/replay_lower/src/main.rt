@@ -10,7 +10,7 @@ ghost use Rattle.replay_lower.specs.Left as left;
 
 use needs::needs;
 use refusals::{Refusal, number};
-use replay_records::{agreeing, fill, left_as, noise, put_noise, replay, word};
+use replay_records::{agreeing, fill, left_as, noise, put_noise, read_sheet, replay};
 use std::io;
 use std::io::{Read, writer};
 use to_image::lower;
@@ -54,7 +54,10 @@ fn image_same(image: &[u32], wanted: &[u8]) -> bool
     ensures { result ≡ all_below (length image.now)
         (λ i. eqb (get_or image.now i 0) (left.image_word wanted.now (length wanted.now / 4) i)) }
 {
-    (0..image.len()).all(|i| word(image, i) == image_word(wanted, i))
+    image
+        .iter()
+        .enumerate()
+        .all(|(i, w)| *w == image_word(wanted, i))
 }
 
 // What a record wants: words of room for the image and for the scratch, the number of the answer, and the words of the image in bytes.
@@ -106,11 +109,10 @@ fn compare_sheet<R: Read>(reader: &mut R, wanted: Wanted) -> io::Result<bool> {
     let Some(size) = fill(reader, &mut size, 4)? else {
         return Ok(false);
     };
-    let n = word_at(size, 0) as usize;
-    let Some(padded) = fill(reader, &mut sheet, n.next_multiple_of(4))? else {
+    let Some(sheet) = read_sheet(reader, &mut sheet, word_at(size, 0))? else {
         return Ok(false);
     };
-    Ok(agrees(&padded[..n], wanted))
+    Ok(agrees(sheet, wanted))
 }
 
 // Reads a record and compares. A record that is cut off, or too long, does not agree.

@@ -2,3 +2,4 @@ pub mod Agreed
 pub mod Counted
 pub mod Left
 pub mod Replayed
+pub mod Sheets

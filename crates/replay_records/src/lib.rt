@@ -6,6 +6,7 @@ ghost use Rattle.std.specs.Prelude.{Some, ◌-◌, ◌≤◌, ◌<◌, length, g
 ghost use Rattle.std.specs.Io.KnownBytes.{Consumes};
 ghost use Rattle.replay_records.specs.Agreed.{Agreed, Stopped};
 ghost use Rattle.replay_records.specs.Replayed.{Replayed};
+ghost use Rattle.replay_records.specs.Sheets.{SheetRead, padded};
 ghost use Rattle.replay_records.specs.Counted.{counted_text};
 ghost use Rattle.words.specs.Count.{all_below};
 ghost use Rattle.replay_records.specs.Left as left;
@@ -34,6 +35,25 @@ pub fn fill<'a, R: Read>(
         return Ok(Some(part));
     }
     Ok(None)
+}
+
+// Reads a sheet of `n` bytes to the start of `buf`, with the bytes that pad it to a word: none where they are not there, or `buf` has no
+// room for them.
+pub fn read_sheet<'a, R: Read>(
+    reader: &mut R,
+    buf: &'a mut [u8],
+    n: u32,
+) -> io::Result<Option<&'a [u8]>>
+    ensures room { IfOk result (λ part. IfSome part (λ sheet. padded n ≤ length buf.old)) }
+    ensures bytes { IfOk result (λ part. IfSome part (λ sheet. SheetRead (R.remaining reader.old) (R.remaining reader.new) n sheet.now)) }
+    ensures short { IfOk result (λ part. IsNone part → padded n ≤ length buf.old
+        → IfSome (R.remaining reader.old) (λ left. length left < padded n)) }
+{
+    let n = n as usize;
+    let Some(padded) = fill(reader, buf, n.next_multiple_of(4))? else {
+        return Ok(None);
+    };
+    Ok(Some(&padded[..n]))
 }
 
 // How many records agree, of how many.
@@ -112,7 +132,9 @@ pub fn word(words: &[u32], i: usize) -> u32
 pub fn left_as(buf: &[u32], zeroed: bool) -> bool
     ensures { result ≡ all_below (length buf.now) (λ i. eqb (get_or buf.now i 0) (left.word_left zeroed i)) }
 {
-    (0..buf.len()).all(|i| word(buf, i) == word_left(zeroed, i))
+    buf.iter()
+        .enumerate()
+        .all(|(i, w)| *w == word_left(zeroed, i))
 }
 
 // Replays what the reader holds: how many records there are, then the records, which `compare` reads and counts, and a line of the result.

@@ -149,8 +149,8 @@ pub fn fill(sheet: &[u8], scratch: &mut [u32], at: u32)
     fill_blocks(b, scratch, at);
 }
 
-// Kept: the scratch and the place of the kept folds apart, here and below. Callers hold sheet and scratch in structs of their own (`Names`,
-// `Store`), and would make one more for each text.
+// Kept: the scratch and the place of the kept folds apart, here and below. Callers have the sheet in what they look for (`ConstOf`,
+// `NameWith`) or in `Pass`, and the scratch beside it; a struct of the three would be made for each text.
 // The fold over the first `i` bytes: from the end of the block before.
 fn fold_to(b: &[u8], scratch: &[u32], at: u32, i: usize) -> u32
     ensures { FoldsTo b.now at scratch.now i result }

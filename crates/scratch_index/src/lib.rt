@@ -34,6 +34,7 @@ use sheet::{child, count, field_a, field_b, field_c, kind, position, start_of, t
 // Kept: a head and the entry in a link are the entry plus 1, and 0 is none, here and in `note` and `seek`; so is the text of a memo
 // (`remember`, `recalled`), and the local of a slot (scratch_locals). A word of the lent scratch has no Option: each becomes one where it
 // is read, or is only compared with 0 (`told_by` of expr_count).
+// Kept: a map in words, and the memos below too: the C interface lends one slice, and there is no heap.
 pub const RANKS: u32 = 524288;
 
 pub const TAGS: u32 = 8192;
@@ -54,6 +55,7 @@ pub fn link(ix: Index, j: u32) -> usize
 }
 
 // The place of the link of the name with key `k`.
+// Kept: the key as a number, as in scratch_keys: an enum would be made of it for this one sum.
 pub fn name_link(ix: Index, k: u32) -> usize
     ensures { result ≡ link_at ix (name_slot k) }
 {
@@ -107,21 +109,8 @@ pub fn remember(scratch: &mut [u32], ms: u32, t: u32, p: u32)
     put(scratch, at + 1, p);
 }
 
-// The hash of the constant of node `j`, by the kept folds.
-pub fn const_hash(sheet: &[u8], scratch: &[u32], layout: Layout, j: u32) -> u32
-    ensures { let sheet = sheet.now in
-        BySums sheet (places.sums_from layout) scratch.now (const_hash sheet j) result }
-{
-    let k = kind(sheet, j);
-    let a = field_a(sheet, j);
-    if k == STRING {
-        return hash_text(sheet, scratch, layout.sums_at(), a);
-    }
-    number_hash(k, a, field_b(sheet, j))
-}
-
 // Nodes `i` and `c` have the same constant. One text number needs no bytes.
-// Kept: kind and bytes stand in the sheet, here and in `same_name`, so no derive compares them.
+// Kept: kind and bytes stand in the sheet, here and in `NameWith`, so no derive compares them.
 fn same_const(sheet: &[u8], i: u32, c: u32) -> bool
     ensures { result ≡ same_const_of sheet.now i c }
 {
@@ -135,37 +124,6 @@ fn same_const(sheet: &[u8], i: u32, c: u32) -> bool
         return (a == d) & (field_b(sheet, i) == field_b(sheet, c));
     }
     false
-}
-
-// The hash of the token of node `j`.
-pub fn token_hash(sheet: &[u8], j: u32) -> u32
-    ensures { result ≡ token_hash sheet.now j }
-{
-    let t = field_c(sheet, j);
-    spread_out(t.wrapping_add(1))
-}
-
-// The hash of the name with text `t`, and `!` where `m` says: one byte more. By the kept folds.
-pub fn name_hash(sheet: &[u8], scratch: &[u32], layout: Layout, t: u32, m: bool) -> u32
-    ensures { let sheet = sheet.now in
-        BySums sheet (places.sums_from layout) scratch.now (name_hash_of sheet (name_with sheet t m)) result }
-{
-    let f = fold_text(sheet, scratch, layout.sums_at(), t);
-    if m {
-        return spread_out(byte_step(f, b'!'));
-    }
-    spread_out(f)
-}
-
-// Key `c` has the name with text `t`, and `!` where `m` says. One text number needs no bytes.
-fn same_name(sheet: &[u8], t: u32, m: bool, c: u32) -> bool
-    ensures { result ≡ is_name sheet.now (name_with sheet.now t m) c }
-{
-    let d = text_of(sheet, c);
-    if t == d {
-        return is_marked(sheet, c) == m;
-    }
-    same_marked(sheet, c, text(sheet, t), m, text(sheet, d))
 }
 
 // What is looked for in an index: which entries are it, and where the link of an entry stands. What `told` says is taken to be so.
@@ -194,6 +152,21 @@ pub struct ConstOf<'a> {
     pub node: u32,
 }
 
+impl<'a> ConstOf<'a> {
+    // Its hash, by the kept folds.
+    pub fn hash(&self, scratch: &[u32], layout: Layout) -> u32
+        ensures { let it = self.now in let sheet = it.sheet.now in
+            BySums sheet (places.sums_from layout) scratch.now (const_hash sheet it.node) result }
+    {
+        let k = kind(self.sheet, self.node);
+        let a = field_a(self.sheet, self.node);
+        if k == STRING {
+            return hash_text(self.sheet, scratch, layout.sums_at(), a);
+        }
+        number_hash(k, a, field_b(self.sheet, self.node))
+    }
+}
+
 impl<'a> Wanted for ConstOf<'a> {
     ghost told = { λ _. Unit {0} };
 
@@ -215,6 +188,16 @@ impl<'a> Wanted for ConstOf<'a> {
 pub struct TokenOf<'a> {
     pub sheet: &'a [u8],
     pub node: u32,
+}
+
+impl<'a> TokenOf<'a> {
+    // Its hash.
+    pub fn hash(&self) -> u32
+        ensures { let it = self.now in result ≡ token_hash it.sheet.now it.node }
+    {
+        let t = field_c(self.sheet, self.node);
+        spread_out(t.wrapping_add(1))
+    }
 }
 
 impl<'a> Wanted for TokenOf<'a> {
@@ -241,6 +224,20 @@ pub struct NameWith<'a> {
     pub marked: bool,
 }
 
+impl<'a> NameWith<'a> {
+    // Its hash, by the kept folds: `!` is one byte more.
+    pub fn hash(&self, scratch: &[u32], layout: Layout) -> u32
+        ensures { let it = self.now in let sheet = it.sheet.now in
+            BySums sheet (places.sums_from layout) scratch.now (name_hash_of sheet (name_with sheet it.text it.marked)) result }
+    {
+        let f = fold_text(self.sheet, scratch, layout.sums_at(), self.text);
+        if self.marked {
+            return spread_out(byte_step(f, b'!'));
+        }
+        spread_out(f)
+    }
+}
+
 impl<'a> Wanted for NameWith<'a> {
     ghost told = { λ _. Unit {0} };
 
@@ -248,8 +245,14 @@ impl<'a> Wanted for NameWith<'a> {
 
     ghost slot = { name_slot };
 
+    // One text number needs no bytes.
     fn same(&self, k: u32) -> bool {
-        same_name(self.sheet, self.text, self.marked, k)
+        let d = text_of(self.sheet, k);
+        if self.text == d {
+            return is_marked(self.sheet, k) == self.marked;
+        }
+        let wanted = text(self.sheet, self.text);
+        same_marked(self.sheet, k, wanted, self.marked, text(self.sheet, d))
     }
 
     fn link(&self, ix: Index, k: u32) -> usize {
@@ -293,6 +296,8 @@ fn hit<W: Wanted>(wanted: &W, v: u32, h: u32, k: u32) -> bool
 
 // Where what is wanted, with hash `h`, stands in the index, however many entries it has. A link that does not lead back ends the search:
 // there is none where the index holds.
+// Kept: scratch, index and hash apart, as in `note` and in `stand` of scratch_store: a caller makes index and hash for
+// one search, and `head` and `hit` would take them apart again.
 pub fn seek<W: Wanted>(wanted: &W, scratch: &[u32], ix: Index, h: u32) -> Option<u32>
     ensures { (hash : ℕ → ℕ) (n : ℕ) → W.told wanted.now → Seeks (W.same wanted.now) hash W.slot ix n h scratch.now result }
 {
@@ -340,12 +345,12 @@ impl<'a> Names<'a> {
         if let Some(at) = recalled(self.scratch, self.layout.memos_at(), t) {
             return at;
         }
-        let h = name_hash(self.sheet, self.scratch, self.layout, t, false);
         let wanted = NameWith {
             sheet: self.sheet,
             text: t,
             marked: false,
         };
+        let h = wanted.hash(self.scratch, self.layout);
         // Kept: `count` where it is not there, which is the place that the definition gives it then.
         seek(&wanted, self.scratch, self.layout.name_index(), h).unwrap_or(self.count)
     }

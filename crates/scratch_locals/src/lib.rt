@@ -62,6 +62,9 @@ impl<'a> Wanted for TextOf<'a> {
 // The pass that finds the local of each Variable: its sheet, and the layout of the scratch that each step is lent.
 // Kept: the scratch is no field. Behind `&mut self` each step would have to promise that sheet and layout stay;
 // by value nothing need be said.
+// Kept: three lists of the lent scratch, and no slice of structs. The key and the local of each name are in the lists of names and of
+// tokens, the rank of each node in that of chains, and how many names there are goes beside. There is no heap, and `seek` reads keys
+// where the index has them.
 #[derive(Clone, Copy)]
 struct Pass<'a> {
     sheet: &'a [u8],

@@ -248,7 +248,7 @@ module _ {s : List ℕ} {l : Layout} {xs : List ℕ} {st : State} {a : Made} (v 
         record {
           fit = fit_same (length-set xs i v) h.fit;
           counts = counts-rest rest h;
-          laid = laid_same (states.with_const st) (add_const s (const_of s v) a) refl refl refl (omega arith) refl h.laid;
+          laid = laid_same (states.with_const st) (add_const s (const_of s v) a) refl refl (omega arith) refl h.laid;
           emitted = code-rest rest h i v (omega arith);
           pooled = record {
             const_keys = subst (λ (m : ℕ). Keys (consts_at l) l.nodes m (set xs i v)) (sym count) (keys_push k.const_keys v g far end);
@@ -343,7 +343,7 @@ module _ {s : List ℕ} {l : Layout} {xs : List ℕ} {st : State} {a : Made} (v 
         record {
           fit = fit_same (length-set xs i v) h.fit;
           counts = counts-rest rest h;
-          laid = laid_same (states.with_token st) (add_token (field_c s v) a) refl refl refl (omega arith) refl h.laid;
+          laid = laid_same (states.with_token st) (add_token (field_c s v) a) refl refl (omega arith) refl h.laid;
           emitted = code-rest rest h i v (omega arith);
           pooled = record {
             const_keys = keys-same (set xs i v) const-same k.const_keys;
@@ -439,7 +439,7 @@ module _ {s : List ℕ} {l : Layout} {xs : List ℕ} {st : State} {a : Made} (v 
         record {
           fit = fit_same (length-set xs i v) h.fit;
           counts = counts-rest rest h;
-          laid = laid_same (states.with_name st) (add_name s (name_of s v) a) refl refl refl (omega arith) refl h.laid;
+          laid = laid_same (states.with_name st) (add_name s (name_of s v) a) refl refl (omega arith) refl h.laid;
           emitted = code-rest rest h i v (omega arith);
           pooled = record {
             const_keys = keys-same (set xs i v) const-same k.const_keys;
@@ -606,7 +606,7 @@ module _ {s : List ℕ} {l : Layout} {xs : List ℕ} {st : State} {a : Made} (v 
         record {
           fit = fit_same (length-set xs i v) h.fit;
           counts = counts-rest rest h;
-          laid = record { most = laid.most; nodes = laid.nodes; steps = steps; few = let z = laid.steps in omega arith };
+          laid = record { layout = laid.layout; steps = steps; few = let z = laid.steps in omega arith };
           emitted = code-rest rest h i v (omega arith);
           pooled = record {
             const_keys = keys-same (set xs i v) const-same k.const_keys;

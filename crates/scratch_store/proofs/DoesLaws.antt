@@ -1,5 +1,5 @@
 -- Laws of changes that are done on the scratch: one after another, and what is left of them on the way.
-use Rattle.std.proofs.Common.{◌≡◌, ℕ, List, sym, refl, ◌∙◌, subst, ap₂, arith}
+use Rattle.std.proofs.Common.{◌≡◌, ℕ, List, sym, refl, ◌∙◌, subst, arith}
 use Rattle.expr_model.specs.Made.{Made}
 use Rattle.expr_model.specs.Construct.{add_chain}
 use Rattle.scratch.specs.declared.Layout.{Layout}
@@ -70,11 +70,11 @@ growing-none = record { each = λ a. omega arith }
 pub growing-seq : {F G : Made → Made} → Growing F → Growing G → Growing (λ a. G (F a))
 growing-seq {F} f g = record { each = λ a. let x = f.each a in let y = g.each (F a) in omega arith }
 
--- the layout that the counts tell is the layout that is held
+-- the layout beside the counts is the layout that is held
 pub laid-is : {s : List ℕ} {l : Layout} {xs : List ℕ} {st : State} {a : Made} → Holds s l xs st a → layout_of st ≡ l
-laid-is {l = l} h = ap₂ (λ (m n : ℕ). record { most = m; nodes = n }) h.laid.most h.laid.nodes
+laid-is h = h.laid.layout
 
--- the locals that are held, by the layout that the counts tell
+-- the locals that are held, by the layout beside the counts
 pub held-slots :
     {s : List ℕ} {l m : Layout} {xs : List ℕ} {st : State} {a : Made} → m ≡ layout_of st → Holds s l xs st a → Slots s m xs
 held-slots {s} {l} {m} {xs} is h = subst (λ (k : Layout). Slots s k xs) (sym (is ∙ laid-is h)) h.index.slots

@@ -144,7 +144,7 @@ module _ {s : List ℕ} {l : Layout} {xs : List ℕ} {st : State} {a : Made} (op
 
   emit-laid : Laid l (counted st (after_words w n st.depth)) (emit op pos n a)
   unfolding emit emits
-  emit-laid = laid_same (counted st (after_words w n st.depth)) (emit op pos n a) refl refl refl (omega arith) refl h.laid
+  emit-laid = laid_same (counted st (after_words w n st.depth)) (emit op pos n a) refl refl (omega arith) refl h.laid
 
   emit-index : Indexes s l st.consts st.tokens st.chains st.names (written l st w pos xs)
   emit-index =

@@ -16,13 +16,12 @@ use Rattle.scratch_store.specs.Holds.{Keys, Fit, Laid, PoolsHeld}
 pub fit_same : {s : List ℕ} {l : Layout} {xs ys : List ℕ} → length ys ≡ length xs → Fit s l xs → Fit s l ys
 fit_same e h = let k = h.space in record { space = omega arith; few = h.few; nodes = h.nodes; small = h.small }
 
--- the counts of Laid and the steps are the same
+-- the layout and the steps are the same
 pub laid_same :
-    {l : Layout} {st : State} {a : Made} (r : State) (b : Made) → r.most ≡ st.most → r.nodes ≡ st.nodes → r.steps ≡ st.steps
+    {l : Layout} {st : State} {a : Made} (r : State) (b : Made) → r.layout ≡ st.layout → r.steps ≡ st.steps
     → st.chains ≤ r.chains → b.pools.steps ≡ a.pools.steps → Laid l st a → Laid l r b
-laid_same r b m n k c e h = record {
-  most = m ∙ h.most;
-  nodes = n ∙ h.nodes;
+laid_same r b m k c e h = record {
+  layout = m ∙ h.layout;
   steps = k ∙ h.steps ∙ ap length (sym e);
   few = let f = h.few in omega arith;
 }

@@ -46,7 +46,7 @@ module _ {s : List ℕ} {l : Layout} {xs : List ℕ} {st : State} {a : Made} (j 
           low = c.low;
           within = c.within;
         };
-        laid = laid_same (states.with_residual st) (add_residual j a) refl refl refl (omega arith) refl h.laid;
+        laid = laid_same (states.with_residual st) (add_residual j a) refl refl (omega arith) refl h.laid;
         emitted = record {
           code = region-behind 0 (op_width * st.code) at j xs (omega arith) ∙ h.emitted.code;
           positions = region-behind (positions_at l) st.code at j xs (omega arith) ∙ h.emitted.positions;
@@ -109,7 +109,7 @@ depth-holds {st = st} {a} d f h =
         low = let e = c.emitted in omega arith;
         within = c.within;
       };
-      laid = laid_same (states.at_depth st d) (at_depth d a) refl refl refl (omega arith) refl h.laid;
+      laid = laid_same (states.at_depth st d) (at_depth d a) refl refl (omega arith) refl h.laid;
       emitted = record { code = h.emitted.code; positions = h.emitted.positions; residuals = h.emitted.residuals };
       pooled =
           let k = h.pooled in
@@ -145,7 +145,7 @@ defeated-holds {s} {st = st} {a} h =
         low = c.low;
         within = c.within;
       };
-      laid = laid_same st (defeated a) refl refl refl (omega arith) refl h.laid;
+      laid = laid_same st (defeated a) refl refl (omega arith) refl h.laid;
       emitted = record { code = h.emitted.code; positions = h.emitted.positions; residuals = h.emitted.residuals };
       pooled = record {
         const_keys = k.const_keys;
@@ -200,7 +200,7 @@ back-holds {l = l} {xs} {st = st} {saved} {a} {a₀} h₀ h g f =
         low = let z = c₀.low in omega arith;
         within = c.within;
       };
-      laid = laid_same (states.taken_back st saved) (take_back a₀ a) refl refl refl (omega arith) refl h.laid;
+      laid = laid_same (states.taken_back st saved) (take_back a₀ a) refl refl (omega arith) refl h.laid;
       emitted = record {
         code =
             region-front 0 (op_width * saved.code) (op_width * st.code) xs (code_words a₀.code) (code_words g.more)
@@ -243,7 +243,7 @@ start-holds {s} {l} {xs} fit index = record {
     low = omega arith;
     within = omega arith;
   };
-  laid = record { most = refl; nodes = refl; steps = refl; few = omega arith };
+  laid = record { layout = refl; steps = refl; few = omega arith };
   emitted = record { code = refl; positions = refl; residuals = refl };
   pooled = record {
     const_keys = no_keys (consts_at l) l.nodes xs;

@@ -59,8 +59,7 @@ pub record PoolsHeld (s : List ℕ) (l : Layout) (xs : List ℕ) (st : State) (a
 
 -- the layout, and the steps of the chains
 pub record Laid (l : Layout) (st : State) (a : Made) : Type 0 where
-  pub most : st.most ≡ l.most
-  pub nodes : st.nodes ≡ l.nodes
+  pub layout : st.layout ≡ l
   pub steps : st.steps ≡ length a.pools.steps
   pub few : st.steps ≤ max_depth * st.chains
 

@@ -3,9 +3,9 @@ use Rattle.std.specs.Prelude.{ℕ, ◌+◌, ◌%◌, max}
 use Rattle.scratch.specs.declared.Layout.{Layout}
 use Rattle.scratch_store.specs.declared.State.{State}
 
--- the layout that they tell
+-- the layout beside them, as contracts name it
 abbrev pub layout_of : State → Layout
-layout_of st = record { most = st.most; nodes = st.nodes }
+layout_of st = st.layout
 
 -- an instruction more, and the depth behind it
 abbrev pub counted : State → ℕ → State
@@ -54,7 +54,6 @@ start l = record {
   emitted = 0;
   depth = 0;
   deepest = 1;
-  most = l.most;
-  nodes = l.nodes;
+  layout = l;
   steps = 0;
 }

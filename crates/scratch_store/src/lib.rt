@@ -25,8 +25,7 @@ use lowering::OP_WIDTH;
 use ops::{after, op_words};
 use scratch::{Index, Layout, put};
 use scratch_index::{
-    ChainOf, ConstOf, NameWith, Names, TokenOf, Wanted, const_hash, name_hash, note, recalled,
-    remember, seek, token_hash,
+    ChainOf, ConstOf, NameWith, Names, TokenOf, Wanted, note, recalled, remember, seek,
 };
 use scratch_keys::{is_marked, text_of};
 use scratch_locals::root_local;
@@ -49,8 +48,7 @@ pub struct State {
     pub emitted: u32,
     pub depth: u32,
     pub deepest: u32,
-    pub most: u32,
-    pub nodes: u32,
+    pub layout: Layout,
     pub steps: u32,
 }
 
@@ -126,7 +124,7 @@ impl<'a> Store<'a> {
     {
         let code = self.state.code;
         let d = after(w, n, self.state.depth);
-        let at = self.state.layout().positions_at() + (code as usize);
+        let at = self.state.layout.positions_at() + (code as usize);
         put_op(self.scratch, code, w);
         put(self.scratch, at, pos);
         self.state.count_one(d);
@@ -146,7 +144,7 @@ impl<'a> Store<'a> {
         let r = self.state.residuals;
         self.emit(Op::EvalAst(r), 0, 0);
         let e = self.state.residuals;
-        let at = self.state.layout().residuals_at() + (e as usize);
+        let at = self.state.layout.residuals_at() + (e as usize);
         put(self.scratch, at, j);
         self.state.residuals = e.wrapping_add(1);
     }
@@ -160,9 +158,9 @@ impl<'a> Store<'a> {
             → Added sheet l self.old self.new result (ConstKey sheet j) (made.add_const sheet (pools.const_of sheet j))
             (λ a. pools.const_at sheet (pools.const_of sheet j) a.pools)) }
     {
-        let l = self.state.layout();
-        let h = const_hash(sheet, self.words(), l, j);
+        let l = self.state.layout;
         let wanted = ConstOf { sheet, node: j };
+        let h = wanted.hash(self.words(), l);
         stand(
             self.scratch,
             &mut self.state.consts,
@@ -179,9 +177,9 @@ impl<'a> Store<'a> {
             → Added sheet l self.old self.new result (TokenKey sheet j) (made.add_token (nodes.field_c sheet j))
             (λ a. pools.token_at (nodes.field_c sheet j) a.pools)) }
     {
-        let l = self.state.layout();
-        let h = token_hash(sheet, j);
+        let l = self.state.layout;
         let wanted = TokenOf { sheet, node: j };
+        let h = wanted.hash();
         stand(
             self.scratch,
             &mut self.state.tokens,
@@ -192,23 +190,19 @@ impl<'a> Store<'a> {
         )
     }
 
-    // The name with key `k`, which has text `t` and `!` where `m` says, sought by its bytes, and its place.
-    fn push_name(&mut self, sheet: &[u8], k: u32, t: u32, m: bool) -> u32
-        ensures { let sheet = sheet.now in ((l : Layout) → t ≡ (name_of sheet k).text → m ≡ is_marked sheet (key_node k) (key_field k)
+    // The name with key `k`, sought by its bytes, and its place.
+    fn push_name(&mut self, name: NameWith, k: u32) -> u32
+        ensures { let it = name.entry in let sheet = it.sheet.now in ((l : Layout)
+            → it.text ≡ (name_of sheet k).text → it.marked ≡ is_marked sheet (key_node k) (key_field k)
             → Added sheet l self.old self.new result (NameKey sheet k) (made.add_name sheet (name_of sheet k))
             (λ a. pools.name_at sheet (name_of sheet k) a.pools)) }
     {
-        let l = self.state.layout();
-        let h = name_hash(sheet, self.words(), l, t, m);
-        let wanted = NameWith {
-            sheet,
-            text: t,
-            marked: m,
-        };
+        let l = self.state.layout;
+        let h = name.hash(self.words(), l);
         stand(
             self.scratch,
             &mut self.state.names,
-            &wanted,
+            &name,
             l.name_index(),
             k,
             h,
@@ -223,14 +217,19 @@ impl<'a> Store<'a> {
             (λ a. pools.name_at sheet (name_of sheet k) a.pools)) }
     {
         let t = text_of(sheet, k);
-        if is_marked(sheet, k) {
-            return self.push_name(sheet, k, t, true);
+        let name = NameWith {
+            sheet,
+            text: t,
+            marked: is_marked(sheet, k),
+        };
+        if name.marked {
+            return self.push_name(name, k);
         }
-        let ms = self.state.layout().memos_at();
+        let ms = self.state.layout.memos_at();
         if let Some(at) = recalled(self.words(), ms, t) {
             return at;
         }
-        let at = self.push_name(sheet, k, t, false);
+        let at = self.push_name(name, k);
         if t < u32::MAX {
             remember(self.scratch, ms, t, at);
         }
@@ -241,7 +240,7 @@ impl<'a> Store<'a> {
     pub fn add_chain(&mut self, sheet: &[u8], j: u32) -> u32
         ensures { (l : Layout) → AddedChain sheet.now l self.old self.new result j }
     {
-        let l = self.state.layout();
+        let l = self.state.layout;
         let n = self.state.chains;
         let count = self.state.names;
         let local = root_local(sheet, self.words(), l, j);

@@ -20,19 +20,8 @@ impl State {
             emitted: 0,
             depth: 0,
             deepest: 1,
-            most: layout.most,
-            nodes: layout.nodes,
+            layout,
             steps: 0,
-        }
-    }
-
-    // The layout that the counts tell.
-    pub fn layout(&self) -> Layout
-        ensures { result ≡ states.layout_of self.now }
-    {
-        Layout {
-            most: self.most,
-            nodes: self.nodes,
         }
     }
 

@@ -73,6 +73,7 @@ pub fn bytes_at(sheet: &[u8]) -> usize
     lengths_at(sheet) + (text_count(sheet) as usize)
 }
 
+// Kept: rounded up by hand, as the definition has it; `pad_ok` of check_sizes has the times with `div_ceil`.
 pub fn locals_at(sheet: &[u8]) -> usize
     ensures { (result ≡ locals_at sheet.now) × (result < 70000000000) }
 {

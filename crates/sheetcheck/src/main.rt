@@ -13,6 +13,7 @@ use std::io::{Read, Write, writer};
 
 // Checks the sheet that the reader holds, and writes the answer.
 // Kept: a `Result` of std has no Display; the refusal has one.
+// Kept: lower_io has these lines too. What both share is `read_whole`; what is written differs.
 fn answer<R: Read, W: Write>(reader: &mut R, writer: &mut W) -> io::Result<()>
     ensures { OnOk result (IfSome (R.remaining reader.old) (λ input.
         Appends (W.contents writer.old) (W.contents writer.new) (said input))) }

@@ -43,7 +43,7 @@ dropped-holds {s} {l} {xs} {st} {a} f h =
         low = let z = c.low in omega arith;
         within = omega arith;
       };
-      laid = record { most = h.laid.most; nodes = h.laid.nodes; steps = h.laid.steps; few = h.laid.few };
+      laid = record { layout = h.laid.layout; steps = h.laid.steps; few = h.laid.few };
       emitted = record { code = h.emitted.code; positions = h.emitted.positions; residuals = h.emitted.residuals };
       pooled =
           pools-counts (dropped_in st) (record { consts = refl; tokens = refl; chains = refl; names = refl })

@@ -1,4 +1,5 @@
 // Chains of guards.
+// Kept: sheet, store and table as three parameters, and what is known of them left of an arrow: lib.rt says why.
 ghost use Rattle.std.specs.Prelude.{◌≡◌, ℕ, ◌≤◌, Bool, false, List};
 ghost use Rattle.sheet.specs.Limits.{max_depth, max_entries};
 ghost use Rattle.lowering.specs.Nodes.{Right, Valid};
@@ -29,7 +30,7 @@ use switch_tables::{
 };
 
 // So many cells of the flat table.
-// Kept: no Range: what is asked is number `i` of it.
+// Kept: no Range: the contract of `list_arms` speaks of `at` and of `cells`, and of a Range it would have a difference for `cells`.
 #[derive(Clone, Copy)]
 struct Column {
     pub at: usize,
@@ -75,6 +76,7 @@ fn arm(sheet: &[u8], store: &mut Store, flat: &[u32], list: &[u32], tail: Option
 }
 
 // The last of `n` heads of cases that has a chain.
+// Kept: one call of `rposition`, here and in `last_wanted`; a function over the test would be that call under another name.
 fn last_case(flat: &[u32], n: usize) -> Option<usize>
     requires { n ≤ max_entries }
     ensures { parts.LastBelow (parts.chain_in flat.now) n result }
@@ -104,7 +106,7 @@ fn list_arms<L: Lists>(
         ls)) }
 {
     let mut room = [0u32; ENTRIES];
-    // Kept: an index, which says besides whose jump is dropped (`kept`).
+    // Kept: an index. `flat` is any slice here, and `get` answers past its end, where `skip` and `take` would end before `cells` rounds.
     for i in 0..heads.cells {
         let list = lists.list(flat, get(flat, heads.at + i), &mut room[..]);
         arm(sheet, store, flat, list, kept(to, dropped, i));
@@ -112,6 +114,7 @@ fn list_arms<L: Lists>(
 }
 
 // The chains of the cases; `falls` says that the fallback follows.
+// Kept: `case_arms` and `range_arms` are one call of `list_arms` each; what is left is its arguments.
 pub fn case_arms(sheet: &[u8], store: &mut Store, flat: &[u32], falls: bool)
     ensures { let sheet = sheet.now in
         ((l : Layout) → Ready sheet → Tables sheet flat.now

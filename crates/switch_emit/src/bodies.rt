@@ -1,4 +1,5 @@
 // The bodies of the blocks, and the end of the switch.
+// Kept: sheet, store and table as three parameters, and what is known of them left of an arrow: lib.rt says why.
 ghost use Rattle.std.specs.Prelude.{◌≡◌, ℕ, ◌<◌, ◌≤◌, Bool, List};
 ghost use Rattle.sheet.specs.Limits.{max_depth, max_entries};
 ghost use Rattle.lowering.specs.SwitchSheet.{block_count};
@@ -41,6 +42,7 @@ fn body(sheet: &[u8], store: &mut Store, flat: &[u32], k: usize, end: Option<u32
 }
 
 // The last block below `n` whose body is wanted.
+// Kept: one call of `rposition`, as `last_case`.
 fn last_wanted(flat: &[u32], n: usize) -> Option<usize>
     requires { n ≤ max_entries }
     ensures { parts.LastBelow (want_in flat.now) n result }

@@ -29,10 +29,10 @@ use sheet::limits::{MAX_DEPTH, MAX_ENTRIES};
 use sheet::{Siblings, child, field_b, field_c};
 use switch_tables::{BANDS, CASE_CONST};
 
-// Kept: sheet, store and table go as three parameters. A struct of them would hold a `&mut` of a struct that holds one itself, which the
-// check does not cover.
-// Kept: what is known of a sheet and its table (`Ready`, `Tables`, `Placed`) stands left of an arrow. `switch` and `case_consts` answer for
-// every sheet and table; a type that had these facts would ask more of their callers.
+// Kept: sheet, store and table go as three parameters, here, in `arms` and in `bodies`. A struct of them would hold a `&mut` of a struct
+// that holds one itself, which the check does not cover.
+// Kept: what is known of a sheet and its table (`Ready`, `Guards`, `Tables`, `Placed`) stands left of an arrow, here, in `arms` and in
+// `bodies`. `switch` and `case_consts` answer for every sheet and table; a type that had these facts would ask more of their callers.
 // The constants of the Cases, and the place of each.
 pub fn case_consts(sheet: &[u8], store: &mut Store, flat: &mut [u32])
     ensures does { let sheet = sheet.now in ((l : Layout) → Ready sheet

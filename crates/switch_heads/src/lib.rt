@@ -22,11 +22,14 @@ use switch_tables::{
 };
 
 // Columns of the table: the number of each list, and of each head whose list it is and its hash.
+// Kept: beside `Heads` of switch_places: in one type the hashes of bands and their exits would be one column under two names (BAND_EXIT is
+// BAND_HEAD_HASH).
 #[derive(Clone, Copy)]
 struct Heads {
     numbers: usize,
     nodes: usize,
     hashes: usize,
+    ghost there: { (numbers ≤ size) × (nodes ≤ size) × (hashes ≤ size) },
 }
 
 const OF_CASES: Heads = Heads {
@@ -51,13 +54,12 @@ fn number_of<L: Lists>(
     h: u32,
 ) -> Option<usize>
     requires few { heads ≤ max_bands }
-    requires nodes_bound { at.nodes ≤ size }
-    requires hashes_bound { at.hashes ≤ size }
     ensures upper_bound { IfSome result (λ q. q < heads) }
     ensures number { let key = L.list_of lists.now flat.now in
         (L.known lists.now flat.now → h ≡ hash_of list.now → Hashed key flat.now at.nodes at.hashes heads
         → unwrap_or result heads ≡ number_in list.now (lists_by key flat.now at.nodes heads)) }
 {
+    // Kept: the closure asks that the columns lie in the table, since it captures two fields, and not the fact of their type.
     (0..heads).find(
         |q: &usize|
             requires { (q.now ≤ max_bands) × (at.nodes ≤ size) × (at.hashes ≤ size) }
@@ -81,9 +83,6 @@ fn numbered<L: Lists>(
 ) -> usize
     requires few { heads ≤ max_bands }
     requires i_bound { i ≤ max_bands }
-    requires numbers_bound { at.numbers ≤ size }
-    requires nodes_bound { at.nodes ≤ size }
-    requires hashes_bound { at.hashes ≤ size }
     ensures upper_bound { result ≤ heads + 1 }
     ensures number { let key = L.list_of lists.now flat.old in
         (L.known lists.now flat.old → Hashed key flat.old at.nodes at.hashes heads
@@ -116,7 +115,8 @@ pub fn case_heads(sheet: &[u8], flat: &mut [u32], first: u32) -> u32
     let n = (field_b(sheet, 0) as usize).min(ENTRIES);
     let lists = Cases { sheet };
     let mut heads = 0;
-    // Kept: a walk by hand: of `Siblings` the node behind the last cannot be asked, and it is answered.
+    // Kept: a walk by hand. The node behind the last is answered: over `Siblings` that takes `by_ref`, a method of it that tells, and
+    // `enumerate`, in as many lines.
     let mut c = first;
     for i in 0..n {
         heads = numbered(&lists, flat, OF_CASES, heads, i, c);

@@ -99,6 +99,7 @@ impl<'c> CutList<'c> {
     }
 
     // Range `i`, at node `r`, as an interval of the pieces between the cuts; the pieces where it starts and ends are marked.
+    // Kept: pieces are numbers, by which they are counted, compared and marked; an enum would become a number again at each.
     fn put_span(&self, sheet: &[u8], table: &mut Table, i: usize, r: u32, marks: &mut [u32])
         requires { i < max_entries }
         ensures { let cs = excesses self.now.at.now in let x = span_of cs (range_of sheet.now r) in (Strict cs

@@ -23,6 +23,8 @@ fn ref_count(sheet: &[u8], c: u32) -> usize
 }
 
 // The list of Case `c`, made in the room that is lent, as far as it goes.
+// Kept: that the room has 64 words is a premise, here and below, and that a list has at most 64 blocks a promise, and a premise of `hash`:
+// the functions are public and answer for any room and list, and a list is a slice, which a type around it would be opened for at each use.
 pub fn case_list<'a>(sheet: &[u8], c: u32, room: &'a mut [u32]) -> &'a [u32]
     ensures upper_bound { length result.now ≤ max_entries }
     ensures list { max_entries ≤ length room.old → result.now ≡ case_key sheet.now c }
@@ -53,6 +55,8 @@ pub fn piece_list<'a>(flat: &[u32], p: u32, room: &'a mut [u32]) -> &'a [u32]
 }
 
 // The hash of a list.
+// Kept: `%`, as the definition has it. Between two steps `h` is wider than a word, so there is no sum of words that wraps; and `as` may
+// lose no bits.
 pub fn hash(list: &[u32]) -> u32
     ensures { length list.now ≤ max_entries → result ≡ hash_of list.now }
 {

@@ -35,7 +35,7 @@ use Rattle.switch_tables.specs.Planned.{exit_of, chain_place, want_in, TablesBy,
 use Rattle.switch_tables.proofs.ColumnLaws.{within_none, within-then, keys_length, key-at}
 use Rattle.switch_lists.proofs.SpanLaws.{piece-kept}
 use Rattle.switch_places.specs.Laid.{Laid}
-use Rattle.switch_places.specs.declared.chained.Heads.{Heads}
+use Rattle.switch_places.specs.declared.heads.Heads.{Heads}
 use Rattle.switch_places.specs.Heads.{Area, Columns, area_of, HeadsIn, ListsStay}
 use Rattle.switch_tables.specs.Heads.{case_key}
 use Rattle.lowering.specs.All.{All}
@@ -183,14 +183,32 @@ named-by s ls all i l = lists-place (λ (x : ℕ). x < block_count s) ls all i l
 
 -- ---- the heads of the cases and of the bands
 
-abbrev of_cases : Heads
-of_cases = record { count = case_heads_at; most = max_entries; nodes = head_node_at; places = case_place_at; exits = case_exit_at }
+-- they lie in the table, as the type has it
+abbrev There : ℕ → ℕ → ℕ → ℕ → Type 0
+There most nodes places exits = (most ≤ max_bands) × (nodes ≤ size) × (places ≤ size) × (exits ≤ size)
 
-abbrev of_bands : Heads
-of_bands = record { count = band_heads_at; most = max_bands; nodes = band_head_at; places = band_place_at; exits = band_exit_at }
+abbrev of_cases : There max_entries head_node_at case_place_at case_exit_at → Heads
+of_cases there = record {
+  count = case_heads_at;
+  most = max_entries;
+  nodes = head_node_at;
+  places = case_place_at;
+  exits = case_exit_at;
+  there = there;
+}
+
+abbrev of_bands : There max_bands band_head_at band_place_at band_exit_at → Heads
+of_bands there = record {
+  count = band_heads_at;
+  most = max_bands;
+  nodes = band_head_at;
+  places = band_place_at;
+  exits = band_exit_at;
+  there = there;
+}
 
 module _ {s w : List ℕ} {t : Rec} (ok : verdict_number (checked s) ≡ 0) (k : kind s 0 ≡ switch_kind) (T : TablesBy s t w) where
-  pub case_heads : HeadsIn s w (case_key s) of_cases wanted_at body_at (case_lists s)
+  pub case_heads : {there : There _ _ _ _} → HeadsIn s w (case_key s) (of_cases there) wanted_at body_at (case_lists s)
   unfolding case_lists
   case_heads = record {
     are = T.case_heads;
@@ -209,7 +227,7 @@ module _ {s w : List ℕ} {t : Rec} (ok : verdict_number (checked s) ≡ 0) (k :
     };
   }
 
-  pub band_heads : HeadsIn s w (piece_in w) of_bands band_place_at case_place_at (split_lists (entries s))
+  pub band_heads : {there : There _ _ _ _} → HeadsIn s w (piece_in w) (of_bands there) band_place_at case_place_at (split_lists (entries s))
   unfolding split_lists
   band_heads = record {
     are = T.band_heads;

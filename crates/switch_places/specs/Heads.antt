@@ -4,7 +4,7 @@ use Rattle.sheet.specs.Limits.{max_entries}
 use Rattle.lowering.specs.All.{All}
 use Rattle.lowering.specs.SwitchSheet.{block_count}
 use Rattle.switch_tables.specs.Columns.{size, case_heads_at, wanted_at, case_place_at, cell, column, Within}
-use Rattle.switch_places.specs.declared.chained.Heads.{Heads}
+use Rattle.switch_places.specs.declared.heads.Heads.{Heads}
 
 -- where chains are laid: a column of places, one of exits, and the cells that change, from `lo` up to `hi`
 pub record Area : Type 0 where

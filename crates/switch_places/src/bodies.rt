@@ -20,6 +20,8 @@ use sheet::next;
 use switch_tables::{BODY, GUARD_NODE, Table, WANTED};
 
 // The body of block `k` behind `b`, if it is wanted.
+// Kept: that a sum is at most `cap` is a premise, here and below, as at `Tally` (expr_count): a Tally may hold any words. So is
+// `k < max_entries`, as `n` of `bodies`.
 fn body(by: &Count, table: &mut Table, k: usize, b: Tally) -> Tally
     requires { k < max_entries }
     ensures place { let was = table.old.cells in
@@ -53,6 +55,7 @@ pub fn bodies(by: &Count, table: &mut Table, n: usize, b: Tally) -> Tally
         → BodiesLaid sheet t ls def n b table.new.cells result × Within body_at dispatch_at was table.new.cells) }
 {
     let mut sum = b;
+    // Kept: an index, since block `k` is read in two columns and written in a third.
     for k in 0..n {
         sum = body(by, table, k, sum);
     }

@@ -4,14 +4,13 @@ ghost use Rattle.sheet.specs.Limits.{max_entries};
 ghost use Rattle.sheet.specs.Node.{kind as kind_of};
 ghost use Rattle.checks.specs.Checked.{verdict_number, checked};
 ghost use Rattle.lowering.specs.Kinds.{switch_kind};
-ghost use Rattle.lowering.specs.Limits.{max_bands};
 ghost use Rattle.expr_count.specs.Limits.{cap};
 ghost use Rattle.expr_count.specs.Count.{Rec};
 ghost use Rattle.expr_count.specs.Tally as tallies;
 ghost use Rattle.switch_count.specs.Arms.{end_tally};
 ghost use Rattle.switch_count.specs.Total.{case_lists, split_lists};
 ghost use Rattle.switch_tables.specs.Columns.{guard_len_at, guard_emitted_at, wanted_at, body_at, case_place_at, case_exit_at};
-ghost use Rattle.switch_tables.specs.Columns.{size, band_place_at, band_exit_at, cell, Within};
+ghost use Rattle.switch_tables.specs.Columns.{band_place_at, band_exit_at, cell, Within};
 ghost use Rattle.switch_tables.specs.Kinds.{exit_word, coded};
 ghost use Rattle.switch_tables.specs.declared.kinds.Exit.TheVariants as exits;
 ghost use Rattle.switch_tables.specs.Planned.{TablesBy, entries, want_in};
@@ -20,12 +19,10 @@ ghost use Rattle.switch_places.specs.Heads.{HeadsIn, ListsStay};
 ghost use Rattle.switch_places.specs.GuardChain.{either, sum_in, tries_in, Reads, ChainOf, Cells, LaidOne};
 
 use crate::guards::word;
+use crate::heads::{Heads, OF_BANDS, OF_CASES};
 use expr_count::tallies::{Tally, instructions, nothing, plus};
 use switch_lists::{Cases, Lists, Pieces};
-use switch_tables::{
-    BAND_EXIT, BAND_HEAD, BAND_HEADS, BAND_PLACE, CASE_EXIT, CASE_HEADS, CASE_PLACE, ENTRIES, Exit,
-    GUARD, GUARD_EMITTED, GUARD_LEN, Guard, HEAD_NODE, MOST_BANDS, Table, WANTED,
-};
+use switch_tables::{ENTRIES, Exit, GUARD, GUARD_EMITTED, GUARD_LEN, Guard, Table, WANTED};
 
 // A chain: what it adds, and where its list goes.
 #[derive(Clone, Copy)]
@@ -34,34 +31,9 @@ struct Chain {
     pub exit: Exit,
 }
 
-// Columns of heads: the cell that says how many there are, how many there may be, the number of the list of each, and the place and the
-// exit of its chain.
-#[derive(Clone, Copy)]
-struct Heads {
-    pub count: usize,
-    pub most: usize,
-    pub nodes: usize,
-    pub places: usize,
-    pub exits: usize,
-}
-
-const OF_CASES: Heads = Heads {
-    count: CASE_HEADS,
-    most: ENTRIES,
-    nodes: HEAD_NODE,
-    places: CASE_PLACE,
-    exits: CASE_EXIT,
-};
-
-const OF_BANDS: Heads = Heads {
-    count: BAND_HEADS,
-    most: MOST_BANDS,
-    nodes: BAND_HEAD,
-    places: BAND_PLACE,
-    exits: BAND_EXIT,
-};
-
 // The end of a list: of a chain, which has a jump there, if guards were tried, and `sum` is what they add; else of none.
+// Kept: that a sum is at most `cap` is a premise, here and below, as at `Tally` (expr_count): a Tally may hold any words. That the sheet is
+// accepted and a Switch is one too: lib.rt says why.
 fn ended(sum: Option<Tally>, falls: bool, free: Exit) -> Chain
     ensures sum_value { (sum_in sum).len ≤ cap → (sum_in sum).emitted ≤ cap
         → result.sum ≡ tallies.capped (tallies.plus (sum_in sum) (end_tally (tries_in sum))) }
@@ -128,10 +100,6 @@ fn laid(table: &mut Table, list: &[u32], place: usize, exit: usize, b: Tally) ->
 
 // The chains of the lists of heads, behind `b`.
 fn list_chains<L: Lists>(lists: &L, table: &mut Table, heads: Heads, b: Tally) -> Tally
-    requires most { heads.most ≤ max_bands }
-    requires nodes_bound { heads.nodes ≤ size }
-    requires places_bound { heads.places ≤ size }
-    requires exits_bound { heads.exits ≤ size }
     ensures { let was = table.old.cells in
         ((s : List ℕ) (t : Rec) (ls : List (List ℕ)) (lo hi : ℕ) → TablesBy s t was
         → b.len ≤ cap → b.emitted ≤ cap

@@ -29,6 +29,8 @@ pub fn word(n: u64) -> u32
 }
 
 // Guard `k`: what it is and what it adds.
+// Kept: `k < max_entries` is a premise, here and in `put_guard`, as `n` of `bodies`: `guards` counts up to its `min`, and a type of such
+// numbers would be unmade at each sum with a column.
 fn put_known(table: &mut Table, k: usize, guard: Guard, len: u32, emitted: u32)
     requires { k < max_entries }
     ensures { table.new.cells ≡ with_known table.old.cells k (record { kind = guard_word guard; len = len; emitted = emitted }) }
@@ -86,8 +88,8 @@ pub fn guards(by: &Count, table: &mut Table) -> u32
 {
     let sheet = by.sheet;
     let n = (field_a(sheet, 0) as usize).min(ENTRIES);
-    // Kept: a walk by hand: of `Siblings` the node behind the last cannot be asked, and it is answered. Each
-    // step passes a guard and its body.
+    // Kept: a walk by hand. Each step passes a guard and its body, which are two siblings; and the node behind the last is answered, as in
+    // `case_heads` of switch_heads.
     let mut j = next(sheet, child(0));
     for k in 0..n {
         put_guard(by, table, k, j);

@@ -20,6 +20,7 @@ ghost use Rattle.switch_places.specs.Idle.{Exits, idles_from, Second};
 mod bodies;
 mod chained;
 mod guards;
+mod heads;
 
 use bodies::bodies;
 use chained::{band_chains, case_chains, want_default};
@@ -35,6 +36,8 @@ use switch_tables::{
 };
 
 // The switch at node 0 is read into the table.
+// Kept: that the sheet is accepted, and that it is a Switch, are premises, here, below and in `chained`, as to_image says: a type that has
+// them would ask more of callers.
 // Kept: `by` and `table` apart, here and below. One is read, the other written: in one struct each promise of the table would
 // have to say that the count stays.
 pub fn read_table(by: &Count, table: &mut Table)
@@ -61,6 +64,7 @@ fn case_idle(table: &Table) -> bool
 }
 
 // Behind the chains of the cases: the second Switch, if there are bands. The last jump before it is dropped if it goes there.
+// Kept: that a sum is at most `cap` is a premise, here and below, as at `Tally` (expr_count): it may be any word.
 fn second(table: &mut Table, b: Tally) -> Tally
     ensures { let was = table.old.cells in ((s : List ℕ) (ls : List (List ℕ)) → Exits s was ls → b.len ≤ cap
         → Second (cell was bands_at) (idles_from s false ls) b was table.new.cells result) }

@@ -28,8 +28,8 @@ use write_front::{Source, Tables, image_len};
 use zeros::zero;
 
 // The image of an expression: its word count; its words are written where they fit.
-// Kept: sheet, image and scratch stand apart. Tried as a struct of the three with methods: of a field that was lent to a Store the words
-// are not known when the Store ends, and of a parameter they are.
+// Kept: sheet, image and scratch stand apart, here and in `switched`. Tried as a struct of the three with methods: of a field that was lent
+// to a Store the words are not known when the Store ends, and of a parameter they are.
 fn build_plain(sheet: &[u8], image: &mut [u32], scratch: &mut [u32], most: u32) -> usize
     ensures { let sheet = sheet.now in
         (Ready sheet most (length scratch.old) → (nodes.kind sheet 0 ≡ switch_kind → ⊥)

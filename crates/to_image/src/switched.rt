@@ -1,4 +1,5 @@
 // The image of a Switch.
+// Kept: sheet, image and scratch stand apart: lib.rt says why.
 ghost use Rattle.std.specs.Prelude.{◌+◌, ◌*◌, ◌≤◌, ◌≡◌, ◌++◌, min, length, drop};
 ghost use Rattle.sheet.specs.Node.{kind};
 ghost use Rattle.lowering.specs.Limits.{switch_width, case_width, range_width};

@@ -27,16 +27,12 @@ use write_sections::copy;
 const MAX_CHAINS: usize = 67108863;
 
 // `n` elements from `at` on reach beyond `m`.
+// Kept: no `get_mut` of a range where this is asked. Tried in `put_section`: behind the reference it stays open what the image ends as.
+// `split_at_mut_checked`, of which that is known, would be asked twice, with an answer each for what does not fit.
 pub fn beyond(m: usize, at: usize, n: usize) -> bool
     ensures { Reach m at n result }
 {
-    if m < at {
-        return true;
-    }
-    if m - at < n {
-        return true;
-    }
-    false
+    m < at || m - at < n
 }
 
 // A section of `words` words from `at` on, as `write` writes it, and the place behind it. What does not fit is left out.
@@ -98,7 +94,7 @@ impl<'a> Source<'a> {
         Names {
             sheet: self.sheet,
             scratch: self.scratch,
-            layout: self.state.layout(),
+            layout: self.state.layout,
             count: self.state.names,
         }
     }
@@ -108,7 +104,7 @@ impl<'a> Source<'a> {
         ensures { let it = self.now in (a : Made) → Holds it.sheet.now (layout_of it.state) it.scratch.now it.state a
             → result.now ≡ region (chains_at (layout_of it.state)) it.state.chains it.scratch.now }
     {
-        self.keys(self.state.layout().chains_at(), self.state.chains as usize)
+        self.keys(self.state.layout.chains_at(), self.state.chains as usize)
     }
 
     // Kept: chains and steps have the lines of `put_section` again. Tried: of a closure that holds `Names`, a struct with references,
@@ -175,7 +171,7 @@ impl<'a> Source<'a> {
         let k = self.state.code as usize;
         let code = self.keys(0, OP_WIDTH * k);
         let e = put_section(image, at, code.len(), |part| copy(part, code));
-        let positions = self.keys(self.state.layout().positions_at(), k);
+        let positions = self.keys(self.state.layout.positions_at(), k);
         put_section(image, e, positions.len(), |part| copy(part, positions))
     }
 
@@ -185,7 +181,7 @@ impl<'a> Source<'a> {
             → Puts image.old image.new at result (fronts.pools_part a) }
     {
         let sheet = self.sheet;
-        let layout = self.state.layout();
+        let layout = self.state.layout;
         let consts = self.keys(layout.consts_at(), self.state.consts as usize);
         let names = self.keys(layout.names_at(), self.state.names as usize);
         let tokens = self.keys(layout.tokens_at(), self.state.tokens as usize);

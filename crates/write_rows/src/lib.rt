@@ -18,6 +18,7 @@ use switch_tables::{
 use write_sections::put;
 
 // The table of cases, and that of ranges where there are any.
+// Kept: four numbers, here and in `put_switches` of write_tables. A struct of them would be made in `write` of to_image, for that one call.
 pub fn switch_rows(out: &mut [u32], cases: u32, fallback: u32, ranges: u32, default: u32)
     requires { length out.old ≡ switch_width * table_count ranges }
     ensures { out.new ≡ section switch_words (tables_of cases fallback ranges default) }
@@ -69,6 +70,7 @@ pub fn case_rows(out: &mut [u32], flat: &[u32], n: usize)
 }
 
 // The row of band `i`.
+// Kept: a piece is one word of the table, which `piece_list` compares as it is; an enum would be made of it for these few lines.
 fn range_row(flat: &[u32], i: usize) -> [u32; RANGE_WIDTH]
     requires { i < max_bands }
     ensures { result ≡ range_words_in flat.now i }

@@ -1,10 +1,10 @@
 -- Laws of the section of steps: along one chain, and chain by chain.
 use Prim.Native.Nat.{ℕ, zero, suc, ◌+◌, ◌*◌, ◌≤◌, ◌<◌}
 use mathlib.Core.Path.{◌≡◌, sym, ap, ◌∙◌}
-use mathlib.Core.List.{List, [], ◌∷◌, ◌++◌, append-nil}
+use mathlib.Core.List.{List, [], ◌∷◌, ◌++◌, map, append-nil}
 use native.Mathlib.Omega.{arith}
 use native.Mathlib.Numerals.{add-one}
-use lib.ListN.{length, take, drop, get_or, length-drop}
+use lib.ListN.{length, take, drop, get_or, length-drop, length-map}
 use lib.Seq.{length-take-le, take_all, drop-nil}
 use Rattle.lowering.proofs.Decode as Decode
 use Rattle.lowering.proofs.Widths.{step-width}
@@ -19,7 +19,8 @@ use Rattle.lowering.specs.Pools.{Name, steps_words}
 use Rattle.expr_chains.specs.Steps.{name_in, step_with, step_as, step_operands, steps_in, chain_steps, link_count, steps_from}
 use Rattle.expr_rules.specs.declared.chains.Read.{Read}
 use Rattle.expr_rules.specs.declared.chains.Links.{Links}
-use Rattle.expr_rules.specs.Links.{nodes_left}
+use Rattle.expr_rules.specs.Reads.{read_of}
+use Rattle.expr_rules.specs.Links.{links_left, nodes_left}
 use Rattle.expr_rules.proofs.LinksLaws.{Left, Begun, Turn}
 use Rattle.expr_chains.specs.Kept.{step_count}
 use Rattle.expr_chains.proofs.KeptLaws.{steps-length, all-steps-length, steps-snoc}
@@ -58,6 +59,11 @@ module _ (s : List ℕ) (ns : List Name) (j : ℕ) where
   pub ahead-begins : {it : Links} → Begun s it (links max_depth s j) → Ahead s ns j 0 0 it
   unfolding chain_steps
   ahead-begins b = record { left = b.left; few = omega arith; steps = ap (steps_in s ns 0) b.nodes }
+
+  -- so many links at most
+  pub links-few : (it : Links) → links_left it ≡ map (read_of s) (links max_depth s j) → length (links_left it) ≤ max_depth
+  unfolding link_count
+  links-few it e = omega (arith, ap length e, length-map (links max_depth s j) (read_of s), links-most s j)
 
   step-rows-length : (i : ℕ) → i ≤ link_count s j → length (step_rows s ns j i) ≡ step_width * i
   step-rows-length i h =

@@ -81,6 +81,7 @@ pub fn names(sheet: &[u8], out: &mut [u32], ks: &[u32])
 }
 
 // The tokens of the nodes `ks`.
+// Kept: by index, as `copy`.
 pub fn tokens(sheet: &[u8], out: &mut [u32], ks: &[u32])
     requires { length out.old ≡ length ks.now }
     ensures { out.new ≡ map (nodes.field_c sheet.now) ks.now }
@@ -90,6 +91,7 @@ pub fn tokens(sheet: &[u8], out: &mut [u32], ks: &[u32])
     }
 }
 
+// Kept: that the scratch holds the names (`NamesHold`) is a premise, here and below: `Names` of scratch_index says why.
 // Root `v`, with its name among the names. Only a variable has one.
 // Kept: 0 and None where there is no name: `root_of` asks for both of a variable alone.
 fn root_at(names: &Names, v: u32) -> Root
@@ -162,12 +164,9 @@ fn chain_steps(names: &Names, out: &mut [u32], j: u32)
     ensures { let it = names.now in let sheet = it.sheet.now in let words = it.scratch.now in (NamesHold sheet it.layout it.count words
         → out.new ≡ steps_words (chains.chain_steps sheet (names_held sheet it.layout it.count words) j)) }
 {
-    // Kept: a place that goes on beside `k`, which no index tells: each step takes its own number of operands.
-    let mut at = 0;
     let mut k: u32 = 0;
-    for p in links_of(names.sheet, j) {
-        put(out, at, step_words(step_at(names, p, k)));
-        at += STEP_WIDTH;
+    for (i, p) in links_of(names.sheet, j).enumerate() {
+        put(out, STEP_WIDTH * i, step_words(step_at(names, p, k)));
         k += width(names.sheet, p);
     }
 }

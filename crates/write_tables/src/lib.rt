@@ -22,6 +22,7 @@ pub fn table_count(ranges: u32) -> u32
 }
 
 // The tables.
+// Kept: four numbers, as `switch_rows`.
 pub fn put_switches(
     image: &mut [u32],
     at: usize,

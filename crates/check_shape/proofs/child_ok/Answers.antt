@@ -6,5 +6,5 @@ pub returns : goal.returns
 returns c =
     let a = c.args in
     let p = a.p in
-    fits_read a.sheet.now p.kind p.a p.b a.e a.i a.j c.span-w.ensures c.kind.ensures
+    fits_read a.sheet.now p.kind p.a p.b a.e a.i a.j c.span.ensures c.kind.ensures c.fits.ensures
     c.child_kind.ensures

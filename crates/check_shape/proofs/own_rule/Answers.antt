@@ -9,5 +9,5 @@ use Rattle.check_shape.proofs.own_rule.Goals as goal
 pub returns : goal.returns
 unfolding own_rule
 returns c =
-    let a = c.args in
-    ap (λ r. (not (eqb a.k 5) || r) && (not (eqb a.k 19) || leb (1 + 2 * a.a + a.b) a.m)) c.scalar.ensures
+    let v = c.args.v in
+    ap (λ r. (not (eqb v.kind 5) || r) && (not (eqb v.kind 19) || leb (1 + 2 * v.a + v.b) v.count)) c.scalar.ensures

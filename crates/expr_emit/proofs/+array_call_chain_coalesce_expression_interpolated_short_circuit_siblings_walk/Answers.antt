@@ -15,22 +15,21 @@ use Rattle.expr_emit.proofs.CycleDoes.{rows_start, rows-done, rows_more, array-d
 use Rattle.scratch_store.proofs.DoesLaws.{held-slots, does-held}
 use Rattle.expr_emit.proofs.+array_call_chain_coalesce_expression_interpolated_short_circuit_siblings_walk.Goals as goal
 
-pub array-returns-then-n-le-MAX_ELEMENTS : goal.array-returns-then-n-le-MAX_ELEMENTS
-array-returns-then-n-le-MAX_ELEMENTS t c =
-    λ l C v. array-does _ _ _ _ _ C v c.count-n.ensures c.if-n-le-MAX_ELEMENTS.true c.child.ensures
+pub array-returns-then-of-le-MAX_ELEMENTS : goal.array-returns-then-of-le-MAX_ELEMENTS
+array-returns-then-of-le-MAX_ELEMENTS t c =
+    λ l C v. array-does _ _ _ _ C v c.of-of.ensures c.if-of-le-MAX_ELEMENTS.true
     c.position.ensures (c.siblings.ensures l) (c.emit.ensures l _ tt)
 
-pub array-returns-else-n-le-MAX_ELEMENTS : goal.array-returns-else-n-le-MAX_ELEMENTS
-array-returns-else-n-le-MAX_ELEMENTS t c =
-    λ l C v. array-kept _ _ _ c.count-n.ensures c.if-n-le-MAX_ELEMENTS.false (c.residual.ensures l _)
+pub array-returns-else-of-le-MAX_ELEMENTS : goal.array-returns-else-of-le-MAX_ELEMENTS
+array-returns-else-of-le-MAX_ELEMENTS t c =
+    λ l C v. array-kept _ _ _ c.of-of.ensures c.if-of-le-MAX_ELEMENTS.false (c.residual.ensures l _)
 
 pub call-returns : goal.call-returns
 call-returns t c =
     λ l C v k.
     does-held (λ a h.
-    call-by-way _ _ _ _ _ _ C v k (c.way_of-w.ensures (held-slots refl h))
-    c.arg_count-n.ensures
-    c.first_arg.ensures (c.open-at.ensures l).0 (c.open-at.ensures l).1
+    call-by-way _ _ _ _ _ C v k (c.way_of-w.ensures (held-slots refl h))
+    c.arguments.ensures (c.open-at.ensures l).0 (c.open-at.ensures l).1
     (c.siblings.ensures l)
     (c.close.ensures l))
 
@@ -55,7 +54,7 @@ unfolding lowers_at
 chain-returns-in-Whole t c =
     let far = c.far_of-far.ensures in
     λ l C L.
-    chain-does _ _ _ _ C L c.child-root.ensures c.temporary.ensures (sym far.lowers_is ∙ ap lowers_at c.in-Whole.is)
+    chain-does _ _ _ _ C L c.child-root.ensures c.temporary-n.ensures (sym far.lowers_is ∙ ap lowers_at c.in-Whole.is)
     (c.root_name-in-Whole.ensures l) (c.walk-in-Whole.ensures l) (c.siblings.ensures l)
     (c.close_chain.ensures l far.operands_are)
 
@@ -139,12 +138,12 @@ expression-returns-in-Residual t c =
 
 pub interpolated-returns : goal.interpolated-returns
 interpolated-returns t c =
-    λ l C v. interpolated-does _ _ _ _ C v c.count.ensures c.child.ensures (c.emit.ensures l _ tt)
+    λ l C v. interpolated-does _ _ _ C v c.of.ensures (c.emit.ensures l _ tt)
     (c.siblings.ensures l) (c.emit-2.ensures l _ tt)
 
 pub short_circuit-returns : goal.short_circuit-returns
 short_circuit-returns t c =
-    λ l C v. short-does _ _ _ _ _ _ _ C v c.saturating_sub.ensures c.count.ensures c.child.ensures
+    λ l C v. short-does _ _ _ _ _ _ C v c.saturating_sub.ensures c.of.ensures
     (c.siblings.ensures l) (c.decision.ensures l _)
 
 pub siblings-loop-i-init : goal.siblings-loop-i-init

@@ -44,9 +44,9 @@ decreases-walk l = 4 * l.levels + 2
 abbrev pub invariant-siblings-loop-i : goal.invariant-siblings-loop-i
 invariant-siblings-loop-i v =
     let i = v.i-iterator.count in
-    Walked v.sheet v.from v.n i (rest v.i-iterator.iter)
-    × ((l : Layout) → Right v.sheet → Row v.sheet v.n v.from
-    → Done v.sheet l v.initial.store v.store (rows v.sheet (lowered v.levels v.sheet) v.by i v.from))
+    Walked v.sheet v.fn.of.from v.fn.of.n i (rest v.i-iterator.iter)
+    × ((l : Layout) → Right v.sheet → Row v.sheet v.fn.of.n v.fn.of.from
+    → Done v.sheet l v.initial.store v.store (rows v.sheet (lowered v.levels v.sheet) v.by i v.fn.of.from))
 
 abbrev pub invariant-walk-loop-p : goal.invariant-walk-loop-p
 invariant-walk-loop-p v =

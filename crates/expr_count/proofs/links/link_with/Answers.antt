@@ -2,6 +2,7 @@
 use mathlib.Core.Path.{ap, sym, ◌∙◌}
 use Rattle.lowering.specs.Flatten.{method}
 use Rattle.expr_count.specs.declared.links.Link.TheVariants.{Lowers}
+use Rattle.expr_count.specs.Operands.{some_from}
 use Rattle.expr_rules.specs.Inverse.{step_rule_from}
 use Rattle.expr_count.proofs.PlanLaws.{link_at}
 use Rattle.expr_count.specs.Link.{link_by}
@@ -10,13 +11,13 @@ use Rattle.expr_count.proofs.links.link_with.Goals as goal
 pub returns-in-Index : goal.returns-in-Index
 unfolding link_by step_rule_from
 returns-in-Index c =
-    λ k h. ap (Lowers 1) h.with_is
+    λ k h. ap (λ x. Lowers (some_from 1 x)) h.with_is
     ∙ link_at c.args.sheet.now k _ (sym h.rule_is ∙ c.in-Index.is)
 
 pub returns-in-Property : goal.returns-in-Property
 unfolding link_by step_rule_from
 returns-in-Property c =
-    λ k h. ap (Lowers 0) h.with_is
+    λ k h. ap (λ x. Lowers (some_from 0 x)) h.with_is
     ∙ link_at c.args.sheet.now k _ (sym h.rule_is ∙ c.in-Property.is)
 
 pub returns-in-Method : goal.returns-in-Method

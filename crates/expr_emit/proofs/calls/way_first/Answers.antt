@@ -5,7 +5,7 @@ use Rattle.expr_emit.proofs.calls.way_first.Goals as goal
 
 pub returns-in-9 : goal.returns-in-9
 returns-in-9 c = λ h.
-    first-variable _ _ c.receiver_kind.ensures c.in-9.is c.child.ensures (c.local_of.ensures (rw (c.words.ensures, c.layout-layout.ensures) h))
+    first-variable _ _ c.receiver_kind.ensures c.in-9.is c.child.ensures (c.local_of.ensures (rw c.words.ensures h))
     c.way_variable.ensures
 
 pub returns-in-10 : goal.returns-in-10

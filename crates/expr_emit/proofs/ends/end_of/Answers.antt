@@ -1,4 +1,4 @@
--- Where the code ends, by the layout that the counts tell. The sum does not wrap, since the length is cut off.
+-- Where the code ends, by the layout beside the counts. The sum does not wrap, since the length is cut off.
 use Rattle.std.proofs.Common.{ℕ, ◌+◌, ◌%◌, ◌^◌, ap, refl, arith}
 use Rattle.expr_emit.proofs.EndLaws.{ends_at, length-low, told-length}
 use Rattle.expr_emit.proofs.ends.end_of.Goals as goal

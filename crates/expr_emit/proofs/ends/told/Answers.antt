@@ -1,6 +1,5 @@
 -- Each name is looked up, or the scratch tells the locals.
 use Rattle.std.proofs.Common.{◌-◌, length, take, drop, ap, refl, ◌∙◌, arith}
-use Rattle.scratch.specs.Places.{links_at}
 use Rattle.expr_count.specs.Locals.{answer}
 use Rattle.expr_emit.proofs.EndLaws.{slot-told, rest_is}
 use Rattle.expr_emit.proofs.ends.told.Goals as goal
@@ -15,7 +14,7 @@ returns-in-Some c = λ nodes S v is.
     let at = c.links_at.result in
     let all = ap (λ xs. take (length xs - at) (drop at xs)) c.words.ensures in
     rw (c.in-Some.ensures.lookup.0.2 ∙ all ∙ rest_is at c.args.store.now.scratch.now)
-    (slot-told at v (S.many (omega (arith, c.local_count.ensures, c.if-local_count-le-FEW.false))) nodes (c.links_at.ensures ∙ ap links_at c.layout.ensures) is)
+    (slot-told at v (S.many (omega (arith, c.local_count.ensures, c.if-local_count-le-FEW.false))) nodes c.links_at.ensures is)
 
 pub returns-in-None : goal.returns-in-None
 unfolding answer

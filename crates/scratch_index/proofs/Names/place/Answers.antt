@@ -14,5 +14,5 @@ pub returns : goal.returns
 returns c =
     let it = c.args.self.now in
     name-same it.sheet.now it.layout it.count it.scratch.now (with-plain it.sheet.now c.args.t)
-    (name-searched it.sheet.now it.layout it.count it.scratch.now _ _ _ c.name_hash-h.ensures
+    (name-searched it.sheet.now it.layout it.count it.scratch.now _ _ _ c.hash-h.ensures
     (finds-at c.name_index.ensures (finds-as c.unwrap_or.ensures (c.seek.ensures (name_hash it.sheet.now) it.count tt).found)))

@@ -1,4 +1,5 @@
 -- `scratch_store::Store::add_chain` meets its contract: the law of a chain that stands, or is put behind the others.
+use Rattle.std.proofs.Common.{refl}
 use Rattle.scratch_store.proofs.AddsLaws.{chain-adds-old, chain-adds-new}
 use Rattle.scratch_store.proofs.DoesLaws.{chain-any}
 use Rattle.scratch_store.proofs.Store.add_chain.Goals as goal
@@ -7,9 +8,9 @@ pub returns-then-n-self : goal.returns-then-n-self
 returns-then-n-self c =
     let it = c.args.self.now in
     let s = c.args.sheet.now in
-    chain-any c.layout-l.ensures
+    chain-any refl
     (rw (c.link_count.ensures)
-    (chain-adds-new s c.layout-l.result it.scratch.now _ it.state c.args.j c.chain_hash-h.result _ _ c.root_local-local.result
+    (chain-adds-new s it.state.layout it.scratch.now _ it.state c.args.j c.chain_hash-h.result _ _ c.root_local-local.result
     (rw (← c.words.ensures) c.root_local-local.ensures) (rw (← c.words-2.ensures) c.chain_hash-h.ensures)
     (rw (← c.chain_index.ensures) c.stand-e.ensures) c.if-n-self.true))
 
@@ -17,7 +18,7 @@ pub returns-else-n-self : goal.returns-else-n-self
 returns-else-n-self c =
     let it = c.args.self.now in
     let s = c.args.sheet.now in
-    chain-any c.layout-l.ensures
-    (chain-adds-old s c.layout-l.result it.scratch.now _ it.state c.args.j c.chain_hash-h.result _ _ c.root_local-local.result
+    chain-any refl
+    (chain-adds-old s it.state.layout it.scratch.now _ it.state c.args.j c.chain_hash-h.result _ _ c.root_local-local.result
     (rw (← c.words.ensures) c.root_local-local.ensures) (rw (← c.words-2.ensures) c.chain_hash-h.ensures)
     (rw (← c.chain_index.ensures) c.stand-e.ensures) c.if-n-self.false)

@@ -1,4 +1,5 @@
 -- `scratch_store::Store::add_const` meets its contract: the law of a constant that stands, or is put behind the others.
+use Rattle.std.proofs.Common.{refl}
 use Rattle.scratch_store.proofs.AddsLaws.{const-adds}
 use Rattle.scratch_store.proofs.DoesLaws.{adds-any}
 use Rattle.scratch_index.specs.Consts.{const_hash}
@@ -8,6 +9,6 @@ pub returns : goal.returns
 returns c =
     let it = c.args.self.now in
     let s = c.args.sheet.now in
-    adds-any c.layout-l.ensures
-    (const-adds s c.layout-l.result it.scratch.now it.state c.args.j c.const_hash-h.result (rw (← c.words.ensures) c.const_hash-h.ensures)
+    adds-any refl
+    (const-adds s it.state.layout it.scratch.now it.state c.args.j c.hash-h.result (rw (← c.words.ensures) c.hash-h.ensures)
     (rw (← c.const_index.ensures) (c.stand.ensures (const_hash s) tt)))

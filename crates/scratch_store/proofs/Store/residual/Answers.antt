@@ -1,7 +1,5 @@
 -- `scratch_store::Store::residual` meets its contract: an instruction, and a residual behind it.
-use Rattle.std.proofs.Common.{rules, ◌+◌, ap, ◌∙◌}
-use Rattle.scratch.specs.declared.Layout.{Layout}
-use Rattle.scratch.specs.Places.{residuals_at}
+use Rattle.std.proofs.Common.{rules, ◌+◌, ap}
 use Rattle.scratch_store.proofs.ResidualLaws.{residual-does}
 use Rattle.scratch_store.proofs.Store.residual.Goals as goal
 
@@ -11,6 +9,6 @@ returns c =
     let it = c.emit.new.self in
     residual-does it.state c.args.j _ c.put.new.scratch _
     (λ m. c.emit.ensures m s tt)
-    (ap (λ p. p + it.state.residuals) c.residuals_at.ensures ∙ ap (λ (m : Layout). residuals_at m + it.state.residuals) c.layout.ensures)
+    (ap (λ p. p + it.state.residuals) c.residuals_at.ensures)
     c.put.ensures
     (search rules) l

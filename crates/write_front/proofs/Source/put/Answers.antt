@@ -1,4 +1,4 @@
--- `write_front::Source::put` meets its contract: one part behind the other, by the layout that the counts tell.
+-- `write_front::Source::put` meets its contract: one part behind the other, by the layout beside the counts.
 use Rattle.std.proofs.Common.{rules}
 use Rattle.scratch_store.proofs.DoesLaws.{laid-is}
 use Rattle.scratch_store.specs.Holds.{Holds}

@@ -6,9 +6,7 @@ use Rattle.write_front.proofs.FrontLaws.{consts-are, names-are, tokens-are, resi
 use Rattle.write_front.proofs.RowLengths.{consts-long, names-long}
 use Rattle.write_front.proofs.PutsLaws.{puts-as, puts-next}
 use Rattle.write_front.specs.Front.{pools_part}
-use mathlib.Core.Path.{refl, sym, subst}
-use Rattle.scratch.specs.declared.Layout.{Layout}
-use Rattle.scratch_store.specs.Holds.{Holds}
+use mathlib.Core.Path.{refl}
 use Rattle.write_front.proofs.Source.put_pools.Goals as goal
 
 pub returns : goal.returns
@@ -16,8 +14,7 @@ unfolding pools_part
 returns c =
     let it = c.args.self.now in
     let s = it.sheet.now in
-    λ m g.
-    let h = subst (λ (k : Layout). Holds s k it.scratch.now it.state m) (sym c.layout-layout.ensures) g in
+    λ m h.
     let one = puts-as _ _ (consts-are h c.consts_at.ensures c.keys-consts.ensures)
     (c.put_section-e.ensures _ (consts-long s _) (λ b a l w. search rules)) in
     let two = puts-next _ _ one (puts-as _ _ (names-are h c.names_at.ensures c.keys-names.ensures)

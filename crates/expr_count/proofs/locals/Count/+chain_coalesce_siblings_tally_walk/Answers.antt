@@ -51,7 +51,7 @@ chain-returns-in-Whole t c =
     let whole = ap reach_number c.in-Whole.is in
     chain-lowered it.sheet.now (counts.tally_by (answer it.told it.sheet.now) a.levels it.sheet.now) a.j
     c.walk-w.ensures.far_value (λ q. omega (arith, whole, q)) (λ q. omega (arith, whole, q))
-    c.walk-w.ensures.sum_value c.child-root.ensures c.temporary.ensures c.siblings-lowered.ensures
+    c.walk-w.ensures.sum_value c.child-root.ensures c.temporary-n.ensures c.siblings-lowered.ensures
     c.plus-in-Whole.ensures c.instructions-in-Whole.ensures c.plus-in-Whole-2.ensures
 
 pub coalesce-returns : goal.coalesce-returns
@@ -62,12 +62,12 @@ coalesce-returns t c =
     c.count.ensures c.saturating_sub-n.ensures
     c.child-first.ensures c.siblings-others.ensures c.skip.ensures c.tally.ensures c.plus.ensures
 
-pub siblings-returns-then-n-eq0 : goal.siblings-returns-then-n-eq0
-siblings-returns-then-n-eq0 t c =
+pub siblings-returns-then-of-eq0 : goal.siblings-returns-then-of-eq0
+siblings-returns-then-of-eq0 t c =
     let a = c.args in
     let it = a.self.now in
-    sum-none it.sheet.now (counts.tally_by (answer it.told it.sheet.now) a.levels it.sheet.now) a.gap a.n a.from
-    c.if-n-eq0.true c.nothing.ensures
+    sum-none it.sheet.now (counts.tally_by (answer it.told it.sheet.now) a.levels it.sheet.now) a.gap a.of.n a.of.from
+    c.if-of-eq0.true c.nothing.ensures
 
 pub siblings-loop-j-init : goal.siblings-loop-j-init
 siblings-loop-j-init t c =
@@ -75,7 +75,7 @@ siblings-loop-j-init t c =
     let it = a.self.now in
     let w = c.new-j-items.ensures in
     let whole = rest-is c.into_iter-j-iterator.ensures.into_iter_gives w.sheet w.left w.at in
-    sum-begins it.sheet.now (counts.tally_by (answer it.told it.sheet.now) a.levels it.sheet.now) a.gap a.n a.from c.nothing-sum.ensures
+    sum-begins it.sheet.now (counts.tally_by (answer it.told it.sheet.now) a.levels it.sheet.now) a.gap a.of.n a.of.from c.nothing-sum.ensures
     whole
 
 pub siblings-overflow_add-leaves : goal.siblings-overflow_add-leaves
@@ -83,7 +83,7 @@ siblings-overflow_add-leaves t c =
     let a = c.args in
     let it = a.self.now in
     let s = it.sheet.now in
-    omega (arith, sum-more s (counts.tally_by (answer it.told s) a.levels s) a.gap a.n a.from c.loop-j.invariant c.in-Some.ensures.steps)
+    omega (arith, sum-more s (counts.tally_by (answer it.told s) a.levels s) a.gap a.of.n a.of.from c.loop-j.invariant c.in-Some.ensures.steps)
 
 pub siblings-loop-j-preserved-then-is_leaf : goal.siblings-loop-j-preserved-then-is_leaf
 siblings-loop-j-preserved-then-is_leaf t c =
@@ -92,21 +92,21 @@ siblings-loop-j-preserved-then-is_leaf t c =
     let s = it.sheet.now in
     let leaf-is = c.is_leaf.ensures ∙ ap is_leaf c.kind.ensures in
     let one = leaf-tally (answer it.told s) a.levels s _ (sym leaf-is ∙ c.if-is_leaf.true) in
-    sum-passes s (counts.tally_by (answer it.told s) a.levels s) a.gap a.n a.from c.loop-j.invariant c.in-Some.ensures.steps one refl refl
+    sum-passes s (counts.tally_by (answer it.told s) a.levels s) a.gap a.of.n a.of.from c.loop-j.invariant c.in-Some.ensures.steps one refl refl
 
 pub siblings-loop-j-preserved : goal.siblings-loop-j-preserved
 siblings-loop-j-preserved t c =
     let a = c.args in
     let it = a.self.now in
     let s = it.sheet.now in
-    sum_goes s (counts.tally_by (answer it.told s) a.levels s) a.gap a.n a.from c.loop-j.invariant c.in-Some.ensures.steps
+    sum_goes s (counts.tally_by (answer it.told s) a.levels s) a.gap a.of.n a.of.from c.loop-j.invariant c.in-Some.ensures.steps
     c.tally.ensures c.plus-sum.ensures refl
 
 pub siblings-returns : goal.siblings-returns
 siblings-returns t c =
     let a = c.args in
     let it = a.self.now in
-    sum-ends it.sheet.now (counts.tally_by (answer it.told it.sheet.now) a.levels it.sheet.now) a.gap a.n a.from
+    sum-ends it.sheet.now (counts.tally_by (answer it.told it.sheet.now) a.levels it.sheet.now) a.gap a.of.n a.of.from
     c.loop-j.invariant c.in-None.ensures.steps.0 c.spaced.ensures c.plus.ensures
 
 pub tally-returns-then-levels-eq0 : goal.tally-returns-then-levels-eq0

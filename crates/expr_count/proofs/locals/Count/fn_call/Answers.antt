@@ -3,6 +3,7 @@ use mathlib.Core.Path.{ap, sym, ◌∙◌}
 use Rattle.expr_rules.proofs.InverseLaws.{call_rule_from}
 use Rattle.expr_count.proofs.PlanLaws.{fn-call-at}
 use Rattle.expr_count.specs.Locals.{answer}
+use Rattle.expr_count.specs.Operands.{some_from}
 use Rattle.expr_count.specs.Plan.{parts, alone, make_fn_ptr, all_args, fn_call_by}
 use Rattle.expr_count.proofs.locals.Count.fn_call.Goals as goal
 
@@ -11,7 +12,7 @@ unfolding fn_call_by make_fn_ptr call_rule_from
 returns-in-FnPtr c =
     let a = c.args in
     let it = a.self.now in
-    c.parts.ensures ∙ ap (λ from. parts 0 1 from 1) c.child.ensures ∙ fn-call-at it.sheet.now a.j (answer it.told it.sheet.now) _
+    c.parts.ensures ∙ ap (λ from. parts 0 (some_from 1 from) 1) c.child.ensures ∙ fn-call-at it.sheet.now a.j (answer it.told it.sheet.now) _
     (sym c.call_rule.ensures ∙ c.in-FnPtr.is)
 
 pub returns-in-FnPtrCall : goal.returns-in-FnPtrCall
