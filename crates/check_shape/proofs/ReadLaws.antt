@@ -8,6 +8,7 @@ use native.Mathlib.Omega.{arith}
 use mir.Syntax.{w32}
 use mir.Val.{Fits}
 use lib.Dec.{leb, eqb}
+use Rattle.std.proofs.Math.Bool.{and_assoc}
 use Rattle.sheet.specs.Sections.{node_count}
 use Rattle.sheet.specs.Node.{kind, span, count, field_a, field_b, field_c}
 use Rattle.sheet.specs.Kinds.{switch_kind, last_kind}
@@ -36,18 +37,13 @@ bounds-read k m a b c {t} hl hu hx hy hz h =
     ∙ (joined (leb 1 k && leb k last_kind) (leb t.least m) (leb m t.most) (leb a t.a) (leb b t.b) (leb c t.c)
     ∙ cc)
 
--- a test and a pair of them
-paired : (p l u : Bool) → (p && (l && u)) ≡ (p && l && u)
-paired true l u = refl
-paired false l u = refl
-
 -- the tests of a node's kind, span and fields
 pub own_read : (n k w m a b c total : ℕ) {x y z : Bool} → x ≡ within_bounds k m a b c → y ≡ own_rule k m a b
     → z ≡ (leb 1 w && leb (n + w) total) → (x && y && z) ≡ self_fits n k w m a b c total
 unfolding self_by
 own_read n k w m a b c total {x} {y} hx hy hz =
     ap (λ z. x && y && z) hz
-    ∙ (paired (x && y) (leb 1 w) (leb (n + w) total) ∙ ap₂ (λ x y. x && y && leb 1 w && leb (n + w) total) hx hy)
+    ∙ (sym (and_assoc (x && y) (leb 1 w) (leb (n + w) total)) ∙ ap₂ (λ x y. x && y && leb 1 w && leb (n + w) total) hx hy)
 
 -- the tests of child j, as its span and kind were read
 pub fits_read : (s : List ℕ) (p a b e i j : ℕ) {w k : ℕ} {f r : Bool} → w ≡ span s j → k ≡ kind s j → f ≡ (leb 1 w && leb (j + w) e)

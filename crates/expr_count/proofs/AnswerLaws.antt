@@ -231,6 +231,7 @@ module _ (s : List ℕ) (t : Rec) (j : ℕ) where
 pub tally-parted :
     (here : ℕ → Bool) (levels : ℕ) (s : List ℕ) (j : ℕ) {p : Plan} {gap : ℕ} {o : Operands} {rest u r : Tally} → (levels ≡ 0 → ⊥)
     → p ≡ plan here s j → p ≡ Parts gap o rest
-    → u ≡ capped (siblings s (tally_by here (levels - 1) s) gap o.n o.from) → r ≡ capped (plus u rest) → r ≡ capped (tally_by here levels s j)
+    → u ≡ capped (siblings s (tally_by here (levels - 1) s) gap o.n o.from) → r ≡ capped (plus u rest)
+    → r ≡ capped (tally_by here levels s j)
 tally-parted here levels s j {gap = gap} {o = o} {rest = rest} h p-is told u-is r-is =
     r-is ∙ ap (λ (x : Tally). capped (plus x rest)) u-is ∙ tally-parts here levels s j gap o rest h (sym p-is ∙ told)

@@ -140,7 +140,8 @@ module _ (s : List ℕ) (rec : Rec) (t : Count.Rec) (C : Counts rec t) where
           → WalkAdds p (walk s t (c ∷ cs)) (least s (c ∷ cs)) (steps s rec (c ∷ cs) n b d p)
       by (Lowers o) (stepped code x k q) e f g ih =
           rw (e, f, walk, least, steps)
-          (onto-adds p q (siblings s t 0 o.n o.from) (walk s t cs) (least s cs) code x (steps s rec cs (n + k) (b + length code) (d + k) q) g
+          (onto-adds p q (siblings s t 0 o.n o.from) (walk s t cs) (least s cs) code x
+          (steps s rec cs (n + k) (b + length code) (d + k) q) g
           (ih (n + k) (b + length code) (d + k) q))
       by (Lowers o) (failed q) e f g ih = absurd g
       by Fails (stepped code x k q) e f g ih = absurd g

@@ -100,9 +100,10 @@ array-kept {s} levels j o is many d =
     let many' : max_elements < count s j = subst (λ x. max_elements < x.n) is many in
     does-same (array s (lowered levels s) j) (λ a h. array-many s (lowered levels s) j a many') d
 
-pub interpolated-does : {s : List ℕ} {l : Layout} {ws xs ys zs : List ℕ} {st p q r : State} (levels j : ℕ) (o : Operands) → Right s → Valid s j
-    → o ≡ all s j → Does s l ws st xs p (emit InterpolateStart 0 0)
-    → (Right s → Row s o.n o.from → Does s l xs p ys q (rows s (lowered levels s) Append o.n o.from)) → Does s l ys q zs r (emit InterpolateEnd 0 0)
+pub interpolated-does : {s : List ℕ} {l : Layout} {ws xs ys zs : List ℕ} {st p q r : State} (levels j : ℕ) (o : Operands)
+    → Right s → Valid s j → o ≡ all s j → Does s l ws st xs p (emit InterpolateStart 0 0)
+    → (Right s → Row s o.n o.from → Does s l xs p ys q (rows s (lowered levels s) Append o.n o.from))
+    → Does s l ys q zs r (emit InterpolateEnd 0 0)
     → Does s l ws st zs r (interpolated s (lowered levels s) j)
 unfolding interpolated
 interpolated-does {s} {l} {ws} {xs} {ys} {zs} {st} {p} {q} {r} levels j o C v is first d last =

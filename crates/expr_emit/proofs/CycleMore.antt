@@ -57,8 +57,8 @@ short-is : (s : List ℕ) (low : Low) (stop : Bool) (end j : ℕ) (a : Made)
 unfolding short_circuit decision
 short-is s low stop end j a = ap (decision (from_bool stop) end a.depth) (rows-decided s low stop (end - 1) (count s j) (child j) a)
 
-pub short-does : {s : List ℕ} {l : Layout} {xs ys zs : List ℕ} {st q r : State} (levels : ℕ) (stop : Bool) (end to j : ℕ) (o : Operands) → Right s → Valid s j
-    → to ≡ end - 1 → o ≡ all s j
+pub short-does : {s : List ℕ} {l : Layout} {xs ys zs : List ℕ} {st q r : State} (levels : ℕ) (stop : Bool) (end to j : ℕ)
+    (o : Operands) → Right s → Valid s j → to ≡ end - 1 → o ≡ all s j
     → (Right s → Row s o.n o.from → Does s l xs st ys q (rows s (lowered levels s) (Decide stop to) o.n o.from))
     → ((a : Made) → st.depth ≤ a.pools.emitted → Holds s l ys q a → Fits l (decision (from_bool stop) end st.depth a)
     → Holds s l zs r (decision (from_bool stop) end st.depth a))

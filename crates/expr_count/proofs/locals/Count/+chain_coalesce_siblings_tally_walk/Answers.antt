@@ -75,7 +75,8 @@ siblings-loop-j-init t c =
     let it = a.self.now in
     let w = c.new-j-items.ensures in
     let whole = rest-is c.into_iter-j-iterator.ensures.into_iter_gives w.sheet w.left w.at in
-    sum-begins it.sheet.now (counts.tally_by (answer it.told it.sheet.now) a.levels it.sheet.now) a.gap a.of.n a.of.from c.nothing-sum.ensures
+    sum-begins it.sheet.now (counts.tally_by (answer it.told it.sheet.now) a.levels it.sheet.now) a.gap a.of.n a.of.from
+    c.nothing-sum.ensures
     whole
 
 pub siblings-overflow_add-leaves : goal.siblings-overflow_add-leaves
@@ -83,7 +84,8 @@ siblings-overflow_add-leaves t c =
     let a = c.args in
     let it = a.self.now in
     let s = it.sheet.now in
-    omega (arith, sum-more s (counts.tally_by (answer it.told s) a.levels s) a.gap a.of.n a.of.from c.loop-j.invariant c.in-Some.ensures.steps)
+    let t = counts.tally_by (answer it.told s) a.levels s in
+    omega (arith, sum-more s t a.gap a.of.n a.of.from c.loop-j.invariant c.in-Some.ensures.steps)
 
 pub siblings-loop-j-preserved-then-is_leaf : goal.siblings-loop-j-preserved-then-is_leaf
 siblings-loop-j-preserved-then-is_leaf t c =
@@ -92,7 +94,8 @@ siblings-loop-j-preserved-then-is_leaf t c =
     let s = it.sheet.now in
     let leaf-is = c.is_leaf.ensures ∙ ap is_leaf c.kind.ensures in
     let one = leaf-tally (answer it.told s) a.levels s _ (sym leaf-is ∙ c.if-is_leaf.true) in
-    sum-passes s (counts.tally_by (answer it.told s) a.levels s) a.gap a.of.n a.of.from c.loop-j.invariant c.in-Some.ensures.steps one refl refl
+    sum-passes s (counts.tally_by (answer it.told s) a.levels s) a.gap a.of.n a.of.from c.loop-j.invariant c.in-Some.ensures.steps
+    one refl refl
 
 pub siblings-loop-j-preserved : goal.siblings-loop-j-preserved
 siblings-loop-j-preserved t c =

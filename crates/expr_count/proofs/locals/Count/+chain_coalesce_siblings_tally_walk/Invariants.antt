@@ -26,7 +26,8 @@ decreases-walk l = 4 * l.levels + 2
 
 abbrev pub invariant-siblings-loop-j : goal.invariant-siblings-loop-j
 invariant-siblings-loop-j l = SumLeft l.self.sheet.now
-    (counts.tally_by (answer l.self.told l.self.sheet.now) l.levels l.self.sheet.now) l.gap l.of.n l.of.from l.sum l.leaves (rest l.j-iterator)
+    (counts.tally_by (answer l.self.told l.self.sheet.now) l.levels l.self.sheet.now) l.gap l.of.n l.of.from l.sum l.leaves
+    (rest l.j-iterator)
 
 abbrev pub invariant-walk-loop-p : goal.invariant-walk-loop-p
 invariant-walk-loop-p l =

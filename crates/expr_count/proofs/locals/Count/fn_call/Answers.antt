@@ -12,8 +12,8 @@ unfolding fn_call_by make_fn_ptr call_rule_from
 returns-in-FnPtr c =
     let a = c.args in
     let it = a.self.now in
-    c.parts.ensures ∙ ap (λ from. parts 0 (some_from 1 from) 1) c.child.ensures ∙ fn-call-at it.sheet.now a.j (answer it.told it.sheet.now) _
-    (sym c.call_rule.ensures ∙ c.in-FnPtr.is)
+    c.parts.ensures ∙ ap (λ from. parts 0 (some_from 1 from) 1) c.child.ensures
+    ∙ fn-call-at it.sheet.now a.j (answer it.told it.sheet.now) _ (sym c.call_rule.ensures ∙ c.in-FnPtr.is)
 
 pub returns-in-FnPtrCall : goal.returns-in-FnPtrCall
 unfolding fn_call_by all_args call_rule_from
