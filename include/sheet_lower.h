@@ -1,7 +1,9 @@
 /* The proved library, crates/api/out/libapi.a: the check of a sheet, what it needs, its lowering into an image, and the check of an image.
  *
- * The formats of sheet and image, word by word, are in docs/FORMAT.md. What the comments here say of answers and buffers is proved of the functions
- * for every sheet and every buffer (docs/PROOFS.md); the caller's duties are these:
+ * The formats of sheet and image, word by word, are in docs/FORMAT.md. A node has eight words, of which the last two are a namespace and its
+ * position, and a name in an image has three; a sheet with nodes of six words, as before version 0.4.0, is refused with SHEET_SIZE. What the
+ * comments here say of answers and buffers is proved of the functions for every sheet and every buffer (docs/PROOFS.md); the caller's duties
+ * are these:
  *
  *  - each pointer is not null, is aligned for its type, and points to as many elements as the length beside it says, also where that length is 0;
  *  - what is not `const` is writable, and overlaps no other area of the call;
@@ -19,9 +21,9 @@
 #include <stdint.h>
 
 /* The version of this header and of the archive, which is for x86-64 (CHANGELOG.md). */
-#define SHEET_LOWER_VERSION "0.3.0"
+#define SHEET_LOWER_VERSION "0.4.0"
 #define SHEET_LOWER_VERSION_MAJOR 0
-#define SHEET_LOWER_VERSION_MINOR 3
+#define SHEET_LOWER_VERSION_MINOR 4
 #define SHEET_LOWER_VERSION_PATCH 0
 
 #ifdef __cplusplus
@@ -32,15 +34,15 @@ extern "C" {
 enum sheet_number {
     SHEET_LOWERED = 0,        /* sheet_lower: lowered; sheet_needs: with enough scratch nothing refuses before the image is made */
     SHEET_WELL_MADE = 0,      /* sheet_check_image: the image is well made */
-    SHEET_SIZE = 1,           /* length, padding or a size is wrong */
+    SHEET_SIZE = 1,           /* length, padding or a size is wrong; so is a sheet with nodes of six words */
     SHEET_SHAPE = 2,          /* a node's kind, shape or field is wrong */
     SHEET_TEXT = 3,           /* a text lies outside its bytes, or is malformed */
     SHEET_NUMBER = 4,         /* a text number or a block number does not exist */
     SHEET_DEPTH = 5,          /* the tree is deeper than 64 */
     SHEET_ARMS = 6,           /* over 64 blocks, cases, ranges, or Refs in one case */
     SHEET_TWICE = 7,          /* two cases of equal kind and value */
-    SHEET_UNSUPPORTED = 8,    /* kind 23, 24 or 25; FnCall `curry` with over one argument */
-    SHEET_EVAL = 9,           /* lowering reaches an FnCall `eval` */
+    SHEET_UNSUPPORTED = 8,    /* kind 23, 24 or 25; FnCall `curry` with over one argument, of a module too */
+    SHEET_EVAL = 9,           /* lowering reaches an FnCall `eval`, of a module too */
     SHEET_EMITTED = 10,       /* over 262,143 instructions emitted, those taken back included */
     SHEET_SCRATCH_SHORT = 11, /* scratch below 16 words per emitted instruction, plus 16 per node, plus 4,096; of an image check: below image_len */
     SHEET_IMAGE_LONG = 12,    /* the finished image is longer than its buffer */

@@ -148,6 +148,35 @@ pub fn long_names(count: usize, length: usize) -> Vec<u8> {
     leaves(equal_long_texts(count, length), VARIABLE)
 }
 
+/// Variables with so many own names of one hash below one namespace of so many bytes: the joined names have one hash too.
+pub fn qualified_names(count: usize, length: usize) -> Vec<u8> {
+    let mut draft = equal_texts(count);
+    let space = draft.text(&vec![b'a'; length]);
+    let names: Vec<(u32, u32)> = (0..count as u32).map(|name| (space, name)).collect();
+    crate::sheets::each_name(draft, &names)
+}
+
+/// Chains of 62 Properties, each with three names of so many bytes, of one hash, which differ near their ends.
+pub fn properties(chains: usize, length: usize) -> Vec<u8> {
+    let links = 62;
+    let mut draft = equal_long_texts(3 * links * chains, length);
+    let mut name = 0;
+    draft.open(ARRAY, [0; 3], 1);
+    for _ in 0..chains {
+        for _ in 0..links {
+            draft.open(DOT, [0; 3], 2);
+        }
+        draft.leaf(THIS, [0; 3], 3);
+        for _ in 0..links {
+            draft.leaf(PROPERTY, [name, name + 1, name + 2], 4);
+            draft.close();
+            name += 3;
+        }
+    }
+    draft.close();
+    draft.to_bytes()
+}
+
 /// So many integers of one hash: of a number with low word a and high word b it is a function of a * FACTOR + b mod 2^32.
 pub fn numbers(count: usize) -> Vec<u8> {
     let mut draft = Draft::new();

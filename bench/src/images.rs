@@ -155,7 +155,7 @@ fn all_kinds(words: usize) -> Parts {
     for turn in 0..room(words, 190) {
         let (constant, name, chain) = (turn, 2 * turn, turn);
         parts.constants.push([INT + turn % 4, 0, 0]);
-        parts.names.extend([[0, 0], [0, 1]]);
+        parts.names.extend([[0, 0, 0], [0, 1, 1]]);
         parts.tokens.push(1 + turn % 65_535);
         parts.residuals.push(0);
         parts.chains.push([TEMPORARY_ROOT, 0, 0, 3 * turn, 3, 2]);
@@ -228,7 +228,7 @@ pub fn plain() -> Vec<Maker> {
         }),
         accepted("names", |w| {
             let mut parts = Parts::new();
-            parts.names = vec![[0, 1]; room(w, NAME_WORDS) as usize];
+            parts.names = vec![[0, 1, 1]; room(w, NAME_WORDS) as usize];
             parts.words(1)
         }),
         accepted("tokens", |w| {
@@ -241,7 +241,7 @@ pub fn plain() -> Vec<Maker> {
             let mut parts = Parts::new();
             let step = [METHOD_STEP, 0, 255, u32::MAX, 1, 7];
             parts.steps = vec![step; room(w, STEP_WORDS) as usize];
-            parts.names.push([0, 0]);
+            parts.names.push([0, 0, 0]);
             parts.words(1)
         }),
         accepted("cases", |w| {
@@ -478,7 +478,7 @@ fn sharing_steps(runs: &[Run]) -> Parts {
             [METHOD_STEP, 0, 255, 65_280, 0, 7]
         });
     }
-    parts.names.push([0, 0]);
+    parts.names.push([0, 0, 0]);
     parts
 }
 
@@ -693,7 +693,7 @@ fn one_chain(words: usize) -> Vec<u32> {
     parts
         .chains
         .push([THIS_ROOT, 0, 7, 0, parts.steps.len() as u32, 0]);
-    parts.names.push([0, 0]);
+    parts.names.push([0, 0, 0]);
     parts.words(2)
 }
 

@@ -20,11 +20,24 @@ pub fn timed() -> Vec<Named> {
         ("switch with guards".into(), switch(false)),
         ("wide calls".into(), wide()),
         ("deep chain".into(), deep_chain()),
+        ("index chain".into(), index_chain()),
         ("full, mixed".into(), mixed(NODES)),
         ("full, no pools".into(), unpooled(NODES)),
     ];
     for count in [1_000, 5_000, 20_000] {
         all.push((format!("names {count}"), names(count)));
+    }
+    // The same with a namespace before each variable and call.
+    for (name, sheet) in [
+        ("rule", rule()),
+        ("wide calls", wide()),
+        ("index chain", index_chain()),
+        ("full, mixed", mixed(NODES)),
+    ] {
+        all.push((format!("{name}, modules"), modules(&sheet)));
+    }
+    for count in [1_000, 5_000, 20_000] {
+        all.push((format!("names {count}, modules"), modules(&names(count))));
     }
     for count in [1_000, 5_000, 20_000] {
         all.push((format!("constants {count}"), constants(count)));
@@ -316,12 +329,77 @@ pub fn wide() -> Vec<u8> {
     mixed.draft.to_bytes()
 }
 
+/// A sheet with every variable and call qualified, each by one of eight texts of 6 to 10 bytes.
+pub fn modules(sheet: &[u8]) -> Vec<u8> {
+    let mut random = Random::new(13);
+    let mut draft = parts(sheet);
+    let spaces: Vec<u32> = [
+        "region",
+        "routers",
+        "policies",
+        "allowance",
+        "membership",
+        "limits",
+        "defaults",
+        "a::ports",
+    ]
+    .iter()
+    .map(|space| draft.text(space.as_bytes()))
+    .collect();
+    for node in &mut draft.nodes {
+        if matches!(node[0], VARIABLE | FN_CALL) {
+            let space = *random.pick(&spaces);
+            (node[6], node[7]) = (space + 1, 6);
+        }
+    }
+    draft.to_bytes()
+}
+
+/// The parts of a sheet.
+fn parts(sheet: &[u8]) -> Draft {
+    let read = oracle::sheet::read(sheet).expect("an accepted sheet");
+    let word = |at: usize| u32::from_le_bytes(sheet[4 * at..4 * at + 4].try_into().unwrap());
+    let (nodes, texts) = (read.nodes, read.texts);
+    let mut draft = Draft::new();
+    for node in 0..nodes {
+        let first = SHEET_SIZES + NODE_WORDS * node;
+        draft
+            .nodes
+            .push(std::array::from_fn(|field| word(first + field)));
+    }
+    draft.positions = (0..nodes).map(|node| read.position(node)).collect();
+    draft.texts = (0..texts)
+        .map(|text| read.text_bounds(text))
+        .map(|(start, length)| (start as u32, length as u32))
+        .collect();
+    let bytes = 4 * (SHEET_SIZES + (NODE_WORDS + 1) * nodes + 2 * texts);
+    draft.bytes = sheet[bytes..bytes + word(2) as usize].to_vec();
+    draft.locals = (0..read.locals).map(|local| read.local(local)).collect();
+    draft
+}
+
 /// One chain of 63 links: `port.name[1].find(2).name[1] ..`.
 pub fn deep_chain() -> Vec<u8> {
+    links(false)
+}
+
+/// The same with `[port]` in place of `[1]`.
+pub fn index_chain() -> Vec<u8> {
+    links(true)
+}
+
+fn links(named: bool) -> Vec<u8> {
     let mut draft = Draft::new();
     let [root, property, method] =
         [b"port".as_slice(), b"name", b"find"].map(|name| draft.text(name));
     let links = 63;
+    let operand = |which: usize, draft: &mut Draft| match which {
+        0 => draft.leaf(PROPERTY, [property; 3], 3),
+        1 if named => draft.leaf(VARIABLE, [root, 0, 0], 3),
+        1 => draft.int(1, 3),
+        // A method's argument would be one level more than depth 64 allows at the end.
+        _ => draft.leaf(METHOD_CALL, [method, 0, 0], 3),
+    };
     // The root, and then the operand of each link is the left side of the next.
     for link in 0..links {
         let kind = if link % 3 == 1 { INDEX } else { DOT };
@@ -329,23 +407,14 @@ pub fn deep_chain() -> Vec<u8> {
         if link == 0 {
             draft.leaf(VARIABLE, [root, 0, 0], 1);
         } else {
-            operand(&mut draft, (link - 1) % 3, property, method);
+            operand((link - 1) % 3, &mut draft);
         }
     }
-    operand(&mut draft, (links - 1) % 3, property, method);
+    operand((links - 1) % 3, &mut draft);
     for _ in 0..links {
         draft.close();
     }
     draft.to_bytes()
-}
-
-fn operand(draft: &mut Draft, which: usize, property: u32, method: u32) {
-    match which {
-        0 => draft.leaf(PROPERTY, [property; 3], 3),
-        1 => draft.int(1, 3),
-        // A method's argument would be one level more than depth 64 allows at the end.
-        _ => draft.leaf(METHOD_CALL, [method, 0, 0], 3),
-    }
 }
 
 /// An Array of so many leaves of a kind, each with a text of its own.
@@ -458,6 +527,107 @@ fn each_text(mut draft: Draft, kind: u32, times: usize) -> Vec<u8> {
         for text in 0..draft.texts.len() as u32 {
             draft.leaf(kind, [text, 0, 0], 2);
         }
+    }
+    draft.close();
+    draft.to_bytes()
+}
+
+/// Variables with so many names of one line of so many bytes, all equal when they are joined, each cut at a separator of its own.
+pub fn split_names(count: usize, length: usize) -> Vec<u8> {
+    let mut draft = Draft::new();
+    let names = split_texts(&mut draft, count, length);
+    each_name(draft, &names)
+}
+
+/// The same with two lines that differ in the last byte, in turn: neighbours are equal but for that byte, and cut at other places.
+pub fn split_names_last(count: usize, length: usize) -> Vec<u8> {
+    let mut draft = Draft::new();
+    let names = split_texts(&mut draft, count, length / 2);
+    let again = draft.bytes.clone();
+    draft.bytes.extend(again);
+    *draft.bytes.last_mut().expect("bytes") = b'b';
+    let half = (length / 2) as u32;
+    for (index, (_, name)) in names.iter().enumerate() {
+        if index % 2 == 1 {
+            draft.texts[*name as usize].0 += half;
+        }
+    }
+    each_name(draft, &names)
+}
+
+/// The texts of a line that is cut at so many separators: namespaces and own names.
+fn split_texts(draft: &mut Draft, count: usize, length: usize) -> Vec<(u32, u32)> {
+    let apart = length / (count + 1);
+    assert!(apart > 2);
+    draft.bytes = vec![b'a'; length];
+    (1..=count)
+        .map(|cut| {
+            let at = cut * apart - 2;
+            draft.bytes[at..at + 2].copy_from_slice(b"::");
+            draft.texts.push((0, at as u32));
+            draft.texts.push((at as u32 + 2, (length - at - 2) as u32));
+            let name = draft.texts.len() as u32 - 1;
+            (name - 1, name)
+        })
+        .collect()
+}
+
+/// Variables with so many namespaces of so many bytes, the same bytes at other places; all have one own name, or each its own.
+pub fn equal_spaces(count: usize, length: usize, own: bool) -> Vec<u8> {
+    let mut draft = Draft::new();
+    draft.bytes = vec![b'a'; length + count];
+    draft.texts = (0..count as u32)
+        .map(|start| (start, length as u32))
+        .collect();
+    let one = draft.text(b"v");
+    let names: Vec<(u32, u32)> = (0..count)
+        .map(|index| match own {
+            true => draft.text(format!("{index:05}").as_bytes()),
+            false => one,
+        })
+        .enumerate()
+        .map(|(space, name)| (space as u32, name))
+        .collect();
+    each_name(draft, &names)
+}
+
+/// Variables with so many namespaces and own names of `:` alone, no two the same and all equal when they are joined, each so many times over.
+pub fn colons(count: usize, length: usize, times: usize) -> Vec<u8> {
+    let mut draft = Draft::new();
+    draft.bytes = vec![b':'; length];
+    let least = length - count;
+    for more in 0..count {
+        draft.texts.push((0, (least + more) as u32));
+        draft.texts.push((0, (least + count - more) as u32));
+    }
+    let names: Vec<(u32, u32)> = (0..count as u32).map(|at| (2 * at, 2 * at + 1)).collect();
+    draft.open(ARRAY, [0; 3], 1);
+    for _ in 0..times {
+        draft.open(ARRAY, [0; 3], 1);
+        for (space, name) in &names {
+            draft.leaf_in(VARIABLE, [*name, 0, 0], 2, (*space, 3));
+        }
+        draft.close();
+    }
+    draft.close();
+    draft.to_bytes()
+}
+
+/// Variables with so many own names, all of five bytes, below one namespace of so many bytes.
+pub fn one_space(count: usize, length: usize) -> Vec<u8> {
+    let mut draft = Draft::new();
+    let space = draft.text(&vec![b'a'; length]);
+    let names: Vec<(u32, u32)> = (0..count)
+        .map(|index| (space, draft.text(format!("{index:05}").as_bytes())))
+        .collect();
+    each_name(draft, &names)
+}
+
+/// An Array of a variable for each namespace and own name.
+pub fn each_name(mut draft: Draft, names: &[(u32, u32)]) -> Vec<u8> {
+    draft.open(ARRAY, [0; 3], 1);
+    for (space, name) in names {
+        draft.leaf_in(VARIABLE, [*name, 0, 0], 2, (*space, 3));
     }
     draft.close();
     draft.to_bytes()

@@ -120,7 +120,11 @@ impl Counter<'_> {
                 eval: true,
             };
         }
-        let lowers = if name == KEYWORD_FN_PTR {
+        let qualified = sheet.namespace(&node).is_some();
+        let special = name == KEYWORD_FN_PTR || name == KEYWORD_FN_PTR_CALL;
+        let lowers = if qualified && special {
+            false
+        } else if name == KEYWORD_FN_PTR {
             count == 1
         } else if name == KEYWORD_FN_PTR_CALL {
             (1..=MAX_CALL_ARGUMENTS).contains(&count)
@@ -133,17 +137,17 @@ impl Counter<'_> {
         // The arguments, and the instruction itself.
         let mut sum = self.all(sheet.children(index));
         sum += ONE;
-        let special = name == KEYWORD_FN_PTR || name == KEYWORD_FN_PTR_CALL;
         if special || node.b == 1 || node.c != 0 || count == 0 {
             return sum;
         }
-        // A first argument that is a variable becomes the receiver: a local one is
-        // not loaded, any other gets a Rotate where it has company.
+        // A first argument that is an unqualified variable becomes the receiver: a
+        // local one is not loaded, any other gets a Rotate where it has company,
+        // unless the call is qualified.
         let first = sheet.node(index + 1);
-        if first.kind == VARIABLE {
+        if first.kind == VARIABLE && sheet.namespace(&first).is_none() {
             if self.is_local(first.a) {
                 sum.emitted -= 1;
-            } else if count > 1 {
+            } else if count > 1 && !qualified {
                 sum.emitted += 1;
             }
         }
@@ -155,7 +159,7 @@ impl Counter<'_> {
     }
 
     /// A Dot or Index: its steps' operands in order, then its root if that is
-    /// neither a variable nor `this`, then the Chain. A step that fails takes back
+    /// neither an unqualified variable nor `this`, then the Chain. A step that fails takes back
     /// what was emitted, and a residual stands for the whole.
     fn chain(&self, index: usize) -> Count {
         let sheet = self.sheet;
@@ -194,7 +198,12 @@ impl Counter<'_> {
             }
         }
         let root = index + 1;
-        if !matches!(sheet.node(root).kind, VARIABLE | THIS) {
+        let node = sheet.node(root);
+        let addressed = match node.kind {
+            VARIABLE => sheet.namespace(&node).is_none(),
+            kind => kind == THIS,
+        };
+        if !addressed {
             sum += self.expression(root);
         }
         sum += ONE;

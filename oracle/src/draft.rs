@@ -25,8 +25,20 @@ impl Draft {
         }
         self.open.push(self.nodes.len());
         let [a, b, c] = fields;
-        self.nodes.push([kind, 0, 0, a, b, c]);
+        self.nodes.push([kind, 0, 0, a, b, c, 0, 0]);
         self.positions.push(position);
+    }
+
+    /// Qualify the node opened last by a text, with the namespace's position.
+    pub fn qualify(&mut self, text: u32, position: u32) {
+        let node = self.nodes.last_mut().expect("a node");
+        (node[6], node[7]) = (text + 1, position);
+    }
+
+    /// `open` with a namespace: its text and position.
+    pub fn open_in(&mut self, kind: u32, fields: [u32; 3], position: u32, space: (u32, u32)) {
+        self.open(kind, fields, position);
+        self.qualify(space.0, space.1);
     }
 
     pub fn close(&mut self) {
@@ -36,6 +48,12 @@ impl Draft {
 
     pub fn leaf(&mut self, kind: u32, fields: [u32; 3], position: u32) {
         self.open(kind, fields, position);
+        self.close();
+    }
+
+    /// `leaf` with a namespace: its text and position.
+    pub fn leaf_in(&mut self, kind: u32, fields: [u32; 3], position: u32, space: (u32, u32)) {
+        self.open_in(kind, fields, position, space);
         self.close();
     }
 

@@ -5,8 +5,9 @@
 
 /// Words of the sheet's sizes: N, X, B, L.
 pub const SHEET_SIZES: usize = 4;
-/// Words of a node: kind, span, count, a, b, c.
-pub const NODE_WORDS: usize = 6;
+/// Words of a node: kind, span, count, a, b, c, namespace text plus 1 (0
+/// none), position of the namespace.
+pub const NODE_WORDS: usize = 8;
 
 pub const MAX_NODES: u32 = 131_072;
 pub const MAX_TEXTS: u32 = 65_536;
@@ -101,7 +102,8 @@ pub fn scratch_needed(emitted: u64, nodes: u64) -> u64 {
 pub const IMAGE_SIZES: usize = 12;
 pub const CODE_WORDS: usize = 4;
 pub const CONSTANT_WORDS: usize = 3;
-pub const NAME_WORDS: usize = 2;
+/// Words of a name: text, mark, namespace text plus 1 or 0.
+pub const NAME_WORDS: usize = 3;
 pub const CHAIN_WORDS: usize = 6;
 pub const STEP_WORDS: usize = 6;
 pub const SWITCH_WORDS: usize = 4;

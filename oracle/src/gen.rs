@@ -11,6 +11,7 @@ pub const PROFILES: &[&str] = &[
     "calls",
     "switches",
     "texts",
+    "modules",
     "damaged",
     "limits",
 ];
@@ -84,11 +85,53 @@ pub struct Gen {
     eval: u32,
     curry: u32,
     keywords: Vec<u32>,
+    /// Texts for namespaces; none in a sheet without modules.
+    spaces: Vec<u32>,
+    /// Parts of names with equal or nearly equal joined bytes.
+    splits: Vec<Split>,
+    /// How often a variable or call is qualified, in 100.
+    qualified: usize,
     /// How often an FnCall is an `eval`, in 100.
     evals: usize,
     /// 0: few positions, 1: plain ones, 2: any word.
     position_mode: usize,
 }
+
+/// A namespace's text, if any, an own name, and whether `!` is added.
+#[derive(Clone, Copy)]
+struct Split {
+    space: Option<u32>,
+    name: u32,
+    mark: bool,
+}
+
+const SPACES: &[&str] = &[
+    "m", "n", "a", "a::b", "a::b::c", "rules", "ports", "ü", "日本", "m:", ":", "::", "m!", "!",
+    "eval", "Fn", "call", "curry", "v", "g", "x", "",
+];
+
+/// Own names that look qualified.
+const LOOKALIKES: &[&str] = &[
+    "m::eval", "m::call", "m::Fn", "m::curry", "eval::m", "a::b", "::", "::a", "a::", "m::x",
+    "m::g!", "b::c",
+];
+
+/// Joined names, cut at each of their separators.
+const JOINED: &[&str] = &[
+    "a::b::c",
+    "m::g!",
+    "m::g",
+    "a:::b",
+    "a::::b",
+    "a::b::c::d!",
+    "::",
+    "a::",
+    "::a",
+    "m::!",
+    "m::!!",
+    "ü::日本::x",
+    "m::m::m::m",
+];
 
 const NAMES: &[&str] = &[
     "x",
@@ -167,7 +210,17 @@ impl Gen {
             false => 0,
         };
         let position_mode = random.below(3);
-        let left = random.between(1, size.nodes) as isize;
+        let qualified = match (profile, random.below(10)) {
+            ("modules", 0..=3) => 100,
+            ("modules", _) => *random.pick(&[20, 50, 50, 80]),
+            (_, 0..=3) => *random.pick(&[20, 20, 40]),
+            _ => 0,
+        };
+        let least = match profile {
+            "modules" => (size.nodes / 2).min(12),
+            _ => 1,
+        };
+        let left = random.between(least, size.nodes.max(least)) as isize;
         let mut gen = Gen {
             random,
             draft: Draft::new(),
@@ -179,6 +232,9 @@ impl Gen {
             eval: 0,
             curry: 0,
             keywords: Vec::new(),
+            spaces: Vec::new(),
+            splits: Vec::new(),
+            qualified,
             evals,
             position_mode,
         };
@@ -239,6 +295,9 @@ impl Gen {
             self.draft.texts.push((at, 0));
             self.names.push((self.draft.texts.len() - 1) as u32);
         }
+        if self.qualified > 0 {
+            self.make_spaces();
+        }
         let locals = match self.random.below(4) {
             0 => 0,
             1 | 2 => self.random.between(1, 2),
@@ -248,6 +307,162 @@ impl Gen {
             let text = self.random.below(self.draft.texts.len()) as u32;
             self.draft.locals.push(text);
         }
+    }
+
+    /// Texts for namespaces, and joined names with their parts.
+    fn make_spaces(&mut self) {
+        let small = self.size.small;
+        for _ in 0..self.random.between(1, if small { 2 } else { 5 }) {
+            let space = *self.random.pick(SPACES);
+            let text = self.add_text(space.as_bytes());
+            self.spaces.push(text);
+        }
+        if self.random.chance(1, 3) {
+            let name = *self.random.pick(LOOKALIKES);
+            let text = self.add_text(name.as_bytes());
+            self.names.push(text);
+        }
+        if small && self.random.chance(1, 2) {
+            return;
+        }
+        for _ in 0..self.random.between(1, if small { 1 } else { 3 }) {
+            let joined = self.joined();
+            self.split(&joined);
+        }
+    }
+
+    /// The bytes of a joined name.
+    fn joined(&mut self) -> Vec<u8> {
+        match self.random.below(6) {
+            0 if !self.size.small => {
+                // A long one, with separators as far from each other as small
+                // numbers of bytes.
+                let mut joined = vec![b'x'; self.random.between(0, 700)];
+                for _ in 0..self.random.between(2, 6) {
+                    joined.extend_from_slice(b"::");
+                    let more = self.random.below(70);
+                    joined.extend(std::iter::repeat_n(b'y', more));
+                }
+                if self.random.chance(1, 2) {
+                    joined.push(b'!');
+                }
+                joined
+            }
+            0..=3 => self.random.pick(JOINED).as_bytes().to_vec(),
+            _ => {
+                let pieces = ["a", "b", ":", "::", "::", "!", "ü", "m"];
+                let mut joined = String::new();
+                for _ in 0..self.random.between(2, 7) {
+                    joined.push_str(pieces[self.random.below(pieces.len())]);
+                }
+                joined.into_bytes()
+            }
+        }
+    }
+
+    /// All ways to put these bytes together from a namespace, an own name and
+    /// a mark, and some that give nearly the same bytes.
+    fn split(&mut self, joined: &[u8]) {
+        let start = self.draft.bytes.len();
+        self.draft.bytes.extend_from_slice(joined);
+        let part = |gen: &mut Gen, from: usize, to: usize| {
+            gen.draft
+                .texts
+                .push(((start + from) as u32, (to - from) as u32));
+            (gen.draft.texts.len() - 1) as u32
+        };
+        let length = joined.len();
+        let marked = joined.last() == Some(&b'!');
+        let mut cuts: Vec<usize> = (1..length.saturating_sub(1))
+            .filter(|at| joined[*at..].starts_with(b"::"))
+            .collect();
+        while self.size.small && cuts.len() > 2 {
+            cuts.remove(self.random.below(cuts.len()));
+        }
+        let mut all = vec![(None, 0)];
+        for cut in cuts {
+            let space = part(self, 0, cut);
+            self.spaces.push(space);
+            all.push((Some(space), cut + 2));
+        }
+        for (space, from) in all {
+            let name = part(self, from, length);
+            self.names.push(name);
+            let mark = self.random.chance(1, 4);
+            self.splits.push(Split { space, name, mark });
+            if marked && from < length {
+                let name = part(self, from, length - 1);
+                for mark in [true, true, false] {
+                    self.splits.push(Split { space, name, mark });
+                }
+            }
+        }
+    }
+
+    /// For a variable or call that is to be qualified, the text and position
+    /// of its namespace.
+    fn space(&mut self) -> Option<(u32, u32)> {
+        if self.qualified == 0 || !self.random.chance(self.qualified, 100) {
+            return None;
+        }
+        let index = self.random.below(self.spaces.len());
+        let text = if self.random.chance(1, 20) {
+            self.random.below(self.draft.texts.len()) as u32
+        } else {
+            self.spaces[index]
+        };
+        Some((text, self.position()))
+    }
+
+    /// One of the names that are split in several ways, for a variable or call
+    /// that is to be qualified.
+    fn split_name(&mut self) -> Option<Split> {
+        if self.splits.is_empty() || self.random.chance(1, 2) {
+            return None;
+        }
+        Some(*self.random.pick(&self.splits))
+    }
+
+    /// Begin a Variable or FnCall, qualified or not.
+    fn open_named(&mut self, kind: u32, fields: [u32; 3], space: Option<(u32, u32)>) {
+        let position = self.position();
+        self.draft.open(kind, fields, position);
+        if let Some((text, position)) = space {
+            self.draft.qualify(text, position);
+        }
+    }
+
+    fn variable_leaf(&mut self) {
+        let mut name = self.variable();
+        let mut space = self.space();
+        if let Some((_, position)) = space {
+            if let Some(split) = self.split_name() {
+                name = split.name;
+                space = split.space.map(|text| (text, position));
+            }
+        }
+        self.open_named(VARIABLE, [name, 0, 0], space);
+        self.draft.close();
+    }
+
+    /// Begin an FnCall. Gives whether it is `curry`, which has at most one
+    /// argument, and whether it is a residual whatever its arguments.
+    fn open_call(&mut self, capture: u32) -> (bool, bool) {
+        let (mut name, mut is_curry) = self.call_name();
+        let mut capture = capture;
+        let mut space = self.space();
+        if let Some((_, position)) = space {
+            if let Some(split) = self.split_name() {
+                (name, is_curry) = (split.name, false);
+                space = split.space.map(|text| (text, position));
+                capture = u32::from(split.mark);
+            }
+        }
+        let operator = self.operator();
+        self.open_named(FN_CALL, [name, capture, operator], space);
+        let named = |text: (u32, u32)| self.draft.texts[text.0 as usize].1 > 0;
+        let residual = space.is_some_and(named) && self.keywords.contains(&name);
+        (is_curry, residual)
     }
 
     pub fn position(&mut self) -> u32 {
@@ -335,10 +550,7 @@ impl Gen {
                 let text = self.random.below(self.draft.texts.len()) as u32;
                 self.draft.leaf(STRING, [text, 0, 0], position)
             }
-            14..=17 => {
-                let text = self.variable();
-                self.draft.leaf(VARIABLE, [text, 0, 0], position)
-            }
+            14..=17 => self.variable_leaf(),
             18..=19 => self.draft.leaf(THIS, [0, 0, 0], position),
             20 => self.property(position),
             21 => {
@@ -346,11 +558,9 @@ impl Gen {
                 self.draft.leaf(kind, [0, 0, 0], position)
             }
             22 => {
-                let (name, _) = self.call_name();
-                let operator = self.operator();
                 let capture = self.random.below(2) as u32;
-                self.draft
-                    .leaf(FN_CALL, [name, capture, operator], position)
+                self.open_call(capture);
+                self.draft.close();
             }
             _ => {
                 let name = self.random.below(self.draft.texts.len()) as u32;
@@ -379,7 +589,11 @@ impl Gen {
             let position = self.position();
             if self.random.chance(1, 3) && self.curry != u32::MAX && levels > 1 {
                 let arguments = self.random.between(1, 3);
-                self.draft.open(FN_CALL, [self.curry, 0, 0], position);
+                let space = match self.spaces.first() {
+                    Some(text) if self.random.chance(1, 3) => Some((*text, 9)),
+                    _ => self.space(),
+                };
+                self.open_named(FN_CALL, [self.curry, 0, 0], space);
                 for _ in 0..arguments {
                     self.expression(levels - 1);
                 }
@@ -392,8 +606,9 @@ impl Gen {
         }
         if self.wishes.eval && self.eval != u32::MAX && self.random.chance(1, 8) {
             self.left -= 1;
-            let position = self.position();
-            self.draft.leaf(FN_CALL, [self.eval, 0, 0], position);
+            let space = self.space();
+            self.open_named(FN_CALL, [self.eval, 0, 0], space);
+            self.draft.close();
             return;
         }
         if levels <= 1 || self.left <= 1 || self.random.chance(1, 8) {
@@ -403,6 +618,7 @@ impl Gen {
         let [plain, calls, chains] = match self.profile.as_str() {
             "chains" => [3, 2, 8],
             "calls" => [2, 8, 1],
+            "modules" => [3, 6, 3],
             _ => [8, 2, 1],
         };
         let choice = self.random.below(plain + calls + chains);
@@ -437,12 +653,11 @@ impl Gen {
         for index in 0..count {
             if index == 0 && self.random.chance(1, 2) {
                 self.left -= 1;
-                let position = self.position();
                 if self.random.chance(1, 4) {
+                    let position = self.position();
                     self.draft.leaf(THIS, [0, 0, 0], position);
                 } else {
-                    let name = self.variable();
-                    self.draft.leaf(VARIABLE, [name, 0, 0], position);
+                    self.variable_leaf();
                 }
             } else if count > 50 {
                 self.leaf();
@@ -467,14 +682,18 @@ impl Gen {
 
     fn call(&mut self, levels: usize) {
         self.left -= 1;
-        let position = self.position();
-        let (name, is_curry) = self.call_name();
         let count = self.count_of_arguments();
-        let count = if is_curry { count.min(1) } else { count };
         let capture = u32::from(self.random.chance(1, 5));
-        let operator = self.operator();
-        self.draft
-            .open(FN_CALL, [name, capture, operator], position);
+        let (is_curry, residual) = self.open_call(capture);
+        let mut count = if is_curry { count.min(1) } else { count };
+        if residual && self.eval != u32::MAX && count > 0 && self.random.chance(1, 4) {
+            // Not reached.
+            count -= 1;
+            self.left -= 1;
+            let space = self.space();
+            self.open_named(FN_CALL, [self.eval, 0, 0], space);
+            self.draft.close();
+        }
         self.arguments(count, levels);
         self.draft.close();
     }
@@ -509,9 +728,7 @@ impl Gen {
         match self.random.below(6) {
             0..=2 => {
                 self.left -= 1;
-                let position = self.position();
-                let name = self.variable();
-                self.draft.leaf(VARIABLE, [name, 0, 0], position);
+                self.variable_leaf();
             }
             3 => {
                 self.left -= 1;
@@ -570,7 +787,9 @@ impl Gen {
     pub fn whole(&mut self) {
         if self.wishes.too_deep && self.profile != "switches" {
             self.too_deep();
-        } else if self.profile == "switches" {
+        } else if self.profile == "switches"
+            || self.profile == "modules" && self.random.chance(1, 4)
+        {
             self.switch();
         } else {
             let levels = self.levels();
@@ -938,10 +1157,14 @@ fn texts(mut random: Random, size: Size) -> Draft {
     }
     draft.open(ARRAY, [0, 0, 0], 65_537);
     if count > 0 {
+        let modules = random.chance(2, 5);
         for _ in 0..random.between(0, if size.small { 4 } else { 10 }) {
             let kind = *random.pick(&[STRING, VARIABLE, FN_CALL, METHOD_CALL]);
             let text = random.below(count) as u32;
             draft.leaf(kind, [text, 0, 0], 65_538);
+            if modules && matches!(kind, VARIABLE | FN_CALL) && random.chance(1, 2) {
+                draft.qualify(random.below(count) as u32, 65_539);
+            }
         }
         for _ in 0..random.below(3) {
             let text = random.below(count) as u32;
@@ -983,7 +1206,7 @@ fn damaged(mut random: Random, size: Size) -> Vec<u8> {
     let profile = if switch {
         "switches"
     } else {
-        *random.pick(&["expressions", "chains", "calls"])
+        *random.pick(&["expressions", "chains", "calls", "modules"])
     };
     let inner = Random::new(random.next());
     let mut gen = Gen::new(profile, inner, size, wishes);
@@ -993,8 +1216,10 @@ fn damaged(mut random: Random, size: Size) -> Vec<u8> {
     gen.whole();
     let mut draft = gen.draft;
     let mut raw = 0;
+    let mut narrow = false;
     for cause in later {
         match cause {
+            1 if random.chance(1, 4) => narrow = true,
             1 => raw += 1,
             2 => damage_node(&mut draft, &mut random),
             3 => damage_text(&mut draft, &mut random),
@@ -1002,6 +1227,9 @@ fn damaged(mut random: Random, size: Size) -> Vec<u8> {
         }
     }
     let mut bytes = draft.to_bytes();
+    if narrow {
+        bytes = six_words(&draft, &bytes);
+    }
     for _ in 0..raw {
         damage_size(&mut bytes, &mut random);
     }
@@ -1014,6 +1242,18 @@ fn damaged(mut random: Random, size: Size) -> Vec<u8> {
         }
     }
     bytes
+}
+
+/// The sheet with six words a node: as before namespaces.
+fn six_words(draft: &Draft, bytes: &[u8]) -> Vec<u8> {
+    let (front, rest) = bytes.split_at(4 * SHEET_SIZES);
+    let (nodes, rest) = rest.split_at(4 * NODE_WORDS * draft.nodes.len());
+    let mut out = front.to_vec();
+    for node in nodes.chunks(4 * NODE_WORDS) {
+        out.extend_from_slice(&node[..24]);
+    }
+    out.extend_from_slice(rest);
+    out
 }
 
 fn damage_size(bytes: &mut Vec<u8>, random: &mut Random) {
@@ -1069,7 +1309,17 @@ fn damage_node(draft: &mut Draft, random: &mut Random) {
         random.below(draft.nodes.len())
     };
     let node = &mut draft.nodes[at];
-    match random.below(10) {
+    match random.below(13) {
+        // A namespace on any kind, and a position without a namespace.
+        10 => node[6] = *random.pick(&[1, 1, 2, u32::MAX]),
+        11 => node[7] = *random.pick(&[1, 65_537, u32::MAX]),
+        12 => {
+            if node[6] != 0 && random.chance(1, 2) {
+                node[6] = 0;
+            } else {
+                (node[6], node[7]) = (1, random.below(3) as u32);
+            }
+        }
         0 => node[0] = random.between(0, 27) as u32,
         1 => {
             node[1] = match random.below(5) {
@@ -1116,7 +1366,7 @@ fn damage_node(draft: &mut Draft, random: &mut Random) {
             draft.positions.remove(at);
         }
         7 => {
-            draft.nodes.insert(at, [UNIT, 1, 0, 0, 0, 0]);
+            draft.nodes.insert(at, [UNIT, 1, 0, 0, 0, 0, 0, 0]);
             draft.positions.insert(at, 1);
         }
         8 => {
@@ -1197,6 +1447,7 @@ fn damage_number(draft: &mut Draft, random: &mut Random) {
     let mut all: Vec<(usize, usize, bool)> = Vec::new();
     for (index, node) in draft.nodes.iter().enumerate() {
         match node[0] {
+            VARIABLE | FN_CALL if random.chance(1, 3) => all.push((index, 6, false)),
             STRING | VARIABLE | METHOD_CALL | FN_CALL => all.push((index, 3, false)),
             PROPERTY => all.push((index, 3 + random.below(3), false)),
             SWITCH => all.push((index, 5, true)),
@@ -1214,6 +1465,9 @@ fn damage_number(draft: &mut Draft, random: &mut Random) {
     let value = match (is_block, draft.nodes[index][0]) {
         (true, SWITCH) => blocks.wrapping_add(1),
         (true, _) => blocks,
+        // The number of the last text plus 1 is still right.
+        _ if field == 6 && random.chance(1, 8) => texts,
+        _ if field == 6 => texts + 1,
         _ => texts,
     };
     draft.nodes[index][field] = if far {

@@ -138,7 +138,7 @@ pub fn words(lowering: &Lowering<'_>) -> Vec<u32> {
         out.extend_from_slice(&[constant.kind, constant.a, constant.b]);
     }
     for name in &lowering.names {
-        out.extend_from_slice(&[name.text, u32::from(name.mark)]);
+        out.extend_from_slice(&[name.own.text, u32::from(name.own.mark), name.namespace]);
     }
     out.extend(lowering.tokens.iter().map(|token| token.0));
     out.extend_from_slice(&lowering.residuals);

@@ -462,6 +462,8 @@ impl<'i> Parts<'i> {
         }
         for (at, name) in self.names() {
             below(at, name[0], self.texts);
+            // The namespace's text is one less, or none.
+            below(at + 2, name[2], self.texts + 1);
         }
         for (at, residual) in self.records(self.at.residuals_at, 1, self.at.residuals) {
             below(at, residual[0], self.nodes);

@@ -135,7 +135,14 @@ fn accepted(random: &mut Random, size: ImageSize) -> Vec<u8> {
         return plain(random);
     }
     loop {
-        let profile = *random.pick(&["expressions", "chains", "calls", "switches", "texts"]);
+        let profile = *random.pick(&[
+            "expressions",
+            "chains",
+            "calls",
+            "switches",
+            "texts",
+            "modules",
+        ]);
         let sheet = gen::sheet(profile, random.next(), 0, sheet_size(random, size));
         if sheet::check(&sheet) == 0 {
             return sheet;
@@ -293,6 +300,7 @@ impl<'r> Builder<'r> {
                 let name = [
                     self.random.below(self.texts) as u32,
                     self.random.below(2) as u32,
+                    self.random.below(self.texts + 1) as u32,
                 ];
                 self.draft.names.push(name);
             }
@@ -958,7 +966,8 @@ fn limits(
         (Part::Constants, 1) if kind == STRING => vec![texts],
         (Part::Constants, _) => vec![1],
         (Part::Names, 0) => vec![texts],
-        (Part::Names, _) => vec![2],
+        (Part::Names, 1) => vec![2],
+        (Part::Names, _) => vec![texts + 1],
         (Part::Tokens, _) => vec![1, 65_536],
         (Part::Residuals, _) => vec![sheet.nodes as u32],
         (Part::Chains, 0) => vec![4],
@@ -1384,7 +1393,7 @@ fn extended(sheet: &Sheet<'_>, mut draft: ImageDraft, random: &mut Random) -> Ve
             Part::Constants
         }
         19 if texts > 0 => {
-            draft.names.push([texts - 1, 1]);
+            draft.names.push([texts - 1, 1, texts]);
             Part::Names
         }
         20 => {
@@ -1498,7 +1507,7 @@ fn words(random: &mut Random) -> Vec<u32> {
         ]);
     }
     for _ in 0..few(random) {
-        draft.names.push([word(random), word(random)]);
+        draft.names.push([word(random), word(random), word(random)]);
     }
     for _ in 0..few(random) {
         draft.tokens.push(word(random) + 1);

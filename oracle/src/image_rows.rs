@@ -31,11 +31,13 @@ impl Row {
 }
 
 /// One Unit.
-const BARE: &[u32] = &[1, 0, 0, 0, 2, 1, 0, 0, 0, 0, 0];
+const BARE: &[u32] = &[1, 0, 0, 0, 2, 1, 0, 0, 0, 0, 0, 0, 0];
 /// One Unit, the text `a`, and one local of that name.
-const NAMED: &[u32] = &[1, 1, 1, 1, 2, 1, 0, 0, 0, 0, 0, 0, 1, 97, 0];
+const NAMED: &[u32] = &[1, 1, 1, 1, 2, 1, 0, 0, 0, 0, 0, 0, 0, 0, 1, 97, 0];
+/// One Unit, the text `a` and a text of no bytes.
+const EMPTY: &[u32] = &[1, 2, 1, 0, 2, 1, 0, 0, 0, 0, 0, 0, 0, 0, 0, 1, 0, 97];
 /// FnCall `eval`, which lowering refuses with 9.
-const EVAL: &[u32] = &[1, 1, 4, 0, 13, 1, 0, 0, 0, 0, 0, 0, 4, 0x6C61_7665];
+const EVAL: &[u32] = &[1, 1, 4, 0, 13, 1, 0, 0, 0, 0, 0, 0, 0, 0, 4, 0x6C61_7665];
 
 const UNIT: [u32; CODE_WORDS] = [2, 0, 0, 0];
 const POP: [u32; CODE_WORDS] = [7, 0, 0, 0];
@@ -148,7 +150,7 @@ fn residuals(rows: &[u32]) -> ImageDraft {
 /// Chains and steps with one name.
 fn chains(chains: &[[u32; CHAIN_WORDS]], steps: &[[u32; STEP_WORDS]]) -> ImageDraft {
     ImageDraft {
-        names: vec![[0, 0]],
+        names: vec![[0, 0, 0]],
         chains: chains.to_vec(),
         steps: steps.to_vec(),
         ..Default::default()
@@ -212,7 +214,6 @@ fn sizes(rows: &mut Rows) {
     rows.words("twelve words: wrong (Remains)", BARE, twelve, remains);
     // Words of a row times the size are 0 to 32 bits.
     for (name, at, size) in [
-        ("2^31 names", 2, 1 << 31),
         ("2^31 chains", 5, 1 << 31),
         ("2^31 steps", 6, 1 << 31),
         ("2^30 tables", 7, 1 << 30),
@@ -227,6 +228,13 @@ fn sizes(rows: &mut Rows) {
     image[3] = HIGH;
     image.pop();
     rows.words("2^32 - 1 tokens: wrong (Sizes)", BARE, image, clause);
+    let mut image = unit.to_vec();
+    (image[2], image[3]) = (1 << 31, 1 << 31);
+    let name = "2^31 names and 2^31 tokens: wrong (Sizes)";
+    rows.words(name, BARE, image, clause);
+    let mut image = beside(names(&[[0, 0, 0]])).words();
+    image.pop();
+    rows.words("a name of two words: wrong (Sizes)", NAMED, image, clause);
 }
 
 fn kinds(rows: &mut Rows) {
@@ -250,7 +258,7 @@ fn flags(rows: &mut Rows) {
     let clause = Clause::Flag;
     let truth = |a| code(1, &[[3, a, 0, 0]]);
     rows.both(clause, "Bool 1 or 2", BARE, truth(1), truth(2));
-    let name = names(&[[0, 0]]);
+    let name = names(&[[0, 0, 0]]);
     let none = ImageDraft::default();
     rows.dead(
         clause,
@@ -273,7 +281,7 @@ fn flags(rows: &mut Rows) {
         [17, 0, 1, 0],
         [17, 0, 2, 0],
     );
-    let mark = |mark| beside(names(&[[0, mark]]));
+    let mark = |mark| beside(names(&[[0, mark, 0]]));
     rows.both(clause, "mark 1 or 2", NAMED, mark(1), mark(2));
     let step = |step| beside(chains(&[], &[step]));
     let index = |flag| step([0, 0, flag, 0, 0, 0]);
@@ -352,7 +360,7 @@ fn widths(rows: &mut Rows) {
 }
 
 fn arguments(rows: &mut Rows) {
-    let name = names(&[[0, 0]]);
+    let name = names(&[[0, 0, 0]]);
     for (text, receiver) in [("Local", 0), ("Named", 1), ("This", 2)] {
         rows.dead(
             Clause::Argument,
@@ -369,7 +377,7 @@ fn unused(rows: &mut Rows) {
     // Every pool has one row.
     let pools = ImageDraft {
         constants: vec![[3, 0, 0]],
-        names: vec![[0, 0]],
+        names: vec![[0, 0, 0]],
         residuals: vec![0],
         chains: vec![[3, 0, 0, 0, 0, 0]],
         tables: vec![[1, 0, 0, 3]],
@@ -435,7 +443,7 @@ fn unused(rows: &mut Rows) {
 
 fn pool_indexes(rows: &mut Rows) {
     let clause = Clause::PoolIndex;
-    let name = names(&[[0, 0]]);
+    let name = names(&[[0, 0, 0]]);
     let one = constants(&[[3, 0, 0]]);
     rows.dead(clause, "Const 0 or 1", &one, [1, 0, 0, 0], [1, 1, 0, 0]);
     rows.dead(
@@ -538,9 +546,14 @@ fn pool_indexes(rows: &mut Rows) {
 
 fn sheet_indexes(rows: &mut Rows) {
     let clause = Clause::SheetIndex;
-    let text = |text| beside(names(&[[text, 0]]));
+    let text = |text| beside(names(&[[text, 0, 0]]));
     rows.both(clause, "name's text 0 or 1", NAMED, text(0), text(1));
     rows.wrong("name's text, no texts", BARE, text(0), clause);
+    let space = |space| beside(names(&[[0, 0, space]]));
+    rows.both(clause, "name's namespace 1 or 2", NAMED, space(1), space(2));
+    rows.wrong("name's namespace 2^32 - 1", NAMED, space(HIGH), clause);
+    let name = beside(names(&[[1, 0, 1]]));
+    rows.wrong("name's text 1, namespace 1", NAMED, name, clause);
     let string = |text| beside(constants(&[[6, text, 0]]));
     rows.both(clause, "String 0 or 1", NAMED, string(0), string(1));
     let node = |node| beside(residuals(&[node]));
@@ -552,7 +565,7 @@ fn sheet_indexes(rows: &mut Rows) {
         code(1, &[[4, 0, 0, 0]]),
         code(1, &[[4, 1, 0, 0]]),
     );
-    let name = names(&[[0, 0]]);
+    let name = names(&[[0, 0, 0]]);
     rows.both(
         clause,
         "CallRef slot 0 or 1",
@@ -893,6 +906,10 @@ fn remains_and_depth(rows: &mut Rows) {
 fn not_asked(rows: &mut Rows) {
     let twice = constants(&[[4, 1, 0x7FF8_0000], [4, 1, 0x7FF8_0000]]);
     rows.right("equal constants", BARE, beside(twice));
+    let twice = names(&[[0, 1, 1], [0, 1, 1], [0, 0, 0], [0, 0, 0]]);
+    rows.right("equal names", NAMED, beside(twice));
+    let empty = names(&[[0, 0, 2], [1, 1, 2]]);
+    rows.right("a namespace of no bytes", EMPTY, beside(empty));
     let float = ImageDraft {
         constants: vec![[4, 0, 0]],
         cases: vec![[2, 0]],
@@ -902,7 +919,7 @@ fn not_asked(rows: &mut Rows) {
     let switch = with(&float, 1, &[UNIT, [15, 0, 0, 0]]);
     rows.right("a case that is a Float", BARE, switch);
     let call = ImageDraft {
-        names: vec![[0, 1]],
+        names: vec![[0, 1, 0]],
         tokens: vec![7],
         ..Default::default()
     };

@@ -102,6 +102,7 @@ fn words(sheet: &Sheet<'_>, program: &Program<'_>) -> BTreeSet<Clause> {
     }
     for name in program.names.chunks(NAME_WORDS) {
         bad(name[0] >= texts, Clause::SheetIndex);
+        bad(name[2] > texts, Clause::SheetIndex);
         bad(name[1] > 1, Clause::Flag);
     }
     for token in program.tokens {

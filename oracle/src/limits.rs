@@ -30,6 +30,8 @@ pub const EDGES: &[&str] = &[
     "texts that overlap",
     "scratch of the program `lower`",
     "many names, constants, chains and locals",
+    "arguments of a qualified call",
+    "many names with namespaces, equal and not",
 ];
 
 /// The sheet for an index; there are two for each edge.
@@ -119,7 +121,13 @@ pub fn sheet(index: u64, mut random: Random) -> Vec<u8> {
                 draft.close();
             }
         }
-        _ => crowded(&mut draft, &mut random, over),
+        21 => crowded(&mut draft, &mut random, over),
+        22 => {
+            call(&mut draft, &mut random, b"g", 255 + more);
+            let space = draft.text(b"m");
+            (draft.nodes[0][6], draft.nodes[0][7]) = (space + 1, 9);
+        }
+        _ => spaces(&mut draft, &mut random, over),
     }
     draft.to_bytes()
 }
@@ -397,6 +405,41 @@ fn overlapping(draft: &mut Draft, random: &mut Random, over: bool) {
         draft.texts[random.below(20_000)] = (12 * random.below(5_000) as u32 + 1, 60_000);
     }
     draft.leaf(UNIT, [0, 0, 0], 1);
+}
+
+/// Thousands of qualified variables and calls. The joined names are cut out of
+/// one line of separators and letters, so that many are equal though their
+/// parts differ; past the edge each has its own first letters.
+fn spaces(draft: &mut Draft, random: &mut Random, over: bool) {
+    let line = "a::b::a:::b::c::".repeat(60);
+    draft.bytes = line.into_bytes();
+    let cuts: Vec<usize> = (1..draft.bytes.len() - 2)
+        .filter(|at| draft.bytes[*at..].starts_with(b"::"))
+        .collect();
+    let mut whole = |draft: &mut Draft, index: usize| {
+        let start = if over { random.below(400) } else { 0 };
+        let cut = *random.pick(&cuts);
+        let cut = cut.max(start + 1);
+        let end = (cut + 2 + 16 * (index % 40)).min(draft.bytes.len());
+        draft.texts.push((start as u32, (cut - start) as u32));
+        draft
+            .texts
+            .push((cut as u32 + 2, (end - cut).saturating_sub(2) as u32));
+    };
+    for index in 0..4_000 {
+        whole(draft, index);
+    }
+    draft.open(INTERPOLATED, [0, 0, 0], 1);
+    for index in 0..4_000u32 {
+        let (space, name) = (2 * index, 2 * index + 1);
+        if index % 3 == 0 {
+            let capture = u32::from(index % 2 == 0);
+            draft.leaf_in(FN_CALL, [name, capture, 0], 2, (space, index));
+        } else {
+            draft.leaf_in(VARIABLE, [name, 0, 0], 3, (space, index));
+        }
+    }
+    draft.close();
 }
 
 /// Pools with thousands of entries.

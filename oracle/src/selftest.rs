@@ -94,7 +94,12 @@ fn pools_distinct(sheet: &sheet::Sheet<'_>, words: &[u32]) -> Result<(), String>
     let sections = crate::depth::Sections::of(words);
     let name = |index: usize| {
         let at = sections.names_at + NAME_WORDS * index;
-        let mut bytes = sheet.text(words[at]).to_vec();
+        let mut bytes = Vec::new();
+        if words[at + 2] > 0 {
+            bytes.extend_from_slice(sheet.text(words[at + 2] - 1));
+            bytes.extend_from_slice(b"::");
+        }
+        bytes.extend_from_slice(sheet.text(words[at]));
         if words[at + 1] == 1 {
             bytes.push(b'!');
         }

@@ -1,4 +1,4 @@
-//! The sheet reader, with the refusals 1 to 8. Written from document 01.
+//! The sheet reader, with the refusals 1 to 8. Written from documents 01 and 02.
 //!
 //! Each number is one predicate over the whole sheet. None of them recurses.
 
@@ -13,6 +13,10 @@ pub struct Node {
     pub a: u32,
     pub b: u32,
     pub c: u32,
+    /// The number of the namespace's text plus 1; 0 where there is none.
+    pub space: u32,
+    /// The position of the namespace.
+    pub space_position: u32,
 }
 
 const NODE_BYTES: usize = NODE_WORDS * 4;
@@ -92,7 +96,17 @@ impl<'a> Sheet<'a> {
             a: word(w, 3),
             b: word(w, 4),
             c: word(w, 5),
+            space: word(w, 6),
+            space_position: word(w, 7),
         }
+    }
+
+    /// The number of the text that a node's name is qualified by. A namespace
+    /// text of no bytes counts as none. Only after number 4.
+    #[inline(always)]
+    pub fn namespace(&self, node: &Node) -> Option<u32> {
+        let text = node.space.checked_sub(1)?;
+        (!self.text(text).is_empty()).then_some(text)
     }
 
     #[inline(always)]
@@ -272,14 +286,15 @@ impl<'a> Sheet<'a> {
         let blocks = if root.kind == SWITCH { root.a } else { 0 };
         (0..self.nodes).all(|index| {
             let node = self.node(index);
-            match node.kind {
-                STRING | VARIABLE | METHOD_CALL | FN_CALL => node.a < texts,
-                PROPERTY => node.a < texts && node.b < texts && node.c < texts,
-                SWITCH => node.c <= blocks,
-                RANGE => node.b < blocks,
-                REF => node.a < blocks,
-                _ => true,
-            }
+            node.space <= texts
+                && match node.kind {
+                    STRING | VARIABLE | METHOD_CALL | FN_CALL => node.a < texts,
+                    PROPERTY => node.a < texts && node.b < texts && node.c < texts,
+                    SWITCH => node.c <= blocks,
+                    RANGE => node.b < blocks,
+                    REF => node.a < blocks,
+                    _ => true,
+                }
         }) && (0..self.locals).all(|index| self.local(index) < texts)
     }
 
@@ -407,20 +422,24 @@ pub fn is_expression(kind: u32) -> bool {
 #[inline(always)]
 fn fields_ok(node: &Node) -> bool {
     let Node { a, b, c, .. } = *node;
-    match node.kind {
-        BOOL => a <= 1 && b == 0 && c == 0,
-        INT | FLOAT => c == 0,
-        CHAR => char::from_u32(a).is_some() && b == 0 && c == 0,
-        STRING | VARIABLE | METHOD_CALL | REF => b == 0 && c == 0,
-        PROPERTY | SWITCH => true,
-        FN_CALL => b <= 1 && c <= MAX_OPERATOR,
-        DOT | INDEX => a <= (NEGATED | BREAK) && b == 0 && c == 0,
-        RANGE => a <= 1 && c == 0,
-        UNIT | INTERPOLATED | ARRAY | THIS | AND | OR | COALESCE | CASE | MAP | BLOCK | DYNAMIC => {
-            a == 0 && b == 0 && c == 0
+    let qualified = match node.kind {
+        VARIABLE | FN_CALL => node.space != 0 || node.space_position == 0,
+        _ => node.space == 0 && node.space_position == 0,
+    };
+    qualified
+        && match node.kind {
+            BOOL => a <= 1 && b == 0 && c == 0,
+            INT | FLOAT => c == 0,
+            CHAR => char::from_u32(a).is_some() && b == 0 && c == 0,
+            STRING | VARIABLE | METHOD_CALL | REF => b == 0 && c == 0,
+            PROPERTY | SWITCH => true,
+            FN_CALL => b <= 1 && c <= MAX_OPERATOR,
+            DOT | INDEX => a <= (NEGATED | BREAK) && b == 0 && c == 0,
+            RANGE => a <= 1 && c == 0,
+            UNIT | INTERPOLATED | ARRAY | THIS | AND | OR | COALESCE | CASE | MAP | BLOCK
+            | DYNAMIC => a == 0 && b == 0 && c == 0,
+            _ => false,
         }
-        _ => false,
-    }
 }
 
 /// The length of the well-formed UTF-8 character at the front, or 0.

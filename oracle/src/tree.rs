@@ -5,7 +5,7 @@ use crate::format::*;
 use crate::grain::ast::{ASTFlags, BinaryExpr, Expr, FnCallExpr};
 use crate::grain::eval::RangeCase;
 use crate::grain::stand_in::{
-    CaseBlocksList, Dynamic, ImmutableString, Position, SwitchCasesCollection, Token,
+    CaseBlocksList, Dynamic, ImmutableString, Namespace, Position, SwitchCasesCollection, Token,
 };
 use crate::sheet::{Node, Sheet};
 
@@ -97,8 +97,19 @@ fn expression<'a>(sheet: &Sheet<'a>, index: usize) -> Expr<'a> {
         all.extend(sheet.children(index).map(|child| expression(sheet, child)));
         all
     };
+    let namespace = || match sheet.namespace(&node) {
+        None => Namespace::NONE,
+        Some(text) => {
+            let pos = Position {
+                word: node.space_position,
+                node: index as u32,
+            };
+            Namespace::new(text, sheet.text(text), pos)
+        }
+    };
     let call = |capture: u32, operator: u32| {
         Box::new(FnCallExpr {
+            namespace: namespace(),
             name: name(sheet, node.a),
             args: all(),
             capture_parent_scope: capture == 1,
@@ -120,7 +131,7 @@ fn expression<'a>(sheet: &Sheet<'a>, index: usize) -> Expr<'a> {
         STRING => Expr::StringConstant(name(sheet, node.a), pos),
         INTERPOLATED => Expr::InterpolatedString(all(), pos),
         ARRAY => Expr::Array(all(), pos),
-        VARIABLE => Expr::Variable((None, name(sheet, node.a)), pos),
+        VARIABLE => Expr::Variable(Box::new((None, name(sheet, node.a), namespace())), pos),
         THIS => Expr::ThisPtr(pos),
         PROPERTY => {
             let names = (

@@ -63,7 +63,14 @@ fn numbers_and_scratch() {
 #[test]
 fn what_lowering_makes_is_well_made() {
     let mut images = 0;
-    for profile in ["expressions", "chains", "calls", "switches", "texts"] {
+    for profile in [
+        "expressions",
+        "chains",
+        "calls",
+        "switches",
+        "texts",
+        "modules",
+    ] {
         for (size, count) in [(Size::SMALL, 1_000), (Size::NORMAL, 200)] {
             for index in 0..count {
                 let bytes = gen::sheet(profile, 41, index, size);

@@ -90,8 +90,8 @@ fn number_1_padding() {
         let text = "x".repeat(length);
         let good = with_positions(&[U], &[text.as_str()], &[0]);
         assert_eq!(number(&good), 0);
-        // 4 sizes, 6 + 1 words, start, length, then the bytes.
-        let bytes_at = 4 * (4 + 7 + 2);
+        // 4 sizes, 8 + 1 words, start, length, then the bytes.
+        let bytes_at = 4 * (4 + 9 + 2);
         for byte in length..4 {
             let mut bad = good.clone();
             bad[bytes_at + byte] = 1;
@@ -364,7 +364,7 @@ fn number_2_switch() {
     }
     // A guard that is no expression.
     let mut sheet = switch(1, 0, 0, 0, &[]);
-    set_word(&mut sheet, 4 + 2 * 6, REF);
+    set_word(&mut sheet, 4 + 2 * 8, REF);
     assert_eq!(number(&sheet), 2);
 }
 
@@ -374,6 +374,7 @@ fn number_2_switch() {
 fn with_texts(bytes: &[u8], texts: &[(u32, u32)]) -> u32 {
     let mut words = vec![1, texts.len() as u32, bytes.len() as u32, 0];
     words.extend(U);
+    words.extend([0, 0]);
     words.push(5);
     words.extend(texts.iter().map(|text| text.0));
     words.extend(texts.iter().map(|text| text.1));
@@ -646,7 +647,7 @@ fn number_5() {
 fn deepest_tree_gets_lower_numbers_first() {
     let words = 131_072usize;
     let sheet = nested(131_072);
-    let last = 4 + 6 * (words - 1);
+    let last = 4 + 8 * (words - 1);
     let mut bad = sheet.clone();
     set_word(&mut bad, last, 26);
     assert_eq!(oracle::check(&bad), 2);
@@ -1102,7 +1103,7 @@ fn the_lowest_number_wins() {
         let mut sheet = with_positions(&nodes, &["x"], &[]);
         if has(3) {
             // The length of text 0.
-            set_word(&mut sheet, 4 + 7 * nodes.len() + 1, 2);
+            set_word(&mut sheet, 4 + 9 * nodes.len() + 1, 2);
         }
         if has(1) {
             sheet.push(0);

@@ -1,5 +1,5 @@
 //! The proved lowering of rule sheets into images, and the check of an image beside its sheet (`include/sheet_lower.h`), as safe functions without
-//! dependencies and without a heap.
+//! dependencies and without a heap. A sheet's node has eight words; a sheet with nodes of six words, as before version 0.4.0, is refused with 1.
 //!
 //! What is said of answers and buffers is proved of the library for every sheet, every image and every buffer.
 

@@ -4,7 +4,7 @@ use sheet_lower::{check, lower, needs, scratch_words, Refused, SCRATCH_MOST};
 
 /// One Unit node: 17 words, one instruction.
 fn unit() -> Vec<u8> {
-    let words = [1u32, 0, 0, 0, 2, 1, 0, 0, 0, 0, 9];
+    let words = [1u32, 0, 0, 0, 2, 1, 0, 0, 0, 0, 0, 0, 9];
     words.iter().flat_map(|word| word.to_le_bytes()).collect()
 }
 
@@ -46,11 +46,11 @@ fn what_is_needed_is_enough_and_one_word_less_is_not() {
 #[test]
 fn a_switch_needs_words_for_all_that_it_emits() {
     // A Unit, on which nothing is switched: subject, Switch, Unit, Rotate, Pop.
-    let mut words = vec![2u32, 0, 0, 0, 19, 2, 1, 0, 0, 0, 2, 1, 0, 0, 0, 0, 9, 9];
+    let mut words = vec![2u32, 0, 0, 0, 19, 2, 1, 0, 0, 0, 0, 0, 2, 1, 0, 0, 0, 0, 0, 0, 9, 9];
     let sheet = |words: &[u32]| -> Vec<u8> { words.iter().flat_map(|word| word.to_le_bytes()).collect() };
     assert_eq!(needs(&sheet(&words)), Ok(scratch_words(5, 2)));
     // Kind 23 is not supported.
-    words[10] = 23;
+    words[12] = 23;
     assert_eq!(needs(&sheet(&words)), Err(Refused(8)));
 }
 
@@ -60,4 +60,12 @@ fn no_bytes_and_no_room() {
     assert_eq!(needs(&[]), Err(Refused(1)));
     assert_eq!(lower(&[], &mut [], &mut []), Err(Refused(1)));
     assert_eq!(lower(&unit(), &mut [], &mut []), Err(Refused(11)));
+}
+
+#[test]
+fn nodes_of_six_words_are_refused() {
+    // One Unit: the sizes, kind to c, and its position.
+    let words = [1u32, 0, 0, 0, 2, 1, 0, 0, 0, 0, 9];
+    let sheet: Vec<u8> = words.iter().flat_map(|word| word.to_le_bytes()).collect();
+    assert_eq!(check(&sheet), Err(Refused(1)));
 }

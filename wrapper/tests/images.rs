@@ -8,14 +8,14 @@ fn words(text: &str) -> Vec<u32> {
     text.split_whitespace().map(|word| word.parse().unwrap()).collect()
 }
 
-/// The image of samples/port.sheet: 11 instructions, 2 constants, 3 names, 2 tables, a case, a range; 95 words.
+/// The image of samples/port.sheet: 11 instructions, 2 constants, 3 names, 2 tables, a case, a range; 98 words.
 fn port() -> Vec<u32> {
     words(include_str!("../../samples/port.words"))
 }
 
 /// One Unit node, and its image.
 fn unit() -> (Vec<u8>, Vec<u32>) {
-    let words = [1u32, 0, 0, 0, 2, 1, 0, 0, 0, 0, 9];
+    let words = [1u32, 0, 0, 0, 2, 1, 0, 0, 0, 0, 0, 0, 9];
     let sheet = words.iter().flat_map(|word| word.to_le_bytes()).collect();
     (sheet, vec![1, 0, 0, 0, 0, 0, 0, 0, 0, 0, 1, 1, 2, 0, 0, 0, 0])
 }
@@ -89,7 +89,7 @@ fn an_image_beside_another_sheet() {
     // It names nothing of the sheet, so it is well made for each.
     assert_eq!(answer(PORT, &image, 17), 0);
     // It names locals and texts that the sheet of one Unit does not have.
-    assert_eq!(answer(&sheet, &port(), 95), 13);
+    assert_eq!(answer(&sheet, &port(), 98), 13);
 }
 
 /// One word of the image of samples/port.sheet changed.
@@ -129,21 +129,24 @@ fn one_word() {
         (73, 4, 13, "name 0: no such text"),
         (74, 1, 0, "name 0: with the mark"),
         (74, 2, 13, "name 0: the mark is 0 or 1"),
-        (79, 2, 13, "table 0: no such kind"),
-        (80, 1, 13, "table 0: its row lies past the cases"),
-        (81, 0, 0, "table 0: no row, and no run comes to 3"),
-        (81, 2, 13, "table 0: its second row lies past the cases"),
-        (82, 1, 13, "table 0: the default is its Switch"),
-        (82, 11, 0, "table 0: the default is the end, with one value there"),
-        (86, 11, 0, "table 1: the default is the end, and no run comes to 7"),
-        (87, 1, 13, "case: to its Switch, as in samples/loop.words"),
-        (87, 2, 0, "case: to the ranges, and no run comes to 3"),
-        (87, 8, 13, "case: to 8, where depths differ"),
-        (87, 12, 13, "case: past the end"),
-        (88, 2, 13, "case: no such constant"),
-        (93, 2, 13, "range: inclusive is 0 or 1"),
-        (94, 2, 13, "range: to its Switch"),
-        (94, 3, 0, "range: to the body of the case"),
+        (75, 4, 0, "name 0: the last text as namespace"),
+        (75, 5, 13, "name 0: no such namespace"),
+        (75, u32::MAX, 13, "name 0: no such namespace"),
+        (82, 2, 13, "table 0: no such kind"),
+        (83, 1, 13, "table 0: its row lies past the cases"),
+        (84, 0, 0, "table 0: no row, and no run comes to 3"),
+        (84, 2, 13, "table 0: its second row lies past the cases"),
+        (85, 1, 13, "table 0: the default is its Switch"),
+        (85, 11, 0, "table 0: the default is the end, with one value there"),
+        (89, 11, 0, "table 1: the default is the end, and no run comes to 7"),
+        (90, 1, 13, "case: to its Switch, as in samples/loop.words"),
+        (90, 2, 0, "case: to the ranges, and no run comes to 3"),
+        (90, 8, 13, "case: to 8, where depths differ"),
+        (90, 12, 13, "case: past the end"),
+        (91, 2, 13, "case: no such constant"),
+        (96, 2, 13, "range: inclusive is 0 or 1"),
+        (97, 2, 13, "range: to its Switch"),
+        (97, 3, 0, "range: to the body of the case"),
     ];
     for (at, word, number, what) in cases {
         let mut image = port();
@@ -154,7 +157,7 @@ fn one_word() {
 
 #[test]
 fn what_lower_makes_passes() {
-    let (mut image, mut scratch) = (vec![0; 95], vec![0; scratch_words(100, 100)]);
+    let (mut image, mut scratch) = (vec![0; 98], vec![0; scratch_words(100, 100)]);
     for sheet in [PORT.to_vec(), unit().0] {
         let image = lower(&sheet, &mut image, &mut scratch).unwrap();
         assert_eq!(check_image(&sheet, image, &mut scratch), Ok(()));

@@ -4,7 +4,8 @@
 //! sheets whose names contain one of NAME. A time is the least of the rounds, in processor time of the thread.
 //!
 //! Columns: ours and Rust are whole lowerings, from the sheet's bytes to the image in its buffer, with scratch cleared; alone is the
-//! Rust lowering of a tree that has been read before, without the image. Then ours by passes, in nanoseconds: the check; the count; the
+//! Rust lowering of a tree that has been read before, without the image; node and B say nanoseconds for each node and each byte of the
+//! sheet. Then ours by passes, in nanoseconds: the check; the count; the
 //! lowering into the scratch, which is cleared behind it; the image's sections. At the end, for the sheets of 1,000 to 131,072 nodes, by how
 //! much the cost of a node grows.
 
@@ -78,8 +79,9 @@ fn run(name: &str, sheet: &[u8], limit: Duration) -> [f64; 2] {
     let [ours, rust, alone, check, count, lowering] = times.map(|times| least(&times));
     let each = [ours, rust].map(|time| time / read.nodes as f64);
     println!(
-        "{:<20}{:>7}{:>8}{:>8}{:>13.0}{:>12.0}{:>12.0}{:>9.2}{:>9.2}{:>10.1}{:>8.1} |{:>11.0}{:>11.0}{:>13.0}{:>12.0}{:>6}",
+        "{:<22}{:>8}{:>7}{:>8}{:>8}{:>13.0}{:>12.0}{:>12.0}{:>9.2}{:>9.2}{:>10.1}{:>8.1}{:>8.2}{:>8.2} |{:>11.0}{:>11.0}{:>13.0}{:>12.0}{:>6}",
         name,
+        sheet.len(),
         read.nodes,
         lowered.marks.emitted,
         image.len(),
@@ -90,6 +92,8 @@ fn run(name: &str, sheet: &[u8], limit: Duration) -> [f64; 2] {
         ours / alone,
         each[0],
         each[1],
+        ours / sheet.len() as f64,
+        rust / sheet.len() as f64,
         check,
         count - check,
         lowering - count,
@@ -134,8 +138,9 @@ fn main() {
         }
     }
     println!(
-        "{:<20}{:>7}{:>8}{:>8}{:>13}{:>12}{:>12}{:>9}{:>9}{:>10}{:>8} |{:>11}{:>11}{:>13}{:>12}{:>6}",
+        "{:<22}{:>8}{:>7}{:>8}{:>8}{:>13}{:>12}{:>12}{:>9}{:>9}{:>10}{:>8}{:>8}{:>8} |{:>11}{:>11}{:>13}{:>12}{:>6}",
         "sheet",
+        "bytes",
         "nodes",
         "emitted",
         "words",
@@ -146,6 +151,8 @@ fn main() {
         "o/alone",
         "ours/node",
         "Rust/n",
+        "ours/B",
+        "Rust/B",
         "check",
         "count",
         "lowering",

@@ -78,6 +78,30 @@ fn hostile() -> Vec<(String, Vec<u8>)> {
             "names: 500 of 100000 bytes",
             sheets::long_names(500, 100_000),
         ),
+        (
+            "names: 20000, modules",
+            sheets::modules(&sheets::names(20_000)),
+        ),
+        (
+            "names: 4000 cut elsewhere, equal, 100000",
+            sheets::split_names(4_000, 100_000),
+        ),
+        (
+            "names: 4000 cut elsewhere, last byte, 200000",
+            sheets::split_names_last(4_000, 200_000),
+        ),
+        (
+            "names: 4000 namespaces equal elsewhere, 100000",
+            sheets::equal_spaces(4_000, 100_000, false),
+        ),
+        (
+            "names: 2000 below such namespaces, 100000",
+            sheets::equal_spaces(2_000, 100_000, true),
+        ),
+        (
+            "names: 20000 below a namespace of 1000",
+            sheets::one_space(20_000, 1_000),
+        ),
         ("constants: 131070", sheets::constants(131_070)),
         ("strings: 20000", sheets::strings(20_000)),
         ("operators: 43000", sheets::operators(43_000)),
@@ -120,7 +144,7 @@ fn named(list: Vec<(&str, Vec<u8>)>) -> Vec<(String, Vec<u8>)> {
 
 /// The sheets that are worst for an index of the pools by hash, each at two sizes.
 fn index(small: bool) -> Vec<(String, Vec<u8>)> {
-    let list: [(&str, Sized, [usize; 2]); 11] = [
+    let list: [(&str, Sized, [usize; 2]); 16] = [
         (
             "chains: no positions, other names",
             sheets::unplaced_chains,
@@ -151,6 +175,31 @@ fn index(small: bool) -> Vec<(String, Vec<u8>)> {
             "names: of 25,000 bytes, three times over",
             |count| sheets::long_names_again(count, 25_000, 3),
             [520, 1_040],
+        ),
+        (
+            "names: cut elsewhere, equal, 99,000 bytes",
+            |count| sheets::split_names(count, 99_000),
+            [1_000, 4_000],
+        ),
+        (
+            "names: cut elsewhere, last byte, 99,000 bytes",
+            |count| sheets::split_names_last(count, 2 * 99_000),
+            [1_000, 4_000],
+        ),
+        (
+            "names: namespaces of 99,000 bytes elsewhere",
+            |count| sheets::equal_spaces(count, 99_000, true),
+            [500, 2_000],
+        ),
+        (
+            "names: below a namespace of 1,000 bytes",
+            |count| sheets::one_space(count, 1_000),
+            [8_000, 32_000],
+        ),
+        (
+            "equal hashes: names below a namespace of 1,000",
+            |count| hashes::qualified_names(count, 1_000),
+            [4_000, 16_000],
         ),
         ("equal hashes: names", hashes::names, [4_000, 16_000]),
         ("equal hashes: strings", hashes::strings, [4_000, 16_000]),
@@ -254,6 +303,34 @@ fn greatest() -> Vec<(String, Vec<u8>)> {
             sheets::equal_places(STRING, texts / 2, bytes - texts, 2),
         ),
         ("names: 65535", sheets::names(65_535)),
+        (
+            "names: 32700 cut elsewhere, equal, 1 MiB",
+            sheets::split_names(32_700, bytes),
+        ),
+        (
+            "names: 32700 cut elsewhere, last byte, 1 MiB",
+            sheets::split_names_last(32_700, bytes),
+        ),
+        (
+            "names: 65000 namespaces equal elsewhere, 1 MiB",
+            sheets::equal_spaces(65_000, bytes - 65_001, false),
+        ),
+        (
+            "names: 32700 below such namespaces",
+            sheets::equal_spaces(32_700, bytes - 7 * 32_700, true),
+        ),
+        (
+            "names: 32766 of colons, equal, four times",
+            sheets::colons(32_766, bytes, 4),
+        ),
+        (
+            "names: 65000 below a namespace of 1000",
+            sheets::one_space(65_000, 1_000),
+        ),
+        (
+            "names: 65000 below a namespace of 700000",
+            sheets::one_space(65_000, 700_000),
+        ),
         ("constants: 131070", sheets::constants(131_070)),
         ("strings: 65535", sheets::strings(65_535)),
         ("operators: 65535", sheets::operators(65_535)),
@@ -271,6 +348,10 @@ fn greatest() -> Vec<(String, Vec<u8>)> {
         ("equal hashes: 65535 strings", hashes::strings(texts)),
         ("equal hashes: 65535 integers", hashes::numbers(65_535)),
         (
+            "equal hashes: 32000 below a namespace of 1000",
+            hashes::qualified_names(32_000, 1_000),
+        ),
+        (
             "equal hashes: 32000 names of 500000",
             hashes::long_names(32_000, 500_000),
         ),
@@ -284,20 +365,20 @@ fn program() -> Vec<(String, Vec<u8>)> {
     let list: Vec<(&str, Vec<u8>)> = vec![
         ("check: 64 cases of 47000", sheets::long_cases(47_000)),
         (
-            "check: 1000 texts of 27000 that overlap",
-            sheets::long_strings(1_000, 27_000),
+            "check: 850 texts of 27000 that overlap",
+            sheets::long_strings(850, 27_000),
         ),
         (
-            "count: 700 g(v), 6000 locals",
-            sheets::nested(0, 700, 6_000),
+            "count: 450 g(v), 8000 locals",
+            sheets::nested(0, 450, 8_000),
         ),
         (
-            "count: 480 other g(v), 8000 locals",
-            sheets::receivers(0, 480, 8_000),
+            "count: 380 other g(v), 8000 locals",
+            sheets::receivers(0, 380, 8_000),
         ),
         (
-            "count: 180 g(v), 5500 locals of 33000",
-            sheets::long_locals(180, 5_500, 33_000),
+            "count: 180 g(v), 5000 locals of 32000",
+            sheets::long_locals(180, 5_000, 32_000),
         ),
         (
             "recount: 61 ands, 90 g(v), 12000 locals",
@@ -332,6 +413,14 @@ fn program() -> Vec<(String, Vec<u8>)> {
             sheets::equal_places(STRING, 250, 45_000, 1),
         ),
         (
+            "names: 250 cut elsewhere, equal, 45000",
+            sheets::split_names(250, 45_000),
+        ),
+        (
+            "names: 250 namespaces equal elsewhere, 45000",
+            sheets::equal_spaces(250, 45_000, true),
+        ),
+        (
             "chains: 140 roots, 6000 locals of 20000",
             sheets::long_roots(140, 6_000, 20_000),
         ),
@@ -340,6 +429,14 @@ fn program() -> Vec<(String, Vec<u8>)> {
         (
             "equal hashes: 250 names of 45000",
             hashes::long_names(250, 45_000),
+        ),
+        (
+            "equal hashes: 250 below a namespace of 45000",
+            hashes::qualified_names(250, 45_000),
+        ),
+        (
+            "equal hashes: 744 names of 29600 in chains",
+            hashes::properties(4, 29_600),
         ),
         ("tables: 255 runs", sheets::tables(false, 64)),
     ];

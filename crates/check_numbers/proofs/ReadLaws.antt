@@ -9,26 +9,27 @@ use Rattle.words.specs.Word.{word}
 use Rattle.words.specs.Count.{all_below}
 use Rattle.words.proofs.CountLaws.{all-fails}
 use Rattle.sheet.specs.Sections.{text_count, locals_at}
-use Rattle.sheet.specs.Node.{kind, field_a, field_b, field_c, local_text_by}
+use Rattle.sheet.specs.Node.{kind, field_a, field_b, field_c, namespace_word, local_text_by}
 use Rattle.sheet.specs.Kinds.{property_kind, switch_kind, range_kind, ref_kind}
 use Rattle.check_numbers.specs.Numbers.{names_text, exist, number_by, number_among, local_by, local_ok}
 
 -- the tests of a node's numbers, where r says whether it names a text
-pub exist-read : (X K k a b c : ℕ) {r : Bool} → r ≡ names_text k
-    → ((not r || ltb a X)
+pub exist-read : (X K k a b c x : ℕ) {r : Bool} → r ≡ names_text k
+    → (leb x X
+    && (not r || ltb a X)
     && (not (eqb k property_kind) || (ltb b X && ltb c X))
     && (not (eqb k switch_kind) || leb c K)
     && (not (eqb k range_kind) || ltb b K)
     && (not (eqb k ref_kind) || ltb a K))
-    ≡ exist X K k a b c
+    ≡ exist X K k a b c x
 unfolding exist
-exist-read X K k a b c h = cc
+exist-read X K k a b c x h = cc
 
--- the test r of node n, on its kind and fields as they were read
-pub among-read : (s : List ℕ) (X K n : ℕ) {k a b c : ℕ} {r : Bool} → k ≡ kind s n → a ≡ field_a s n → b ≡ field_b s n → c ≡ field_c s n
-    → r ≡ exist X K k a b c → r ≡ number_among s X K n
+-- the test r of node n, on its kind, fields and namespace as they were read
+pub among-read : (s : List ℕ) (X K n : ℕ) {k a b c x : ℕ} {r : Bool} → k ≡ kind s n → a ≡ field_a s n → b ≡ field_b s n → c ≡ field_c s n
+    → x ≡ namespace_word s n → r ≡ exist X K k a b c x → r ≡ number_among s X K n
 unfolding number_by
-among-read s X K n hk ha hb hc h = cc
+among-read s X K n hk ha hb hc hx h = cc
 
 -- the test of the name of local l, as it is read
 pub local-read : (s : List ℕ) (l : ℕ) {x at : ℕ} → x ≡ text_count s → at ≡ locals_at s → ltb (word s (at + l)) x ≡ local_ok s l

@@ -4,17 +4,18 @@ use Rattle.words.specs.Word.{word}
 use Rattle.words.specs.Count.{all_below}
 use Rattle.sheet.specs.Kinds.{string_kind, variable_kind, property_kind, method_call_kind, fn_call_kind, switch_kind, range_kind, ref_kind}
 use Rattle.sheet.specs.Sections.{Words, node_count_by, text_count_by, local_count_by, text_count}
-use Rattle.sheet.specs.Node.{Fields, kind_at, a_at, b_at, c_at, field, field_a, local_text_by}
+use Rattle.sheet.specs.Node.{Fields, kind_at, a_at, b_at, c_at, namespace_at, field, field_a, local_text_by}
 
 -- the kinds whose a is a text: String, Variable, Property, MethodCall, FnCall
 unfoldable pub names_text : ℕ → Bool
 names_text k = eqb k string_kind || eqb k variable_kind || eqb k property_kind || eqb k method_call_kind || eqb k fn_call_kind
 
--- of a node of kind k, among X texts and K blocks: its name, a Property's getter and setter, a Switch's default block plus 1, a Range's
--- block and a Ref's block exist
-unfoldable pub exist : ℕ → ℕ → ℕ → ℕ → ℕ → ℕ → Bool
-exist X K k a b c =
-    (not (names_text k) || ltb a X)
+-- of a node of kind k with fields a, b and c and the namespace's word x, among X texts and K blocks: the namespace's text plus 1, the
+-- name, a Property's getter and setter, a Switch's default block plus 1, a Range's block and a Ref's block exist
+unfoldable pub exist : ℕ → ℕ → ℕ → ℕ → ℕ → ℕ → ℕ → Bool
+exist X K k a b c x =
+    leb x X
+    && (not (names_text k) || ltb a X)
     && (not (eqb k property_kind) || (ltb b X && ltb c X))
     && (not (eqb k switch_kind) || leb c K)
     && (not (eqb k range_kind) || ltb b K)
@@ -22,7 +23,7 @@ exist X K k a b c =
 
 -- the numbers in node n exist, among X texts and K blocks
 unfoldable pub number_by : Fields → ℕ → ℕ → ℕ → Bool
-number_by g X K n = let v = g n in exist X K (v kind_at) (v a_at) (v b_at) (v c_at)
+number_by g X K n = let v = g n in exist X K (v kind_at) (v a_at) (v b_at) (v c_at) (v namespace_at)
 
 -- the name of local l exists
 unfoldable pub local_by : Words → ℕ → Bool

@@ -17,11 +17,12 @@ fn names_text(k: u32) -> bool
 
 // The numbers of node `v` exist, among `x` texts and `blocks` blocks.
 fn exist(x: u32, blocks: u32, v: Node) -> bool
-    ensures { result ≡ numbers.exist x blocks v.kind v.a v.b v.c }
+    ensures { result ≡ numbers.exist x blocks v.kind v.a v.b v.c v.namespace }
 {
     let k = v.kind;
     let named = names_text(k);
-    ((!named) | (v.a < x))
+    (v.namespace <= x)
+        & ((!named) | (v.a < x))
         & ((k != PROPERTY) | ((v.b < x) & (v.c < x)))
         & ((k != SWITCH) | (v.c <= blocks))
         & ((k != RANGE) | (v.b < blocks))

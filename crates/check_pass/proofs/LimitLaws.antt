@@ -1,10 +1,10 @@
--- Laws of the table of limits: a node within its kind's row is within the kind's bounds, the numbers in it exist, and its kind is
--- not refused.
+-- Laws of the table of limits: a node within its kind's row is within the kind's bounds, the numbers in it exist if its namespace does,
+-- and its kind is not refused.
 use Prim.Native.Nat.{ℕ, suc, ◌+◌, ◌*◌, ◌<◌, ◌≤◌}
 use mathlib.Core.Path.{◌≡◌, refl, ap, sym, subst}
 use mathlib.Core.Bool.{Bool, true, false, ◌&&◌}
 use native.Mathlib.Omega.{arith}
-use lib.Dec.{ltb, eqb}
+use lib.Dec.{leb, ltb, eqb}
 use mathlib.Core.List.{List, [], ◌∷◌}
 use lib.ListN.{get_or, set}
 use Rattle.check_shape.specs.Rows.{numbers}
@@ -81,12 +81,16 @@ each_at {P} {k} {n} (p ▸ more) j l h = by (each_at more) (eqb k j) refl
         let other = eqb-false k j e in
         later j (omega arith) h
 
--- among x texts and K blocks, each a word
-module _ (x K : ℕ) (texts : x ≤ any) (blocks : K ≤ any) where
+-- among x texts and K blocks, each a word; the namespace's word is q
+module _ (x K q : ℕ) (texts : x ≤ any) (blocks : K ≤ any) (there : leb q x ≡ true) where
   pub record Right (k m a b c : ℕ) : Type 0 where
     pub bounds : within_bounds k m a b c ≡ true
-    pub numbers : exist x K k a b c ≡ true
+    pub numbers : exist x K k a b c q ≡ true
     pub taken : refused_kind k ≡ false
+
+  -- the namespace exists, and nothing else is named
+  alone : (leb q x && true && true && true && true && true) ≡ true
+  alone = ap (λ t. t && true && true && true && true && true) there
 
   -- a node of kind k that is within its row
   abbrev By : ℕ → Type 0
@@ -110,34 +114,34 @@ module _ (x K : ℕ) (texts : x ≤ any) (blocks : K ≤ any) where
       (subst (λ y. b ≤ y) e.3 r.most-b) (subst (λ y. c ≤ y) e.4 r.most-c)
 
   right : (k l u f g h : ℕ) → Bounds k l u f g h → 1 ≤ k → k ≤ 25 → (m a b c : ℕ) → l ≤ m → m ≤ u → a ≤ f → b ≤ g → c ≤ h
-      → exist x K k a b c ≡ true → refused_kind k ≡ false → Right k m a b c
-  right k l u f g h e p q m a b c hl hu hf hg hh there not = record {
+      → exist x K k a b c q ≡ true → refused_kind k ≡ false → Right k m a b c
+  right k l u f g h e p r m a b c hl hu hf hg hh names not = record {
     bounds =
-        bounds-true k m a b c p q (subst (λ y. y ≤ m) (sym e.0) hl) (subst (λ y. m ≤ y) (sym e.1) hu)
+        bounds-true k m a b c p r (subst (λ y. y ≤ m) (sym e.0) hl) (subst (λ y. m ≤ y) (sym e.1) hu)
         (subst (λ y. a ≤ y) (sym e.2) hf) (subst (λ y. b ≤ y) (sym e.3) hg) (subst (λ y. c ≤ y) (sym e.4) hh);
-    numbers = there;
+    numbers = names;
     taken = not;
   }
 
   -- a row that is the kind's bounds
   plain_row : (k : ℕ) → 1 ≤ k → k ≤ 25 → Entries k (bound k 0) (bound k 1) (bound k 2) (bound k 3) (bound k 4)
-      → ((a b c : ℕ) → exist x K k a b c ≡ true) → refused_kind k ≡ false → By k
-  plain_row k p q e there not =
+      → ((a b c : ℕ) → exist x K k a b c q ≡ true) → refused_kind k ≡ false → By k
+  plain_row k p l e names not =
       row_by k (bound k 0) (bound k 1) (bound k 2) (bound k 3) (bound k 4) e
-      (λ m a b c l u f g h.
-      right k (bound k 0) (bound k 1) (bound k 2) (bound k 3) (bound k 4) (refl, refl, refl, refl, refl) p q m a b c l u f g h
-      (there a b c) not)
+      (λ m a b c d u f g h.
+      right k (bound k 0) (bound k 1) (bound k 2) (bound k 3) (bound k 4) (refl, refl, refl, refl, refl) p l m a b c d u f g h
+      (names a b c) not)
 
   empty-row : (k : ℕ) → Entries k 1 0 0 0 0 → By k
   empty-row k e = row_by k 1 0 0 0 0 e (λ m a b c l u f g h. absurd (omega arith))
 
   -- String and Variable
   text-row : (k : ℕ) → 1 ≤ k → k ≤ 25 → Entries k (none x) 0 (last x) 0 0 → Bounds k 0 0 any 0 0
-      → ((a b c : ℕ) → ltb a x ≡ true → exist x K k a b c ≡ true) → refused_kind k ≡ false → By k
-  text-row k p q e d there not =
+      → ((a b c : ℕ) → ltb a x ≡ true → exist x K k a b c q ≡ true) → refused_kind k ≡ false → By k
+  text-row k p r e d names not =
       row_by k (none x) 0 (last x) 0 0 e
       (λ m a b c l u f g h.
-      right k 0 0 any 0 0 d p q m a b c (omega arith) u (omega arith) g h (there a b c (lt-ltb a x (omega arith))) not)
+      right k 0 0 any 0 0 d p r m a b c (omega arith) u (omega arith) g h (names a b c (lt-ltb a x (omega arith))) not)
 
   property-row : By 11
   unfolding bound exist names_text refused_kind
@@ -147,17 +151,17 @@ module _ (x K : ℕ) (texts : x ≤ any) (blocks : K ≤ any) where
       right 11 0 0 any any any (refl, refl, refl, refl, refl) (omega arith) (omega arith) m a b c (omega arith) u (omega arith)
       (omega arith) (omega arith)
       (ap (λ t. t && true && true && true)
-      (both (lt-ltb a x (omega arith)) (both (lt-ltb b x (omega arith)) (lt-ltb c x (omega arith))))) refl)
+      (both (both there (lt-ltb a x (omega arith))) (both (lt-ltb b x (omega arith)) (lt-ltb c x (omega arith))))) refl)
 
   -- MethodCall and FnCall
   call-row : (k g₁ h₁ : ℕ) → 1 ≤ k → k ≤ 25 → Entries k (none x) (any_of x) (last x) g₁ h₁ → Bounds k 0 any any g₁ h₁
-      → ((a b c : ℕ) → ltb a x ≡ true → exist x K k a b c ≡ true) → refused_kind k ≡ false → By k
-  call-row k g₁ h₁ p q e d there not =
+      → ((a b c : ℕ) → ltb a x ≡ true → exist x K k a b c q ≡ true) → refused_kind k ≡ false → By k
+  call-row k g₁ h₁ p r e d names not =
       row_by k (none x) (any_of x) (last x) g₁ h₁ e
       (λ m a b c l u f g h.
       let some = some_of x m l u in
-      right k 0 any any g₁ h₁ d p q m a b c (omega arith) some.0 (omega arith) g h
-      (there a b c (lt-ltb a x (omega (arith, some.1)))) not)
+      right k 0 any any g₁ h₁ d p r m a b c (omega arith) some.0 (omega arith) g h
+      (names a b c (lt-ltb a x (omega (arith, some.1)))) not)
 
   switch-row : By 19
   unfolding bound exist names_text refused_kind
@@ -165,7 +169,7 @@ module _ (x K : ℕ) (texts : x ≤ any) (blocks : K ≤ any) where
       row_by 19 1 any any any K (refl, refl, refl, refl, refl)
       (λ m a b c l u f g h.
       right 19 1 any any any any (refl, refl, refl, refl, refl) (omega arith) (omega arith) m a b c l u f g (omega arith)
-      (ap (λ t. t && true && true) (le-leb c K h)) refl)
+      (ap (λ t. t && true && true) (both (ap (λ t. t && true && true) there) (le-leb c K h))) refl)
 
   range-row : By 21
   unfolding bound exist names_text refused_kind
@@ -173,7 +177,7 @@ module _ (x K : ℕ) (texts : x ≤ any) (blocks : K ≤ any) where
       row_by 21 (2 + none K) 2 1 (last K) 0 (refl, refl, refl, refl, refl)
       (λ m a b c l u f g h.
       right 21 2 2 1 any 0 (refl, refl, refl, refl, refl) (omega arith) (omega arith) m a b c (omega arith) u f (omega arith) h
-      (ap (λ t. t && true) (lt-ltb b K (omega arith))) refl)
+      (ap (λ t. t && true) (both (ap (λ t. t && true && true && true) there) (lt-ltb b K (omega arith)))) refl)
 
   ref-row : By 22
   unfolding bound exist names_text refused_kind
@@ -181,37 +185,37 @@ module _ (x K : ℕ) (texts : x ≤ any) (blocks : K ≤ any) where
       row_by 22 (none K) 0 (last K) 0 0 (refl, refl, refl, refl, refl)
       (λ m a b c l u f g h.
       right 22 0 0 any 0 0 (refl, refl, refl, refl, refl) (omega arith) (omega arith) m a b c (omega arith) u (omega arith) g h
-      (lt-ltb a K (omega arith)) refl)
+      (both (ap (λ t. t && true && true && true && true) there) (lt-ltb a K (omega arith))) refl)
 
   -- every kind has its row
   rows : Each By 0 26
   unfolding bound exist names_text refused_kind
   rows =
       empty-row 0 (refl, refl, refl, refl, refl)
-      ▸ plain_row 1 (omega arith) (omega arith) (refl, refl, refl, refl, refl) (λ a b c. refl) refl
-      ▸ plain_row 2 (omega arith) (omega arith) (refl, refl, refl, refl, refl) (λ a b c. refl) refl
-      ▸ plain_row 3 (omega arith) (omega arith) (refl, refl, refl, refl, refl) (λ a b c. refl) refl
-      ▸ plain_row 4 (omega arith) (omega arith) (refl, refl, refl, refl, refl) (λ a b c. refl) refl
-      ▸ plain_row 5 (omega arith) (omega arith) (refl, refl, refl, refl, refl) (λ a b c. refl) refl
+      ▸ plain_row 1 (omega arith) (omega arith) (refl, refl, refl, refl, refl) (λ a b c. alone) refl
+      ▸ plain_row 2 (omega arith) (omega arith) (refl, refl, refl, refl, refl) (λ a b c. alone) refl
+      ▸ plain_row 3 (omega arith) (omega arith) (refl, refl, refl, refl, refl) (λ a b c. alone) refl
+      ▸ plain_row 4 (omega arith) (omega arith) (refl, refl, refl, refl, refl) (λ a b c. alone) refl
+      ▸ plain_row 5 (omega arith) (omega arith) (refl, refl, refl, refl, refl) (λ a b c. alone) refl
       ▸ text-row 6 (omega arith) (omega arith) (refl, refl, refl, refl, refl) (refl, refl, refl, refl, refl)
-      (λ a b c h. ap (λ t. t && true && true && true && true) h) refl
-      ▸ plain_row 7 (omega arith) (omega arith) (refl, refl, refl, refl, refl) (λ a b c. refl) refl
-      ▸ plain_row 8 (omega arith) (omega arith) (refl, refl, refl, refl, refl) (λ a b c. refl) refl
+      (λ a b c h. ap (λ t. t && true && true && true && true) (both there h)) refl
+      ▸ plain_row 7 (omega arith) (omega arith) (refl, refl, refl, refl, refl) (λ a b c. alone) refl
+      ▸ plain_row 8 (omega arith) (omega arith) (refl, refl, refl, refl, refl) (λ a b c. alone) refl
       ▸ text-row 9 (omega arith) (omega arith) (refl, refl, refl, refl, refl) (refl, refl, refl, refl, refl)
-      (λ a b c h. ap (λ t. t && true && true && true && true) h) refl
-      ▸ plain_row 10 (omega arith) (omega arith) (refl, refl, refl, refl, refl) (λ a b c. refl) refl
+      (λ a b c h. ap (λ t. t && true && true && true && true) (both there h)) refl
+      ▸ plain_row 10 (omega arith) (omega arith) (refl, refl, refl, refl, refl) (λ a b c. alone) refl
       ▸ property-row
       ▸ call-row 12 0 0 (omega arith) (omega arith) (refl, refl, refl, refl, refl) (refl, refl, refl, refl, refl)
-      (λ a b c h. ap (λ t. t && true && true && true && true) h) refl
+      (λ a b c h. ap (λ t. t && true && true && true && true) (both there h)) refl
       ▸ call-row 13 1 65535 (omega arith) (omega arith) (refl, refl, refl, refl, refl) (refl, refl, refl, refl, refl)
-      (λ a b c h. ap (λ t. t && true && true && true && true) h) refl
-      ▸ plain_row 14 (omega arith) (omega arith) (refl, refl, refl, refl, refl) (λ a b c. refl) refl
-      ▸ plain_row 15 (omega arith) (omega arith) (refl, refl, refl, refl, refl) (λ a b c. refl) refl
-      ▸ plain_row 16 (omega arith) (omega arith) (refl, refl, refl, refl, refl) (λ a b c. refl) refl
-      ▸ plain_row 17 (omega arith) (omega arith) (refl, refl, refl, refl, refl) (λ a b c. refl) refl
-      ▸ plain_row 18 (omega arith) (omega arith) (refl, refl, refl, refl, refl) (λ a b c. refl) refl
+      (λ a b c h. ap (λ t. t && true && true && true && true) (both there h)) refl
+      ▸ plain_row 14 (omega arith) (omega arith) (refl, refl, refl, refl, refl) (λ a b c. alone) refl
+      ▸ plain_row 15 (omega arith) (omega arith) (refl, refl, refl, refl, refl) (λ a b c. alone) refl
+      ▸ plain_row 16 (omega arith) (omega arith) (refl, refl, refl, refl, refl) (λ a b c. alone) refl
+      ▸ plain_row 17 (omega arith) (omega arith) (refl, refl, refl, refl, refl) (λ a b c. alone) refl
+      ▸ plain_row 18 (omega arith) (omega arith) (refl, refl, refl, refl, refl) (λ a b c. alone) refl
       ▸ switch-row
-      ▸ plain_row 20 (omega arith) (omega arith) (refl, refl, refl, refl, refl) (λ a b c. refl) refl
+      ▸ plain_row 20 (omega arith) (omega arith) (refl, refl, refl, refl, refl) (λ a b c. alone) refl
       ▸ range-row
       ▸ ref-row
       ▸ empty-row 23 (refl, refl, refl, refl, refl)

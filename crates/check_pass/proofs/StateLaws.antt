@@ -10,7 +10,7 @@ use native.Mathlib.Decide.{ℕ_discrete}
 use native.Mathlib.Omega.{arith}
 use lib.Dec.{leb, eqb}
 use lib.ListN.{length, set}
-use borrow.Author.Tests.{leb-true, eqb-true}
+use borrow.Author.Tests.{le-leb, leb-true, eqb-true}
 use mir.Syntax.{w32}
 use mir.Val.{Fits}
 use Rattle.sheet.specs.Limits.{header_words, node_words}
@@ -20,7 +20,7 @@ use Rattle.check_shape.specs.Kinds.{child_kind}
 use Rattle.check_shape.specs.Shape.{own_rule, child_words, self_ok}
 use Rattle.check_shape.proofs.ShapeLaws.{self-end, self-some}
 use Rattle.check_pass.specs.Fine.{own, Passed}
-use Rattle.check_pass.specs.Limits.{limits, Row, Called, Own}
+use Rattle.check_pass.specs.Limits.{limits, Row, Called, Spaced, Own}
 use Rattle.check_pass.specs.Words.{NodeIs}
 use Rattle.check_pass.proofs.LimitLaws.{Right, row-right}
 use Rattle.check_pass.proofs.WordLaws.{words-fit, words-self, words-own, rule-child}
@@ -36,12 +36,14 @@ module _ {s : List ℕ} {total K B : ℕ} {t : List ℕ} (S : Sizes s total K B 
   sizes-small : node_count s < 2 ^ 32
   sizes-small = subst (λ x. x < 2 ^ 32) S.total-is S.small
 
-  sizes-row : {k m a b c : ℕ} → Row t k m a b c → Right (text_count s) K S.texts-few S.blocks-few k m a b c
-  sizes-row {k} {m} {a} {b} {c} r =
-      row-right (text_count s) K S.texts-few S.blocks-few k m a b c (subst (λ x. Row x k m a b c) S.table_is r)
+  sizes-row : {k m a b c x y : ℕ} (f : Spaced s k x y) → Row t k m a b c
+      → Right (text_count s) K x S.texts-few S.blocks-few (le-leb x (text_count s) f.there) k m a b c
+  sizes-row {k} {m} {a} {b} {c} {x} f r =
+      row-right (text_count s) K x S.texts-few S.blocks-few (le-leb x (text_count s) f.there) k m a b c
+      (subst (λ t. Row t k m a b c) S.table_is r)
 
   -- the sheet has each of its nodes
-  pub sizes-room : (n : ℕ) → n < total → 24 * n + 39 < length s
+  pub sizes-room : (n : ℕ) → n < total → 32 * n + 47 < length s
   sizes-room n h = omega (arith, S.room)
 
 module _ {s : List ℕ} {total K B : ℕ} {t : List ℕ} {fs : List Open} {f : Open} {n d : ℕ} (S : State s total K B t fs f n d) where
@@ -49,8 +51,8 @@ module _ {s : List ℕ} {total K B : ℕ} {t : List ℕ} {fs : List Open} {f : O
   state-inside = subst (λ x. x ≤ node_count s) (sym S.passing.frame.end_is) S.passing.frame.inside
 
   -- the next node is a child of the innermost one, and right by itself
-  module _ {k₁ w m₁ a b c : ℕ} (v : NodeIs s n k₁ w m₁ a b c) (fit : child_words f.kind K B f.end f.passed n k₁ w ≡ true)
-      (o : Own t s k₁ m₁ a b c) where
+  module _ {k₁ w m₁ a b c x y : ℕ} (v : NodeIs s n k₁ w m₁ a b c x y) (fit : child_words f.kind K B f.end f.passed n k₁ w ≡ true)
+      (o : Own t s k₁ m₁ a b c x y) where
     fit-ends : (1 ≤ w) × (n + w ≤ f.end)
     unfolding child_words
     fit-ends =
@@ -68,13 +70,13 @@ module _ {s : List ℕ} {total K B : ℕ} {t : List ℕ} {fs : List Open} {f : O
     next-self =
         let h = state-inside in
         let g = fit-ends in
-        words-self s n v (node_count s) (sizes-row S.sizes o.row).bounds (rule-child k₁ m₁ a b no-switch o.char) g.0
+        words-self s n v o.spaced (node_count s) (sizes-row S.sizes o.spaced o.row).bounds (rule-child k₁ m₁ a b no-switch o.char) g.0
         (omega (arith, g.1))
 
     next-own : own s n ≡ true
     next-own =
-        let r = sizes-row S.sizes o.row in
-        words-own s n v (text_count s) K refl S.sizes.blocks-are r.numbers r.taken o.called
+        let r = sizes-row S.sizes o.spaced o.row in
+        words-own s n v o.spaced K S.sizes.blocks-are r.numbers r.taken o.called
 
     pub end_fits : Fits w32 (n + w)
     end_fits = let h = state-inside in omega (arith, fit-ends.1, sizes-small S.sizes)
@@ -140,7 +142,7 @@ state-all {s} {fs = fs} {f = f} {n = n} {d = d} S e h a = by (ℕ_discrete d 0)
         state-end (state-closed S c) e refl (a.each 0 (omega arith) (omega arith))
 
 -- node 0 is open, and node 1 is next
-pub state-start : {s : List ℕ} {total K B : ℕ} {t : List ℕ} → Sizes s total K B t → {k w m a b c : ℕ} → Root s k w m a b c
+pub state-start : {s : List ℕ} {total K B : ℕ} {t : List ℕ} → Sizes s total K B t → {k w m a b c x y : ℕ} → Root s k w m a b c x y
     → (fs : List Open) → length fs ≡ 62 → State s total K B t fs (record { kind = k; count = m; passed = 0; end = w }) 1 0
 state-start {s} S {k} {w} {m} R fs lf = record {
   sizes = S;
@@ -150,25 +152,28 @@ state-start {s} S {k} {w} {m} R fs lf = record {
 }
 
 -- there is a node
-pub root_some : {s : List ℕ} {total K B : ℕ} {t : List ℕ} → Sizes s total K B t → {k w m a b c : ℕ} → Root s k w m a b c → 1 ≤ total
+pub root_some : {s : List ℕ} {total K B : ℕ} {t : List ℕ} → Sizes s total K B t → {k w m a b c x y : ℕ} → Root s k w m a b c x y
+    → 1 ≤ total
 root_some {s} S R =
     omega (arith, S.total-is, self-end s 0 (node_count s) R.self, self-some s 0 (node_count s) R.self)
 
 -- node 0 is right by itself, by the tests of its words
-pub root-right : {s : List ℕ} {total K B : ℕ} {t : List ℕ} → Sizes s total K B t → {k w m a b c : ℕ} → NodeIs s 0 k w m a b c
-    → {r u f : Bool} → (total ≡ 0 → ⊥) → (r ≡ true → Row t k m a b c) → u ≡ own_rule k m a b → (f ≡ true → Called s k m a)
-    → (eqb w total && r && u && f) ≡ true → Root s k w m a b c
-root-right {s} {total} {K} S {k} {w} {m} {a} {b} {c} v {r} {u} {f} z row rule called h =
-    let three = (and-eq-true_iff (eqb w total && r && u) f).0 h in
+pub root-right : {s : List ℕ} {total K B : ℕ} {t : List ℕ} → Sizes s total K B t → {k w m a b c x y : ℕ} → NodeIs s 0 k w m a b c x y
+    → {r u f g : Bool} → (total ≡ 0 → ⊥) → (r ≡ true → Row t k m a b c) → u ≡ own_rule k m a b → (f ≡ true → Called s k m a)
+    → (g ≡ true → Spaced s k x y) → (eqb w total && r && u && f && g) ≡ true → Root s k w m a b c x y
+root-right {s} {total} {K} S {k} {w} {m} {a} {b} {c} v {r} {u} {f} {g} z row rule called spaced h =
+    let four = (and-eq-true_iff (eqb w total && r && u && f) g).0 h in
+    let three = (and-eq-true_iff (eqb w total && r && u) f).0 four.0 in
     let two = (and-eq-true_iff (eqb w total && r) u).0 three.0 in
     let one = (and-eq-true_iff (eqb w total) r).0 two.0 in
     let q = eqb-true w total one.0 in
-    let g = sizes-row S (row one.1) in
+    let space = spaced four.1 in
+    let own = sizes-row S space (row one.1) in
     let t₁ = S.total-is in
     record {
       node = v;
-      self = words-self s 0 v (node_count s) g.bounds (sym rule ∙ two.1) (omega arith) (omega arith);
-      owns = words-own s 0 v (text_count s) K refl S.blocks-are g.numbers g.taken (called three.1);
+      self = words-self s 0 v space (node_count s) own.bounds (sym rule ∙ two.1) (omega arith) (omega arith);
+      owns = words-own s 0 v space K S.blocks-are own.numbers own.taken (called three.1);
     }
 
 pub sizes-of : {s : List ℕ} {total K B x : ℕ} {t : List ℕ} → total ≡ node_count s → suc total ≤ 2 ^ 32 → K ≡ field_a s 0

@@ -1,10 +1,12 @@
 -- The bounds of each kind in a sheet of x texts and K blocks, and what a node's words show of it by themselves.
 use Rattle.std.specs.Prelude.{ℕ, ◌+◌, ◌*◌, ◌-◌, ◌≤◌, ◌≡◌, true, false, ◌&&◌, List, [], ◌∷◌, ltb, eqb, get_or}
 use Rattle.text.specs.Keyword.{is_curry}
+use Rattle.sheet.specs.Sections.{text_count}
 use Rattle.sheet.specs.Text.{text}
 use Rattle.sheet.specs.Kinds.{char_kind, fn_call_kind, last_kind}
 use Rattle.check_shape.specs.declared.Bounds.{Bounds}
 use Rattle.check_shape.specs.Kinds.{bound_words, most_count, most_a, most_b, most_c, any, scalar}
+use Rattle.check_shape.specs.Shape.{space_rule}
 
 -- 1 where there are none
 abbrev pub none : ℕ → ℕ
@@ -77,8 +79,14 @@ pub record Row (t : List ℕ) (k m a b c : ℕ) : Type 0 where
 abbrev pub Called : List ℕ → ℕ → ℕ → ℕ → Type 0
 Called s k m a = (eqb k fn_call_kind && ltb 1 m) ≡ true → is_curry (text s a) ≡ false
 
+-- the namespace's word and the word of its position may be x and y, where the kind is k
+pub record Spaced (s : List ℕ) (k x y : ℕ) : Type 0 where
+  pub rule : space_rule k x y ≡ true
+  pub there : x ≤ text_count s
+
 -- what the words of a node other than the root show by themselves
-pub record Own (t s : List ℕ) (k m a b c : ℕ) : Type 0 where
+pub record Own (t s : List ℕ) (k m a b c x y : ℕ) : Type 0 where
   pub row : Row t k m a b c
   pub char : k ≡ char_kind → scalar a ≡ true
   pub called : Called s k m a
+  pub spaced : Spaced s k x y

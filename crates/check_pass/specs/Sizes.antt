@@ -21,7 +21,7 @@ pub record Sizes (s : List ℕ) (total K B : ℕ) (t : List ℕ) : Type 0 where
   pub room : header_words + node_words * total ≤ length s / 4
 
 -- node 0, which was read, is right by itself
-pub record Root (s : List ℕ) (k w m a b c : ℕ) : Type 0 where
-  pub node : NodeIs s 0 k w m a b c
+pub record Root (s : List ℕ) (k w m a b c x y : ℕ) : Type 0 where
+  pub node : NodeIs s 0 k w m a b c x y
   pub self : self_ok s 0 (node_count s) ≡ true
   pub owns : own s 0 ≡ true

@@ -15,7 +15,7 @@ ghost use Rattle.check_pass.specs.Sizes.{Sizes, Root};
 ghost use Rattle.check_pass.specs.Levels.{done, AllDone, Closed};
 ghost use Rattle.std.specs.Option.{MatchOption};
 
-use check_shape::{ANY, BOUNDS, Bounds, child_kind, fits, own_rule, root_ok, scalar};
+use check_shape::{ANY, BOUNDS, Bounds, child_kind, fits, own_rule, root_ok, scalar, space_rule};
 use sheet::kinds::{
     BLOCK, CHAR, DYNAMIC_CONSTANT, FN_CALL, LAST_KIND, MAP, METHOD_CALL, PROPERTY, RANGE, REF,
     STRING, SWITCH, VARIABLE,
@@ -35,11 +35,12 @@ const EMPTY: Bounds = Bounds {
 };
 
 // Node `n`, which the string has.
-// Kept: no `Node::read`, which tests the bound at each of the six words. It was tried and proves, and the check of a sheet takes 1.2 to
+// Kept: no `Node::read`, which tests the bound at each of the eight words. It was tried and proves, and the check of a sheet takes 1.2 to
 // 1.3 times as long; it may not get slower.
 fn node(sheet: &[u8], n: u32) -> Node
-    requires { 24 * n + 39 < length sheet.now }
-    ensures { words.NodeIs sheet.now n result.kind result.span result.count result.a result.b result.c }
+    requires { 32 * n + 47 < length sheet.now }
+    ensures { words.NodeIs sheet.now n result.kind result.span result.count result.a result.b result.c
+        result.namespace result.namespace_pos }
 {
     let at = HEADER_WORDS + NODE_WORDS * (n as usize);
     Node {
@@ -49,6 +50,8 @@ fn node(sheet: &[u8], n: u32) -> Node
         a: whole(sheet, at + 3),
         b: whole(sheet, at + 4),
         c: whole(sheet, at + 5),
+        namespace: whole(sheet, at + 6),
+        namespace_pos: whole(sheet, at + 7),
     }
 }
 
@@ -174,10 +177,25 @@ fn call_ok(sheet: &[u8], v: Node) -> bool
     true
 }
 
+// Node `v` has no namespace, or it may have one, whose text exists.
+// Kept: the two words are asked first, and together. Tried: without that the check of a sheet takes 1.1 to 1.5 times as long; with the
+// other tests in a function that is not drawn into the loop over the nodes it takes up to 1.1 times as long.
+fn space_ok(sheet: &[u8], v: Node) -> bool
+    ensures { result ≡ true → limit.Spaced sheet.now v.kind v.namespace v.namespace_pos }
+{
+    if (v.namespace == 0) & (v.namespace_pos == 0) {
+        return true;
+    }
+    space_rule(v) & (v.namespace <= text_count(sheet))
+}
+
 // What the words of a node other than the root show by themselves.
 fn own_ok(t: &[Bounds; 26], sheet: &[u8], v: Node) -> bool
-    ensures { result ≡ true → limit.Own (numbers t.now) sheet.now v.kind v.count v.a v.b v.c }
+    ensures { result ≡ true → limit.Own (numbers t.now) sheet.now v.kind v.count v.a v.b v.c v.namespace v.namespace_pos }
 {
+    if !space_ok(sheet, v) {
+        return false;
+    }
     if row_ok(t, v) {
         if v.kind == CHAR {
             return scalar(v.a);
@@ -290,7 +308,7 @@ fn settled(around: &[Open; 62], at: Level, n: u32) -> Option<Level>
 #[inline(never)]
 fn walk(sheet: &[u8], t: &[Bounds; 26], total: u32, root: Node) -> bool
     requires sizes { Sizes sheet.now total root.a root.b (numbers t.now) }
-    requires root { Root sheet.now root.kind root.span root.count root.a root.b root.c }
+    requires root { Root sheet.now root.kind root.span root.count root.a root.b root.c root.namespace root.namespace_pos }
     ensures { result ≡ true → fine.Passed sheet.now }
 {
     let top = opened(root, root.span);
@@ -339,7 +357,7 @@ fn pass(sheet: &[u8]) -> bool
     let r = node(sheet, 0);
     let table = limits(text_count(sheet), r.a);
     let row = row_ok(&table, r);
-    if (r.span == total) & row & own_rule(r) & call_ok(sheet, r) {
+    if (r.span == total) & row & own_rule(r) & call_ok(sheet, r) & space_ok(sheet, r) {
         return walk(sheet, &table, total, r);
     }
     false

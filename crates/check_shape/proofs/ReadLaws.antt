@@ -10,13 +10,13 @@ use mir.Val.{Fits}
 use lib.Dec.{leb, eqb}
 use Rattle.std.proofs.Math.Bool.{and_assoc}
 use Rattle.sheet.specs.Sections.{node_count}
-use Rattle.sheet.specs.Node.{kind, span, count, field_a, field_b, field_c}
+use Rattle.sheet.specs.Node.{kind, span, count, field_a, field_b, field_c, namespace_word, namespace_pos}
 use Rattle.sheet.specs.Kinds.{switch_kind, last_kind}
 use Rattle.check_shape.specs.Kinds.{least_count, most_count, most_a, most_b, most_c, bound, expression, child_kind}
 use Rattle.check_shape.specs.declared.Bounds.{Bounds}
 use Rattle.check_shape.specs.Rows.{holds}
 use Rattle.check_shape.specs.Shape.{within_bounds_by, self_by, child_words, root_by}
-use Rattle.check_shape.specs.Shape.{within_bounds, own_rule, child_fits, tiles, self_fits, self_ok, node_ok, root_ok}
+use Rattle.check_shape.specs.Shape.{within_bounds, own_rule, space_rule, child_fits, tiles, self_fits, self_ok, node_ok, root_ok}
 use Rattle.check_shape.proofs.ShapeLaws.{fits-end, self-end, self-some, node-self, node-fails, tiles_more, tiles-fails, tiles-done}
 
 -- what is no greater than a word is a word
@@ -37,13 +37,14 @@ bounds-read k m a b c {t} hl hu hx hy hz h =
     ∙ (joined (leb 1 k && leb k last_kind) (leb t.least m) (leb m t.most) (leb a t.a) (leb b t.b) (leb c t.c)
     ∙ cc)
 
--- the tests of a node's kind, span and fields
-pub own_read : (n k w m a b c total : ℕ) {x y z : Bool} → x ≡ within_bounds k m a b c → y ≡ own_rule k m a b
-    → z ≡ (leb 1 w && leb (n + w) total) → (x && y && z) ≡ self_fits n k w m a b c total
+-- the tests of a node's kind, span, fields and namespace
+pub own_read : (n k w m a b c x y total : ℕ) {p q r e : Bool} → p ≡ within_bounds k m a b c → q ≡ own_rule k m a b
+    → r ≡ space_rule k x y → e ≡ (leb 1 w && leb (n + w) total) → (p && q && r && e) ≡ self_fits n k w m a b c x y total
 unfolding self_by
-own_read n k w m a b c total {x} {y} hx hy hz =
-    ap (λ z. x && y && z) hz
-    ∙ (sym (and_assoc (x && y) (leb 1 w) (leb (n + w) total)) ∙ ap₂ (λ x y. x && y && leb 1 w && leb (n + w) total) hx hy)
+own_read n k w m a b c x y total {p} {q} {r} hp hq hr he =
+    ap (λ e. p && q && r && e) he
+    ∙ (sym (and_assoc (p && q && r) (leb 1 w) (leb (n + w) total))
+    ∙ ap₂ (λ o r. o && r && leb 1 w && leb (n + w) total) (ap₂ ◌&&◌ hp hq) hr)
 
 -- the tests of child j, as its span and kind were read
 pub fits_read : (s : List ℕ) (p a b e i j : ℕ) {w k : ℕ} {f r : Bool} → w ≡ span s j → k ≡ kind s j → f ≡ (leb 1 w && leb (j + w) e)
@@ -60,9 +61,9 @@ root-read s hk h hw hm = cc
 
 -- A node's own test r, on its fields as they were read.
 module _ (s : List ℕ) (n total : ℕ) where
-  pub self-read : {k w m a b c : ℕ} {r : Bool} → k ≡ kind s n → w ≡ span s n → m ≡ count s n → a ≡ field_a s n → b ≡ field_b s n
-      → c ≡ field_c s n → r ≡ self_fits n k w m a b c total → r ≡ self_ok s n total
-  self-read hk hw hm ha hb hc h = cc
+  pub self-read : {k w m a b c x y : ℕ} {r : Bool} → k ≡ kind s n → w ≡ span s n → m ≡ count s n → a ≡ field_a s n → b ≡ field_b s n
+      → c ≡ field_c s n → x ≡ namespace_word s n → y ≡ namespace_pos s n → r ≡ self_fits n k w m a b c x y total → r ≡ self_ok s n total
+  self-read hk hw hm ha hb hc hx hy h = cc
 
   -- the end of what was read is a node number, behind n
   pub read-end : {w : ℕ} → Fits w32 total → w ≡ span s n → self_ok s n total ≡ true → Fits w32 (n + w)

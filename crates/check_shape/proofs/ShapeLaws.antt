@@ -9,9 +9,9 @@ use lib.Dec.{eqb, leb}
 use borrow.Author.Tests.{leb-true}
 use Rattle.laws.proofs.Numbers.{left_one}
 use Rattle.sheet.specs.Sections.{node_count}
-use Rattle.sheet.specs.Node.{kind, span, count, field_a, field_b, field_c}
+use Rattle.sheet.specs.Node.{kind, span, count, field_a, field_b, field_c, namespace_word, namespace_pos}
 use Rattle.check_shape.specs.Kinds.{child_kind}
-use Rattle.check_shape.specs.Shape.{within_bounds, own_rule, self_by, child_words, tiles_by, node_by, shape_by}
+use Rattle.check_shape.specs.Shape.{within_bounds, own_rule, space_rule, self_by, child_words, tiles_by, node_by, shape_by}
 use Rattle.check_shape.specs.Shape.{child_fits, child_ok, tiles, self_ok, node_ok, root_ok, nodes_ok, shape_ok}
 
 -- a child that fits ends at e or before
@@ -21,11 +21,12 @@ fits-end s p a b e i j h =
     let l = ((and-eq-true_iff (leb 1 (span s j) && leb (j + span s j) e) (child_kind p a b i (kind s j))).0 h).0 in
     leb-true _ _ ((and-eq-true_iff (leb 1 (span s j)) (leb (j + span s j) e)).0 l).1
 
--- node n has a kind, and a count and fields that fit it
+-- node n has a kind, and a count, fields and a namespace that fit it
 abbrev fields_ok : List ℕ → ℕ → Bool
 fields_ok s n =
     within_bounds (kind s n) (count s n) (field_a s n) (field_b s n) (field_c s n)
     && own_rule (kind s n) (count s n) (field_a s n) (field_b s n)
+    && space_rule (kind s n) (namespace_word s n) (namespace_pos s n)
 
 -- a node that is right by itself ends within the m nodes
 pub self-end : (s : List ℕ) (n m : ℕ) → self_ok s n m ≡ true → n + span s n ≤ m
@@ -72,7 +73,8 @@ module _ (s : List ℕ) (n e : ℕ) where
       ∙ tile-step (m - (i + 1)) i j f
       ∙ ap (λ k. tiles (m - (i + 1)) s n e k (j + span s j)) (sym (add-one i))
 
-  pub tiles-fails : (m i j : ℕ) → i < m → child_fits s (kind s n) (field_a s n) (field_b s n) e i j ≡ false → tiles (m - i) s n e i j ≡ false
+  pub tiles-fails : (m i j : ℕ) → i < m → child_fits s (kind s n) (field_a s n) (field_b s n) e i j ≡ false
+      → tiles (m - i) s n e i j ≡ false
   tiles-fails m i j h f = ap (λ l. tiles l s n e i j) (left_one m i h) ∙ tile-stop (m - (i + 1)) i j f
 
   pub tiles-done : (m i j : ℕ) → m ≤ i → tiles (m - i) s n e i j ≡ eqb j e

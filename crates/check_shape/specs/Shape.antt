@@ -4,7 +4,9 @@ use Rattle.std.specs.Prelude.{ℕ, zero, suc, ◌+◌, ◌*◌, Bool, true, fals
 use Rattle.words.specs.Count.{all_below}
 use Rattle.sheet.specs.Kinds.{char_kind, switch_kind, last_kind}
 use Rattle.sheet.specs.Sections.{node_count}
-use Rattle.sheet.specs.Node.{Fields, kind_at, span_at, count_at, a_at, b_at, c_at, field, kind, span, count, field_a, field_b, field_c}
+use Rattle.sheet.specs.Node.{Fields, kind_at, span_at, count_at, a_at, b_at, c_at, namespace_at, namespace_pos_at, field}
+use Rattle.sheet.specs.Node.{kind, span, count, field_a, field_b, field_c, namespace_word, namespace_pos}
+use Rattle.sheet.specs.Namespace.{may_have}
 use Rattle.check_shape.specs.Kinds.{Bounds, least_count, most_count, most_a, most_b, most_c, bound, scalar, expression, child_kind}
 
 -- the fields of a node of kind k, with m children, are within the kind's bounds
@@ -23,9 +25,15 @@ within_bounds_by bs k m a b c =
 unfoldable pub own_rule : ℕ → ℕ → ℕ → ℕ → Bool
 own_rule k m a b = (not (eqb k char_kind) || scalar a) && (not (eqb k switch_kind) || leb (1 + 2 * a + b) m)
 
--- node n, by its kind, span, count and fields, is right by itself and its subtree lies within `total` nodes
-unfoldable pub self_by : Bounds → ℕ → ℕ → ℕ → ℕ → ℕ → ℕ → ℕ → ℕ → Bool
-self_by bs n k w m a b c total = within_bounds_by bs k m a b c && own_rule k m a b && leb 1 w && leb (n + w) total
+-- the namespace's word x and the word y of its position, of a node of kind k: only a Variable or a FnCall has a namespace, and y is 0
+-- where there is none
+unfoldable pub space_rule : ℕ → ℕ → ℕ → Bool
+space_rule k x y = (may_have k || eqb x 0) && (not (eqb x 0) || eqb y 0)
+
+-- node n, by its kind, span, count, fields and namespace's words, is right by itself and its subtree lies within `total` nodes
+unfoldable pub self_by : Bounds → ℕ → ℕ → ℕ → ℕ → ℕ → ℕ → ℕ → ℕ → ℕ → ℕ → Bool
+self_by bs n k w m a b c x y total =
+    within_bounds_by bs k m a b c && own_rule k m a b && space_rule k x y && leb 1 w && leb (n + w) total
 
 -- a node of kind k and span w may stand at j, as child i of a node of kind p with fields a and b that ends at e
 unfoldable pub child_words : ℕ → ℕ → ℕ → ℕ → ℕ → ℕ → ℕ → ℕ → Bool
@@ -51,7 +59,7 @@ node_by bs g total n =
     let m = v count_at in
     let a = v a_at in
     let b = v b_at in
-    elim (self_by bs n k w m a b (v c_at) total) [
+    elim (self_by bs n k w m a b (v c_at) (v namespace_at) (v namespace_pos_at) total) [
       | true ↦ tiles_by g k a b (n + w) m 0 (n + 1)
       | false ↦ false
     ]
@@ -75,12 +83,13 @@ abbrev pub within_bounds : ℕ → ℕ → ℕ → ℕ → ℕ → Bool
 within_bounds = within_bounds_by bound
 
 -- right by itself, by the table
-abbrev pub self_fits : ℕ → ℕ → ℕ → ℕ → ℕ → ℕ → ℕ → ℕ → Bool
+abbrev pub self_fits : ℕ → ℕ → ℕ → ℕ → ℕ → ℕ → ℕ → ℕ → ℕ → ℕ → Bool
 self_fits = self_by bound
 
 -- node n is right by itself and its subtree lies within `total` nodes
 abbrev pub self_ok : List ℕ → ℕ → ℕ → Bool
-self_ok s n total = self_fits n (kind s n) (span s n) (count s n) (field_a s n) (field_b s n) (field_c s n) total
+self_ok s n total =
+    self_fits n (kind s n) (span s n) (count s n) (field_a s n) (field_b s n) (field_c s n) (namespace_word s n) (namespace_pos s n) total
 
 -- node j may be child i of a node of kind p with fields a and b, and its subtree ends at e or before
 abbrev pub child_fits : List ℕ → ℕ → ℕ → ℕ → ℕ → ℕ → ℕ → Bool

@@ -9,7 +9,7 @@ ghost use Rattle.check_shape.specs.Shape as shape;
 ghost use Rattle.check_shape.specs.Rows as rows;
 
 use sheet::kinds::{BOOL, CASE, CHAR, COALESCE, INT, LAST_KIND, MAP, RANGE, REF, STRING, SWITCH};
-use sheet::{Node, kind, node_count, span};
+use sheet::{Node, kind, may_have, node_count, span};
 
 // any 32-bit word
 pub const ANY: u32 = 0xffff_ffff;
@@ -199,6 +199,14 @@ pub fn own_rule(v: Node) -> bool
     ((v.kind != CHAR) | scalar(v.a)) & ((v.kind != SWITCH) | (wanted <= (v.count as u64)))
 }
 
+// Only a Variable or a FnCall has a namespace, and where there is none, its position is 0.
+pub fn space_rule(v: Node) -> bool
+    ensures { result ≡ shape.space_rule v.kind v.namespace v.namespace_pos }
+{
+    let none = v.namespace == 0;
+    (may_have(v.kind) | none) & (!none | (v.namespace_pos == 0))
+}
+
 // Node 0 is an expression or a Switch, and its subtree is the whole sheet.
 pub fn root_ok(sheet: &[u8]) -> bool
     ensures { result ≡ shape.root_ok sheet.now }
@@ -243,9 +251,9 @@ fn tiles(sheet: &[u8], n: u32, v: Node, e: u32) -> bool
 
 // Node `n`, which was read as `v`, is right by itself, and its subtree lies within `total` nodes.
 fn self_ok(n: u32, v: Node, total: u32) -> bool
-    ensures { result ≡ shape.self_fits n v.kind v.span v.count v.a v.b v.c total }
+    ensures { result ≡ shape.self_fits n v.kind v.span v.count v.a v.b v.c v.namespace v.namespace_pos total }
 {
-    within_bounds(v) & own_rule(v) & fits(n, v.span, total)
+    within_bounds(v) & own_rule(v) & space_rule(v) & fits(n, v.span, total)
 }
 
 // Node `n` of `total` is right, and so are its children's places.

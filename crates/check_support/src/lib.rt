@@ -17,7 +17,7 @@ fn refused_kind(k: u32) -> bool
 
 // Node `n` is an FnCall `curry` with over one argument.
 // Kept: by the node's number, as the definition has it; check_pass asks the same of a `Node` (`call_ok`). One function for both would be of
-// a `Node`: six words would be read here for three, and the question of the text would stand apart (`inline(never)`) as there.
+// a `Node`: eight words would be read here for three, and the question of the text would stand apart (`inline(never)`) as there.
 fn long_curry(sheet: &[u8], n: u32) -> bool
     ensures { result ≡ support.long_curry sheet.now n }
 {

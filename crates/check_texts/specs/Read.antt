@@ -10,5 +10,5 @@ pub record Read (s : List ℕ) (count starts lengths size : ℕ) (b : List ℕ) 
   pub lengths_at_is : lengths ≡ lengths_at s
   pub size_is : size ≡ byte_count s
   pub bytes_are : b ≡ text_bytes s
-  pub near : lengths < 50000000000
+  pub near : lengths < 60000000000
   pub small : size < 2 ^ 32

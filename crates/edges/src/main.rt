@@ -212,7 +212,7 @@ fn all(
 // The same with room for the longest sheet, of 65,538 nodes, and for the scratch that 65,537 nodes and one instruction ask for.
 fn run(
     rt: &impl Print,
-    sheet: &mut [u8; 1835080],
+    sheet: &mut [u8; 2359384],
     image: &mut [u32; 32768],
     scratch: &mut [u32; 1052704],
 ) -> io::Result<()> {
@@ -220,7 +220,7 @@ fn run(
 }
 
 fn main(rt: HostRuntime) -> io::Result<()> {
-    let mut sheet = [0u8; 1835080];
+    let mut sheet = [0u8; 2359384];
     let mut image = [0u32; 32768];
     let mut scratch = [0u32; 1052704];
     run(&rt, &mut sheet, &mut image, &mut scratch)

@@ -24,7 +24,7 @@ fn put(sheet: &mut [u8], i: usize, w: u32) {
     }
 }
 
-// Node `n`, with no fields but `a` and `b`.
+// Node `n`, with no fields but `a` and `b`, and no namespace.
 fn put_node(sheet: &mut [u8], n: u32, kind: u32, span: u32, count: u32, a: u32, b: u32) {
     let at = HEADER_WORDS + NODE_WORDS * n as usize;
     put(sheet, at, kind);
@@ -33,6 +33,8 @@ fn put_node(sheet: &mut [u8], n: u32, kind: u32, span: u32, count: u32, a: u32, 
     put(sheet, at + 3, a);
     put(sheet, at + 4, b);
     put(sheet, at + 5, 0);
+    put(sheet, at + 6, 0);
+    put(sheet, at + 7, 0);
 }
 
 // The nodes from `from` up to `to`, without `to`, as leaves of a kind.

@@ -9,7 +9,7 @@ use Rattle.lowering.proofs.FirstLaws.{first_passes}
 use Rattle.text.specs.Same.{same}
 use Rattle.text.proofs.SameLaws.{same_refl, same_true}
 use Rattle.sheet.specs.Text.{text}
-use Rattle.lowering.specs.Pools.{Pools, Name, name, name_bytes, first_where, same_name, name_at, push_name}
+use Rattle.lowering.specs.Pools.{Pools, Name, name, prefix, name_bytes, first_where, same_name, name_at, push_name}
 use Rattle.expr_chains.proofs.Grow.{Grows}
 use Rattle.expr_chains.proofs.FindLaws.{grown-same, grown-within, added-grows, added-same, added-within}
 use Rattle.expr_chains.specs.Steps.{name_in}
@@ -22,7 +22,7 @@ module _ (s : List ℕ) where
   name-self n = same_refl (name_bytes s n)
 
   name-bytes : (t : ℕ) → name_bytes s (name t 0) ≡ text s t
-  unfolding name_bytes
+  unfolding name_bytes prefix
   name-bytes t = append-nil (text s t)
 
   -- a name that stands stays where it is

@@ -9,8 +9,9 @@ use lib.Dec.{eqb, leb}
 use lib.ListN.{get_or}
 use borrow.Author.Tests.{eqb-true, eqb-false, eq-eqb, ne_eqb}
 use Rattle.laws.proofs.Bool.{lazy-true, lazy-of}
-use Rattle.sheet.specs.Node.{kind, field_a, position}
+use Rattle.sheet.specs.Node.{field_a, position}
 use Rattle.sheet.specs.Text.{text}
+use Rattle.sheet.specs.Namespace.{role}
 use Rattle.bytecode.specs.declared.Root.{Root}
 use Rattle.bytecode.specs.declared.Root.TheVariants.{Local, Named, This, Temporary}
 use Rattle.bytecode.specs.Chain.{root_words}
@@ -57,23 +58,23 @@ kind-case k = by (eqb k variable_kind) refl (eqb k this_kind) refl
 
 module _ (s : List ℕ) where
   -- the root of each case
-  root-local : (v i slot : ℕ) → kind s v ≡ variable_kind → resolve s (text s (field_a s v)) ≡ some slot → root_with s v i ≡ Local slot i
+  root-local : (v i slot : ℕ) → role s v ≡ variable_kind → resolve s (text s (field_a s v)) ≡ some slot → root_with s v i ≡ Local slot i
   unfolding root_with
-  root-local v i slot g h = rw (eq-eqb (kind s v) variable_kind g, h, root_with)
+  root-local v i slot g h = rw (eq-eqb (role s v) variable_kind g, h, root_with)
 
-  root-named : (v i : ℕ) → kind s v ≡ variable_kind → resolve s (text s (field_a s v)) ≡ none → root_with s v i ≡ Named i (position s v)
+  root-named : (v i : ℕ) → role s v ≡ variable_kind → resolve s (text s (field_a s v)) ≡ none → root_with s v i ≡ Named i (position s v)
   unfolding root_with
-  root-named v i g h = rw (eq-eqb (kind s v) variable_kind g, h, root_with)
+  root-named v i g h = rw (eq-eqb (role s v) variable_kind g, h, root_with)
 
-  pub root-this : (v i : ℕ) → kind s v ≡ this_kind → root_with s v i ≡ This (position s v)
+  pub root-this : (v i : ℕ) → role s v ≡ this_kind → root_with s v i ≡ This (position s v)
   unfolding root_with
   root-this v i g =
-      let ne : kind s v ≡ variable_kind → ⊥ = λ e. omega arith in
-      rw (ne_eqb (kind s v) variable_kind ne, eq-eqb (kind s v) this_kind g, root_with)
+      let ne : role s v ≡ variable_kind → ⊥ = λ e. omega arith in
+      rw (ne_eqb (role s v) variable_kind ne, eq-eqb (role s v) this_kind g, root_with)
 
-  pub root-other : (v i : ℕ) → (kind s v ≡ variable_kind → ⊥) → (kind s v ≡ this_kind → ⊥) → root_with s v i ≡ Temporary
+  pub root-other : (v i : ℕ) → (role s v ≡ variable_kind → ⊥) → (role s v ≡ this_kind → ⊥) → root_with s v i ≡ Temporary
   unfolding root_with
-  root-other v i g h = rw (ne_eqb (kind s v) variable_kind g, ne_eqb (kind s v) this_kind h, root_with)
+  root-other v i g h = rw (ne_eqb (role s v) variable_kind g, ne_eqb (role s v) this_kind h, root_with)
 
   -- the test of each case
   pub as-variable : (k v w : ℕ) → k ≡ variable_kind → same_root_as k s v w ≡ same_variable s v w
@@ -133,24 +134,24 @@ module _ (s : List ℕ) where
       by false e = rw e h
 
   pub record RootSays (v w : ℕ) : Type 0 where
-    pub kinds : root_kind (kind s v) ≡ root_kind (kind s w)
-    pub parts : same_root_as (root_kind (kind s v)) s v w ≡ true
+    pub kinds : root_kind (role s v) ≡ root_kind (role s w)
+    pub parts : same_root_as (root_kind (role s v)) s v w ≡ true
 
   root-says : (v w : ℕ) → same_root s v w ≡ true → RootSays v w
   unfolding same_root
   root-says v w h =
-      let both = lazy-true (eqb (root_kind (kind s v)) (root_kind (kind s w))) (same_root_as (root_kind (kind s v)) s v w) h in
-      record { kinds = eqb-true (root_kind (kind s v)) (root_kind (kind s w)) both.0; parts = both.1 }
+      let both = lazy-true (eqb (root_kind (role s v)) (root_kind (role s w))) (same_root_as (root_kind (role s v)) s v w) h in
+      record { kinds = eqb-true (root_kind (role s v)) (root_kind (role s w)) both.0; parts = both.1 }
 
   root-of : (v w : ℕ) → RootSays v w → same_root s v w ≡ true
   unfolding same_root
   root-of v w h =
-      lazy-of (eqb (root_kind (kind s v)) (root_kind (kind s w))) (same_root_as (root_kind (kind s v)) s v w)
-      (eq-eqb (root_kind (kind s v)) (root_kind (kind s w)) h.kinds)
+      lazy-of (eqb (root_kind (role s v)) (root_kind (role s w))) (same_root_as (root_kind (role s v)) s v w)
+      (eq-eqb (root_kind (role s v)) (root_kind (role s w)) h.kinds)
       h.parts
 
   -- roots that pass the test are equal
-  variable-equal : (ns : List Name) (v w : ℕ) → kind s v ≡ variable_kind → kind s w ≡ variable_kind → VariableSays v w
+  variable-equal : (ns : List Name) (v w : ℕ) → role s v ≡ variable_kind → role s w ≡ variable_kind → VariableSays v w
       → root_in s ns v ≡ root_in s ns w
   unfolding root_in
   variable-equal ns v w g h says = by (resolve s (text s (field_a s v))) refl
@@ -170,20 +171,20 @@ module _ (s : List ℕ) where
 
   pub root-equal : (ns : List Name) (v w : ℕ) → same_root s v w ≡ true → root_in s ns v ≡ root_in s ns w
   unfolding root_in
-  root-equal ns v w t = by (kind-case (kind s v)) (kind-case (kind s w))
+  root-equal ns v w t = by (kind-case (role s v)) (kind-case (role s w))
     where
       says : RootSays v w
       says = root-says v w t
 
-      by : KindCase (kind s v) → KindCase (kind s w) → root_in s ns v ≡ root_in s ns w
+      by : KindCase (role s v) → KindCase (role s w) → root_in s ns v ≡ root_in s ns w
       by (variable g k) (variable h l) =
-          variable-equal ns v w g h (variable-says v w (sym (as-variable (root_kind (kind s v)) v w k) ∙ says.parts))
+          variable-equal ns v w g h (variable-says v w (sym (as-variable (root_kind (role s v)) v w k) ∙ says.parts))
       by (variable g k) (this h l) = absurd (omega (arith, says.kinds))
       by (variable g k) (other h m l) = absurd (omega (arith, says.kinds))
       by (this g k) (variable h l) = absurd (omega (arith, says.kinds))
       by (this g k) (this h l) =
           root-this v (name_in s ns (field_a s v)) g
-          ∙ ap This (eqb-true (position s v) (position s w) (sym (as-this (root_kind (kind s v)) v w k) ∙ says.parts))
+          ∙ ap This (eqb-true (position s v) (position s w) (sym (as-this (root_kind (role s v)) v w k) ∙ says.parts))
           ∙ sym (root-this w (name_in s ns (field_a s w)) h)
       by (this g k) (other h m l) = absurd (omega (arith, says.kinds))
       by (other g n k) (variable h l) = absurd (omega (arith, says.kinds))
@@ -192,14 +193,14 @@ module _ (s : List ℕ) where
           root-other v (name_in s ns (field_a s v)) g n ∙ sym (root-other w (name_in s ns (field_a s w)) h m)
 
   -- roots with equal words pass the test, if their names stand in the pool
-  variable-words : (ns : List Name) (v w : ℕ) → RootStands s ns v → RootStands s ns w → kind s v ≡ variable_kind → kind s w ≡ variable_kind
+  variable-words : (ns : List Name) (v w : ℕ) → RootStands s ns v → RootStands s ns w → role s v ≡ variable_kind → role s w ≡ variable_kind
       → root_words (root_in s ns v) ≡ root_words (root_in s ns w) → same_variable s v w ≡ true
   unfolding root_in root_words
   variable-words ns v w a b g h e =
       by (resolve s (text s (field_a s v))) refl (resolve s (text s (field_a s w))) refl
     where
       one : name_in s ns (field_a s v) ≡ name_in s ns (field_a s w) → same_text s (field_a s v) (field_a s w) ≡ true
-      one = names_apart s ns (field_a s v) (field_a s w) (a (eq-eqb (kind s v) variable_kind g)) (b (eq-eqb (kind s w) variable_kind h))
+      one = names_apart s ns (field_a s v) (field_a s w) (a (eq-eqb (role s v) variable_kind g)) (b (eq-eqb (role s w) variable_kind h))
 
       words : (r q : Root) → root_with s v (name_in s ns (field_a s v)) ≡ r → root_with s w (name_in s ns (field_a s w)) ≡ q
           → root_words r ≡ root_words q
@@ -226,18 +227,18 @@ module _ (s : List ℕ) where
           (root-local v (name_in s ns (field_a s v)) slot g x) (root-local w (name_in s ns (field_a s w)) slot' h y) in
           variable-local v w (one (cc)) (local-is v slot x)
 
-  first_word : (v i : ℕ) → word_kind (get_or (root_words (root_with s v i)) 0 0) ≡ root_kind (kind s v)
+  first_word : (v i : ℕ) → word_kind (get_or (root_words (root_with s v i)) 0 0) ≡ root_kind (role s v)
   unfolding word_kind root_words
-  first_word v i = by (kind-case (kind s v)) (resolve s (text s (field_a s v))) refl
+  first_word v i = by (kind-case (role s v)) (resolve s (text s (field_a s v))) refl
     where
-      by : KindCase (kind s v) → (o : Option ℕ) → resolve s (text s (field_a s v)) ≡ o
-          → word_kind (get_or (root_words (root_with s v i)) 0 0) ≡ root_kind (kind s v)
+      by : KindCase (role s v) → (o : Option ℕ) → resolve s (text s (field_a s v)) ≡ o
+          → word_kind (get_or (root_words (root_with s v i)) 0 0) ≡ root_kind (role s v)
       by (variable g k) none x = rw (root-named v i g x) (sym k)
       by (variable g k) (some slot) x = rw (root-local v i slot g x) (sym k)
       by (this g k) o x = rw (root-this v i g) (sym k)
       by (other g n k) o x = rw (root-other v i g n) (sym k)
 
-  this-words : (v w i k : ℕ) → kind s v ≡ this_kind → kind s w ≡ this_kind → root_words (root_with s v i) ≡ root_words (root_with s w k)
+  this-words : (v w i k : ℕ) → role s v ≡ this_kind → role s w ≡ this_kind → root_words (root_with s v i) ≡ root_words (root_with s w k)
       → position s v ≡ position s w
   unfolding root_words
   this-words v w i k g h e =
@@ -248,21 +249,21 @@ module _ (s : List ℕ) where
   pub root-words : (ns : List Name) (v w : ℕ) → RootStands s ns v → RootStands s ns w
       → root_words (root_in s ns v) ≡ root_words (root_in s ns w) → same_root s v w ≡ true
   unfolding root_in
-  root-words ns v w a b e = root-of v w (record { kinds = kinds; parts = by (kind-case (kind s v)) (kind-case (kind s w)) })
+  root-words ns v w a b e = root-of v w (record { kinds = kinds; parts = by (kind-case (role s v)) (kind-case (role s w)) })
     where
-      kinds : root_kind (kind s v) ≡ root_kind (kind s w)
+      kinds : root_kind (role s v) ≡ root_kind (role s w)
       kinds =
           sym (first_word v (name_in s ns (field_a s v)))
           ∙ ap (λ (l : List ℕ). word_kind (get_or l 0 0)) e
           ∙ first_word w (name_in s ns (field_a s w))
 
-      by : KindCase (kind s v) → KindCase (kind s w) → same_root_as (root_kind (kind s v)) s v w ≡ true
-      by (variable g k) (variable h l) = as-variable (root_kind (kind s v)) v w k ∙ variable-words ns v w a b g h e
+      by : KindCase (role s v) → KindCase (role s w) → same_root_as (root_kind (role s v)) s v w ≡ true
+      by (variable g k) (variable h l) = as-variable (root_kind (role s v)) v w k ∙ variable-words ns v w a b g h e
       by (variable g k) (this h l) = absurd (omega (arith, kinds))
       by (variable g k) (other h m l) = absurd (omega (arith, kinds))
       by (this g k) (variable h l) = absurd (omega (arith, kinds))
       by (this g k) (this h l) =
-          as-this (root_kind (kind s v)) v w k
+          as-this (root_kind (role s v)) v w k
           ∙ eq-eqb (position s v) (position s w) (this-words v w (name_in s ns (field_a s v)) (name_in s ns (field_a s w)) g h e)
       by (this g k) (other h m l) = absurd (omega (arith, kinds))
-      by (other g n k) d = as-other (root_kind (kind s v)) v w k
+      by (other g n k) d = as-other (root_kind (role s v)) v w k

@@ -5,7 +5,8 @@ use mathlib.Core.Bool.{Bool, true, false}
 use mathlib.Core.List.{List, [], ◌∷◌, ◌++◌}
 use lib.Dec.{eqb}
 use Rattle.sheet.specs.Limits.{max_depth}
-use Rattle.sheet.specs.Node.{kind, field_a, field_b, field_c, child}
+use Rattle.sheet.specs.Node.{field_a, field_b, field_c, child}
+use Rattle.sheet.specs.Namespace.{role}
 use Rattle.lowering.specs.Kinds.{variable_kind}
 use Rattle.lowering.specs.Pools.{Name}
 use Rattle.lowering.specs.Flatten as flatten
@@ -17,16 +18,16 @@ use Rattle.expr_chains.specs.Pooled.{All, StepStands, LinkStands, RootStands, Po
 use Rattle.expr_chains.proofs.NameLaws.{name-stays, stands-stays}
 
 -- only a variable's root has a name
-pub root-nameless : (s : List ℕ) (v i k : ℕ) → eqb (kind s v) variable_kind ≡ false → root_with s v i ≡ root_with s v k
+pub root-nameless : (s : List ℕ) (v i k : ℕ) → eqb (role s v) variable_kind ≡ false → root_with s v i ≡ root_with s v k
 unfolding root_with
 root-nameless s v i k h = rw (h, root_with)
 
 module _ (s : List ℕ) {ns ms : List Name} (g : Grows ns ms) where
   root-stays : (v : ℕ) → RootStands s ns v → root_in s ms v ≡ root_in s ns v
   unfolding root_in
-  root-stays v h = by (eqb (kind s v) variable_kind) refl
+  root-stays v h = by (eqb (role s v) variable_kind) refl
     where
-      by : (t : Bool) → eqb (kind s v) variable_kind ≡ t → root_in s ms v ≡ root_in s ns v
+      by : (t : Bool) → eqb (role s v) variable_kind ≡ t → root_in s ms v ≡ root_in s ns v
       by true e = ap (root_with s v) (name-stays s (field_a s v) g (h e))
       by false e = root-nameless s v (name_in s ms (field_a s v)) (name_in s ns (field_a s v)) e
 

@@ -9,8 +9,9 @@ use lib.Dec.{eqb, leb}
 use lib.ListN.{length}
 use Rattle.lowering.proofs.LinkedChain.{method-lowers, method-fails, steps-go, steps-fail}
 use Rattle.sheet.specs.Limits.{max_depth}
-use Rattle.sheet.specs.Node.{kind, count, field_a, field_b, field_c, child, next}
+use Rattle.sheet.specs.Node.{count, field_a, field_b, field_c, child, next}
 use Rattle.sheet.specs.Text.{text}
+use Rattle.sheet.specs.Namespace.{qualified, role}
 use Rattle.sheet.specs.Walk.{skip}
 use Rattle.bytecode.specs.declared.Receiver.{Receiver}
 use Rattle.bytecode.specs.declared.Root.{Root}
@@ -20,7 +21,7 @@ use Rattle.bytecode.specs.declared.Step.{Step}
 use Rattle.lowering.specs.Limits.{max_elements}
 use Rattle.lowering.specs.Kinds.{variable_kind}
 use Rattle.lowering.specs.Code.{Code}
-use Rattle.lowering.specs.Pools.{Pools, Const, Name, name, const_of, emits, defeat, push_const, push_name, push_token, push_residual}
+use Rattle.lowering.specs.Pools.{Pools, Const, Name, name, own_name, name_at, const_of, emits, defeat, push_const, push_name, push_token, push_residual}
 use Rattle.lowering.specs.Pools.{push_chain}
 use Rattle.lowering.specs.Out.{Out, out, Rec, and_then, emit_at, residual_expr}
 use Rattle.lowering.specs.Slots.{resolve}
@@ -33,6 +34,8 @@ use Rattle.lowering.specs.Coalesce.{coalesce}
 use Rattle.lowering.specs.Call as call
 use Rattle.lowering.specs.Call.{CallRule, First, call_rule, make_fn_ptr, call_fn_ptr, receiver, other_args, call_ref, call_local, call_this}
 use Rattle.lowering.specs.Call.{call_named, stores_token, call_as, call_token, call_values, lower_call_by, fn_call_by, fn_call}
+use Rattle.lowering.specs.Call.{ref_at, loaded_args, qualified_local, qualified_this, qualified_named, qualified_values, lower_qualified_by}
+use Rattle.lowering.specs.Call.{lower_qualified, lower_call}
 use Rattle.lowering.specs.Flatten as flatten
 use Rattle.lowering.specs.Flatten.{StepRule, index, property, method, operand_of, step_rule, links, flattens}
 use Rattle.lowering.specs.Steps.{Stepped, stepped, failed, index_step, property_step, is_lowerable_method, method_after, method_step, step_by}
@@ -83,13 +86,21 @@ module _ (s : List ℕ) (R : Pools → Pools → Type 0) (S : Steady s R) where
   named-follows j d p =
       S.joins (S.by_name (name (field_a s j) 0) p) (S.by-emits 1 (push_name s (name (field_a s j) 0) p))
 
-  variable-follows : (j d : ℕ) (p : Pools) → R p (leaf.variable s j d p).pools
-  unfolding leaf.variable emit_at
-  variable-follows j d p = by (resolve s (text s (field_a s j))) refl
+  plain-follows : (j d : ℕ) (p : Pools) → R p (leaf.load_plain s j d p).pools
+  unfolding leaf.load_plain emit_at
+  plain-follows j d p = by (resolve s (text s (field_a s j))) refl
     where
-      by : (o : Option ℕ) → resolve s (text s (field_a s j)) ≡ o → R p (leaf.variable s j d p).pools
-      by none e = rw (e, leaf.variable) (named-follows j d p)
-      by (some slot) e = rw (e, leaf.variable) (S.by-emits 1 p)
+      by : (o : Option ℕ) → resolve s (text s (field_a s j)) ≡ o → R p (leaf.load_plain s j d p).pools
+      by none e = rw (e, leaf.load_plain) (named-follows j d p)
+      by (some slot) e = rw (e, leaf.load_plain) (S.by-emits 1 p)
+
+  variable-follows : (j d : ℕ) (p : Pools) → R p (leaf.variable s j d p).pools
+  unfolding leaf.variable leaf.load_qualified emit_at
+  variable-follows j d p = by (qualified s j) refl
+    where
+      by : (t : Bool) → qualified s j ≡ t → R p (leaf.variable s j d p).pools
+      by true e = rw (e, leaf.variable) (S.joins (S.by_name (own_name s j 0) p) (S.by-emits 1 (push_name s (own_name s j 0) p)))
+      by false e = rw (e, leaf.variable) (plain-follows j d p)
 
 module _ (s : List ℕ) (R : Pools → Pools → Type 0) (S : Steady s R) (rec : Rec) (F : Follows R rec) where
   operands-follow : (n j b d : ℕ) (p : Pools) → R p (operands s rec n j b d p).pools
@@ -194,12 +205,46 @@ module _ (s : List ℕ) (R : Pools → Pools → Type 0) (S : Steady s R) (rec :
       ref-follows j _ _ p (out _ _) (S.joins (S.by-emits 1 p) (others-follow j (b + 1) (suc d) (emits 1 p)))
   by-follows call.value j b d p = values-follow j b d p
 
+  -- calls with a namespace
+  at-follows : (i j : ℕ) (r : Receiver) (d : ℕ) (p : Pools) (o : Out) → R p o.pools → R p (ref_at i s j r d o).pools
+  unfolding ref_at
+  at-follows i j r d p o h = then-follows s R S p o _ h
+
+  loaded-follows : (load : Op) (j b d : ℕ) (p : Pools) → R p (loaded_args load s rec j b d p).pools
+  unfolding loaded_args
+  loaded-follows load j b d p = S.joins (S.by-emits 1 p) (others-follow j (b + 1) (suc d) (emits 1 p))
+
+  qualified-by-follows : (f : First) (i j b d : ℕ) (p : Pools) → R p (lower_qualified_by f i s rec j b d p).pools
+  unfolding lower_qualified_by qualified_local qualified_this qualified_named qualified_values
+  qualified-by-follows (call.local slot) i j b d p = at-follows i j _ _ p (other_args s rec j b d p) (others-follow j b d p)
+  qualified-by-follows call.named i j b d p =
+      let v = name (field_a s (child j)) 0 in
+      at-follows i j _ _ p (loaded_args _ s rec j b d (push_name s v p))
+      (S.joins (S.by_name v p) (loaded-follows _ j b d (push_name s v p)))
+  qualified-by-follows call.this i j b d p = at-follows i j _ _ p (loaded_args _ s rec j b d p) (loaded-follows _ j b d p)
+  qualified-by-follows call.value i j b d p =
+      then-follows s R S p (operands s rec (count s j) (child j) b d p) _ (operands-follow (count s j) (child j) b d p)
+
+  qualified-follows : (j b d : ℕ) (p : Pools) → R p (lower_qualified s rec j b d p).pools
+  unfolding lower_qualified
+  qualified-follows j b d p =
+      let n = own_name s j (field_b s j) in
+      S.joins (S.by_name n p) (qualified-by-follows (receiver s j) (name_at s n p) j b d (push_name s n p))
+
+  call-follows : (j b d : ℕ) (p : Pools) → R p (lower_call s rec j b d p).pools
+  unfolding lower_call
+  call-follows j b d p = by (qualified s j) refl
+    where
+      by : (t : Bool) → qualified s j ≡ t → R p (lower_call s rec j b d p).pools
+      by true e = rw (e, lower_call) (qualified-follows j b d p)
+      by false e = rw (e, lower_call) (by-follows (receiver s j) j b d p)
+
   rule-follows : (r : CallRule) (j b d : ℕ) (p : Pools) → R p (fn_call_by r s rec j b d p).pools
   unfolding fn_call_by make_fn_ptr call_fn_ptr
   rule-follows call.fn_ptr j b d p = then-follows s R S p (rec (child j) b d p) _ (F.follows (child j) b d p)
   rule-follows call.fn_ptr_call j b d p =
       then-follows s R S p (operands s rec (count s j) (child j) b d p) _ (operands-follow (count s j) (child j) b d p)
-  rule-follows call.lowerable j b d p = by-follows (receiver s j) j b d p
+  rule-follows call.lowerable j b d p = call-follows j b d p
   rule-follows call.eval j b d p = S.joins (S.by-defeat p) (residual-follows s R S j d (defeat p))
   rule-follows call.residual j b d p = residual-follows s R S j d p
 
@@ -257,9 +302,9 @@ module _ (s : List ℕ) (R : Pools → Pools → Type 0) (S : Steady s R) (rec :
           rw (steps-fail s rec c cs n b d p q h) (subst (StepFollows p) h (step_follows (step_rule s c) c n b d p))
 
   root-pools-follow : (v : ℕ) (p : Pools) → R p (root_pools s v p)
-  root-pools-follow v p = by (eqb (kind s v) variable_kind) refl
+  root-pools-follow v p = by (eqb (role s v) variable_kind) refl
     where
-      by : (t : Bool) → eqb (kind s v) variable_kind ≡ t → R p (root_pools s v p)
+      by : (t : Bool) → eqb (role s v) variable_kind ≡ t → R p (root_pools s v p)
       by true h = rw (root-pools-on s v p h) (S.by_name (name (field_a s v) 0) p)
       by false h = rw (root-pools-off s v p h) (S.stays p)
 

@@ -3,8 +3,9 @@ use Prim.Native.Nat.{ℕ}
 use mathlib.Core.Path.{◌≡◌, refl, sym}
 use mathlib.Core.List.{List}
 use borrow.Author.Tests.{eq-eqb}
-use Rattle.sheet.specs.Node.{kind, field_a, position}
+use Rattle.sheet.specs.Node.{field_a, position}
 use Rattle.sheet.specs.Text.{text}
+use Rattle.sheet.specs.Namespace.{role}
 use Rattle.lowering.specs.Kinds.{variable_kind}
 use Rattle.lowering.specs.Slots.{resolve}
 use Rattle.expr_chains.specs.Steps.{root_with}
@@ -19,8 +20,8 @@ unfolding variable_by found
 variable-by none name pos = refl
 variable-by (some slot) name pos = refl
 
-pub root-variable : (s : List ℕ) (v i : ℕ) → kind s v ≡ variable_kind
+pub root-variable : (s : List ℕ) (v i : ℕ) → role s v ≡ variable_kind
     → root_with s v i ≡ variable_by (found (resolve s (text s (field_a s v)))) i (position s v)
 unfolding root_with
 root-variable s v i h =
-    rw (eq-eqb (kind s v) variable_kind h, root_with) (sym (variable-by (resolve s (text s (field_a s v))) i (position s v)))
+    rw (eq-eqb (role s v) variable_kind h, root_with) (sym (variable-by (resolve s (text s (field_a s v))) i (position s v)))

@@ -10,7 +10,8 @@ use lib.Dec.{eqb}
 use lib.ListN.{length}
 use Rattle.lowering.proofs.LinkedChain.{method-lowers, method-fails, steps-go, steps-fail, method-args}
 use Rattle.sheet.specs.Limits.{max_depth}
-use Rattle.sheet.specs.Node.{kind, count, field_a, field_b, field_c, child, next}
+use Rattle.sheet.specs.Node.{count, field_a, field_b, field_c, child, next}
+use Rattle.sheet.specs.Namespace.{role}
 use Rattle.bytecode.specs.declared.Root.{Root}
 use Rattle.bytecode.specs.declared.Root.TheVariants.{Local, Named, This, Temporary}
 use Rattle.bytecode.specs.declared.Step.{Step}
@@ -155,11 +156,11 @@ module _ (s : List ℕ) (rec : Rec) (G : NamesGrow rec) where
 
 -- the root: its name is looked for before it is pooled, and found there ever after
 module _ (s : List ℕ) where
-  pub root-pools-on : (v : ℕ) (p : Pools) → eqb (kind s v) variable_kind ≡ true → root_pools s v p ≡ push_name s (name (field_a s v) 0) p
+  pub root-pools-on : (v : ℕ) (p : Pools) → eqb (role s v) variable_kind ≡ true → root_pools s v p ≡ push_name s (name (field_a s v) 0) p
   unfolding root_pools
   root-pools-on v p h = rw (h, root_pools)
 
-  pub root-pools-off : (v : ℕ) (p : Pools) → eqb (kind s v) variable_kind ≡ false → root_pools s v p ≡ p
+  pub root-pools-off : (v : ℕ) (p : Pools) → eqb (role s v) variable_kind ≡ false → root_pools s v p ≡ p
   unfolding root_pools
   root-pools-off v p h = rw (h, root_pools)
 
@@ -173,9 +174,9 @@ module _ (s : List ℕ) where
 
   root-right : {ns : List Name} (v : ℕ) (p : Pools) → Grows (root_pools s v p).names ns → root_of s v p ≡ root_in s ns v
   unfolding root_in
-  root-right {ns} v p g = by (eqb (kind s v) variable_kind) refl
+  root-right {ns} v p g = by (eqb (role s v) variable_kind) refl
     where
-      by : (t : Bool) → eqb (kind s v) variable_kind ≡ t → root_of s v p ≡ root_in s ns v
+      by : (t : Bool) → eqb (role s v) variable_kind ≡ t → root_of s v p ≡ root_in s ns v
       by true h =
           let named = subst (λ (q : Pools). Grows q.names ns) (root-pools-on v p h) g in
           root-by v p ∙ ap (root_with s v) (push_at s (field_a s v) p named)

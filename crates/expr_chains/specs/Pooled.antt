@@ -1,7 +1,8 @@
 -- What holds of a chain that was pooled: each link has a step that lowers, and every name of the chain stands in the pool.
 use Rattle.std.specs.Prelude.{ℕ, ◌<◌, ◌≡◌, true, List, [], ◌∷◌, eqb, length}
 use Rattle.sheet.specs.Limits.{max_depth}
-use Rattle.sheet.specs.Node.{kind, field_a, field_b, field_c, child}
+use Rattle.sheet.specs.Node.{field_a, field_b, field_c, child}
+use Rattle.sheet.specs.Namespace.{role}
 use Rattle.lowering.specs.Kinds.{variable_kind}
 use Rattle.lowering.specs.Pools.{Name}
 use Rattle.lowering.specs.Steps.{is_lowerable_method}
@@ -29,7 +30,7 @@ abbrev pub LinkStands : List ℕ → List Name → ℕ → Type 0
 LinkStands s ns c = StepStands (step_rule s c) s ns c
 
 abbrev pub RootStands : List ℕ → List Name → ℕ → Type 0
-RootStands s ns v = eqb (kind s v) variable_kind ≡ true → Stands s ns (field_a s v)
+RootStands s ns v = eqb (role s v) variable_kind ≡ true → Stands s ns (field_a s v)
 
 -- the chain of node j
 pub record Pooled (s : List ℕ) (ns : List Name) (j : ℕ) : Type 0 where

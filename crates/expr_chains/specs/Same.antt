@@ -4,9 +4,10 @@ use Rattle.std.specs.Prelude.{ℕ, ◌≡◌, Bool, true, false, ◌&&◌, ◌||
 use Rattle.std.proofs.Math.Option.{Option, none, some}
 use Rattle.text.specs.Same.{same}
 use Rattle.sheet.specs.Limits.{max_depth}
-use Rattle.sheet.specs.Node.{kind, count, field_a, field_b, field_c, position, child}
+use Rattle.sheet.specs.Node.{count, field_a, field_b, field_c, position, child}
 use Rattle.sheet.specs.Start.{start_of}
 use Rattle.sheet.specs.Text.{text}
+use Rattle.sheet.specs.Namespace.{role}
 use Rattle.lowering.specs.Kinds.{variable_kind, this_kind}
 use Rattle.lowering.specs.Slots.{resolve}
 use Rattle.lowering.specs.Flatten as flatten
@@ -32,13 +33,13 @@ same_variable s v w =
       | false ↦ false
     ]
 
--- the kind of a root: Variable, This, or 0 for any other
+-- the role of a root: Variable, This, or 0 for any other
 unfoldable pub root_kind : ℕ → ℕ
 root_kind k = elim (eqb k variable_kind || eqb k this_kind) [ true ↦ k | false ↦ 0 ]
 
 -- what `local` tells of root v: whether it is a local, where it is a variable
 pub record RootLocal (s : List ℕ) (v : ℕ) (local : Bool) : Type 0 where
-  pub tells : root_kind (kind s v) ≡ variable_kind → local ≡ is_local s v
+  pub tells : root_kind (role s v) ≡ variable_kind → local ≡ is_local s v
 
 unfoldable pub same_root_as : ℕ → List ℕ → ℕ → ℕ → Bool
 same_root_as k s v w =
@@ -49,8 +50,8 @@ same_root_as k s v w =
 
 unfoldable pub same_root : List ℕ → ℕ → ℕ → Bool
 same_root s v w =
-    elim (eqb (root_kind (kind s v)) (root_kind (kind s w))) [
-      | true ↦ same_root_as (root_kind (kind s v)) s v w
+    elim (eqb (root_kind (role s v)) (root_kind (role s w))) [
+      | true ↦ same_root_as (root_kind (role s v)) s v w
       | false ↦ false
     ]
 

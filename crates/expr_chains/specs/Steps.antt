@@ -3,9 +3,10 @@
 use Rattle.std.specs.Prelude.{ℕ, ◌+◌, min, true, false, List, [], ◌∷◌, ◌++◌, eqb, length}
 use Rattle.std.proofs.Math.Option.{none, some}
 use Rattle.sheet.specs.Limits.{max_depth}
-use Rattle.sheet.specs.Node.{kind, count, field_a, field_b, field_c, position, child}
+use Rattle.sheet.specs.Node.{count, field_a, field_b, field_c, position, child}
 use Rattle.sheet.specs.Start.{start_of}
 use Rattle.sheet.specs.Text.{text}
+use Rattle.sheet.specs.Namespace.{role}
 use Rattle.bytecode.specs.declared.Root.{Root}
 use Rattle.bytecode.specs.declared.Root.TheVariants.{Local, Named, This, Temporary}
 use Rattle.bytecode.specs.declared.Step.{Step}
@@ -25,9 +26,9 @@ name_in s ns t = first_where (same_name s (name t 0)) ns
 -- node v as a root, with its name at place i
 unfoldable pub root_with : List ℕ → ℕ → ℕ → Root
 root_with s v i =
-    elim (eqb (kind s v) variable_kind) [
+    elim (eqb (role s v) variable_kind) [
       | true ↦ elim (resolve s (text s (field_a s v))) [ some slot ↦ Local slot i | none ↦ Named i (position s v) ]
-      | false ↦ elim (eqb (kind s v) this_kind) [ true ↦ This (position s v) | false ↦ Temporary ]
+      | false ↦ elim (eqb (role s v) this_kind) [ true ↦ This (position s v) | false ↦ Temporary ]
     ]
 
 unfoldable pub root_in : List ℕ → List Name → ℕ → Root

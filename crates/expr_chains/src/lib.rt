@@ -19,12 +19,13 @@ ghost use Rattle.expr_chains.specs.Same as sames;
 ghost use Rattle.expr_chains.specs.Same.{RootLocal};
 ghost use Rattle.sheet.specs.Node as nodes;
 ghost use Rattle.sheet.specs.Text as texts;
+ghost use Rattle.sheet.specs.Namespace as spaces;
 
 use bytecode::{Chain, Root, Step};
 use expr_rules::chains::{Read, StepRule, is_lowerable_method, links_of};
 use lowering::{CHAIN_WIDTH, MAX_ARGS, STEP_WIDTH};
 use sheet::kinds::{THIS, VARIABLE};
-use sheet::{child, count, field_a, field_b, field_c, kind, position, start_of};
+use sheet::{child, count, field_a, field_b, field_c, position, role, start_of};
 use text::same_bytes;
 
 // How many links a chain has, and how many operands their steps take.
@@ -160,8 +161,8 @@ fn same_variable(sheet: &[u8], v: u32, w: u32, local: bool) -> bool
 fn same_root(sheet: &[u8], v: u32, w: u32, local: bool) -> bool
     ensures { RootLocal sheet.now v local → result ≡ sames.same_root sheet.now v w }
 {
-    let k = kind(sheet, w);
-    match kind(sheet, v) {
+    let k = role(sheet, w);
+    match role(sheet, v) {
         VARIABLE => k == VARIABLE && same_variable(sheet, v, w, local),
         THIS => (k == THIS) & (position(sheet, v) == position(sheet, w)),
         _ => (k != VARIABLE) & (k != THIS),
@@ -193,10 +194,10 @@ fn variable_root(found: Option<u32>, name: u32, pos: u32) -> Root
 // Node `v` as a root, with its name at place `name`, where `found` is the local that a variable is.
 pub fn root_of(sheet: &[u8], v: u32, name: u32, found: Option<u32>) -> Root
     ensures { let sheet = sheet.now in
-        ((nodes.kind sheet v ≡ variable_kind → found ≡ founds.found (locals.resolve sheet (texts.text sheet (nodes.field_a sheet v))))
+        ((spaces.role sheet v ≡ variable_kind → found ≡ founds.found (locals.resolve sheet (texts.text sheet (nodes.field_a sheet v))))
         → result ≡ chains.root_with sheet v name) }
 {
-    match kind(sheet, v) {
+    match role(sheet, v) {
         VARIABLE => variable_root(found, name, position(sheet, v)),
         THIS => Root::This {
             pos: position(sheet, v),

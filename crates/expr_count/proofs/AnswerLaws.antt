@@ -1,12 +1,12 @@
 -- Laws of the count by the answers of the code: each result that the code reads is given by an equation.
-use Prim.Native.Nat.{ℕ, zero, suc, ◌+◌, ◌*◌, ◌-◌, ◌≤◌, ◌<◌}
+use Prim.Native.Nat.{ℕ, ◌+◌, ◌*◌, ◌-◌, ◌≤◌, ◌<◌}
 use mathlib.Core.Path.{◌≡◌, refl, sym, ap, ap₂, ◌∙◌}
 use mathlib.Core.Bool.{Bool, true}
 use mathlib.Core.List.{List, [], ◌∷◌}
 use native.Mathlib.Omega.{arith}
 use lib.ListN.{length}
 use Rattle.sheet.specs.Limits.{max_depth}
-use Rattle.sheet.specs.Node.{count, child, next}
+use Rattle.sheet.specs.Node.{count, child}
 use Rattle.sheet.specs.Rest.{rest}
 use Rattle.sheet.specs.Walk.{skip, sibling_list}
 use Rattle.sheet.specs.declared.Siblings.{Siblings}

@@ -8,6 +8,8 @@ use lib.Dec.{leb, eqb}
 use borrow.Author.Tests.{eqb-true}
 use Rattle.sheet.specs.Limits.{max_depth}
 use Rattle.sheet.specs.Node.{kind, field_b, field_c, count, child, next}
+use Rattle.sheet.specs.Namespace.{role}
+use Rattle.sheet.proofs.NamespaceLaws.{role-kind}
 use Rattle.sheet.specs.Walk.{skip}
 use Rattle.lowering.specs.Kinds.{variable_kind, this_kind}
 use Rattle.lowering.specs.Call.{CallRule, call_rule}
@@ -22,7 +24,7 @@ use Rattle.expr_count.specs.declared.links.Link.{Link}
 use Rattle.expr_count.specs.declared.links.Link.TheVariants.{Lowers, Fails, Nowhere}
 use Rattle.expr_count.specs.Tally.{counted, instructions, nothing, plus, taken_back}
 use Rattle.expr_count.specs.Locals.{is_local, variable_by, first_by, receiver_by}
-use Rattle.expr_count.specs.Plan.{other_args, rotates, call_by, fn_call_by, fn_call, plan_by, plan}
+use Rattle.expr_count.specs.Plan.{other_args, moves, call_by, fn_call_by, fn_call, plan_by, plan}
 use Rattle.expr_count.specs.Link.{link, least, temporary}
 use Rattle.expr_count.specs.Count.{Rec, siblings, coalesce, walk_on, walk, chain_by, chain, follow, tally_by, tally}
 
@@ -110,8 +112,8 @@ module _ (here there : ℕ → Bool) (s : List ℕ) (more : More s here there) (
   stays : (p : Plan) → Falls p p
   stays p = below-refl (follow p s u j)
 
-  -- CallRef in place of LoadNamed, Rotate, CallRef
-  one-falls : Falls (other_args s j 1) (other_args s j (2 + rotates (count s j - 1)))
+  -- CallRef in place of LoadNamed, Rotate if need be, CallRef
+  one-falls : Falls (other_args s j 1) (other_args s j (2 + moves s j))
   unfolding other_args follow
   one-falls = below-plus (below-refl (siblings s u 0 (count s j - 1) (next s (child j)))) (fewer (omega arith))
 
@@ -123,16 +125,16 @@ module _ (here there : ℕ → Bool) (s : List ℕ) (more : More s here there) (
       by true true e f = rw (e, f, variable_by) (stays (other_args s j 1))
       by true false e f = absurd (true≢false (sym (more.each v is e) ∙ f))
       by false true e f = rw (e, f, variable_by) one-falls
-      by false false e f = rw (e, f, variable_by) (stays (other_args s j (2 + rotates (count s j - 1))))
+      by false false e f = rw (e, f, variable_by) (stays (other_args s j (2 + moves s j)))
 
   first-falls : (v : ℕ) → Falls (call_by (first_by there s v) s j) (call_by (first_by here s v) s j)
   unfolding first_by
-  first-falls v = by (eqb (kind s v) this_kind) (eqb (kind s v) variable_kind) refl refl
+  first-falls v = by (eqb (role s v) this_kind) (eqb (role s v) variable_kind) refl refl
     where
-      by : (a b : Bool) → eqb (kind s v) this_kind ≡ a → eqb (kind s v) variable_kind ≡ b
+      by : (a b : Bool) → eqb (role s v) this_kind ≡ a → eqb (role s v) variable_kind ≡ b
           → Falls (call_by (first_by there s v) s j) (call_by (first_by here s v) s j)
       by true b e f = rw (e, first_by) (stays (call_by Call.this s j))
-      by false true e f = rw (e, f, first_by) (variable-falls v (eqb-true (kind s v) variable_kind f))
+      by false true e f = rw (e, f, first_by) (variable-falls v (role-kind s v (eqb-true (role s v) variable_kind f) (omega arith)))
       by false false e f = rw (e, f, first_by) (stays (call_by Call.value s j))
 
   receiver-falls : Falls (call_by (receiver_by there s j) s j) (call_by (receiver_by here s j) s j)

@@ -7,21 +7,26 @@ use native.Mathlib.Omega.{arith}
 use lib.Dec.{eqb}
 use lib.ListN.{length}
 use Rattle.sheet.specs.Node.{field_a, field_b, field_c, count, position, child, next}
+use Rattle.sheet.specs.Namespace.{qualified}
 use Rattle.bytecode.specs.declared.Receiver.{Receiver}
 use Rattle.bytecode.specs.declared.Receiver.TheVariants.{Local, Named, This}
+use Rattle.bytecode.specs.declared.Op.{Op}
 use Rattle.bytecode.specs.declared.Op.TheVariants.{LoadNamed, LoadThis, Call, CallRef, MakeFnPtr, CallFnPtr}
 use Rattle.lowering.specs.Code.{ins}
-use Rattle.lowering.specs.Pools.{Pools, emits, defeat, name, name_at, push_name, token_at, push_token}
+use Rattle.lowering.specs.Pools.{Pools, emits, defeat, name, own_name, name_at, push_name, token_at, push_token}
 use Rattle.lowering.specs.Out.{Out, out, Rec, and_then, residual_expr}
 use Rattle.lowering.specs.Operands.{operands}
 use Rattle.lowering.specs.Call.{CallRule, First, call_rule, receiver, other_args, call_ref, call_local, call_this, call_named, rotate}
 use Rattle.lowering.specs.Call.{stores_token, call_as, call_token, call_values, lower_call_by, make_fn_ptr, call_fn_ptr, fn_call_by, fn_call}
+use Rattle.lowering.specs.Call.{ref_at, loaded_args, qualified_local, qualified_this, qualified_named, qualified_values, lower_qualified_by}
+use Rattle.lowering.specs.Call.{lower_qualified, lower_call}
 use Rattle.lowering.specs.Call as Call
 use Rattle.expr_count.specs.declared.tallies.Tally.{Tally}
 use Rattle.expr_count.specs.Tally.{instructions, evaluation, plus}
 use Rattle.expr_count.proofs.TallyLaws.{tally-path, around}
 use Rattle.expr_count.specs.Locals.{is_local}
 use Rattle.expr_count.proofs.LocalLaws.{call_same}
+use Rattle.expr_count.proofs.PlanLaws.{moves-none, moves-plain}
 use Rattle.expr_count.specs.Plan as Plan
 use Rattle.expr_count.specs.Count.{siblings, follow}
 use Rattle.expr_count.specs.Count as Count
@@ -46,7 +51,7 @@ ref-adds s j r d o h =
     let n = name (field_a s j) 0 in
     let i = name_at s n o.pools in
     then-adds (out o.code (push_name s n o.pools)) (ins (CallRef i (count s j) r) d (position s j) ∷ [])
-    (adds-into (name-alike s (field_a s j) 0 o.pools) h)
+    (adds-into (name-alike s (name (field_a s j) 0) o.pools) h)
 
 as-adds : (s : List ℕ) (j op capture d : ℕ) {p : Pools} {t : Tally} (o : Out) → OutAdds p t o
     → OutAdds p (plus t (instructions 1)) (call_as s j op capture d o)
@@ -55,7 +60,7 @@ as-adds s j op capture d o h =
     let n = name (field_a s j) capture in
     let i = name_at s n o.pools in
     then-adds (out o.code (push_name s n o.pools)) (ins (Call i (count s j) op capture) (d + count s j) (position s j) ∷ [])
-    (adds-into (name-alike s (field_a s j) capture o.pools) h)
+    (adds-into (name-alike s (name (field_a s j) capture) o.pools) h)
 
 token-adds : (s : List ℕ) (j d : ℕ) {p : Pools} {t : Tally} (o : Out) → OutAdds p t o
     → OutAdds p (plus t (instructions 1)) (call_token s j d o)
@@ -76,6 +81,36 @@ module _ (s : List ℕ) (rec : Rec) (t : Count.Rec) (C : Counts rec t) (j : ℕ)
   others-add : (b d : ℕ) (p : Pools) → OutAdds p (siblings s t 0 (count s j - 1) (next s (child j))) (other_args s rec j b d p)
   unfolding other_args
   others-add b d p = operands-add s rec t C (count s j - 1) (next s (child j)) b d p
+
+  -- a call with a namespace, whose name is at place i: the receiver is loaded first
+  at-adds : (i : ℕ) (r : Receiver) (d : ℕ) {p : Pools} {u : Tally} (o : Out) → OutAdds p u o
+      → OutAdds p (plus u (instructions 1)) (ref_at i s j r d o)
+  unfolding ref_at
+  at-adds i r d o h = then-adds o (ins (CallRef i (count s j) r) d (position s j) ∷ []) h
+
+  loaded-adds : (load : Op) (b d : ℕ) (p : Pools)
+      → OutAdds p (plus (instructions 1) (siblings s t 0 (count s j - 1) (next s (child j)))) (loaded_args load s rec j b d p)
+  unfolding loaded_args
+  loaded-adds load b d p = adds-length (omega arith) (adds-seq (adds-emits 1 p) (others-add (b + 1) (suc d) (emits 1 p)))
+
+  by-qualified : (f : First) (i b d : ℕ) (p : Pools) → qualified s j ≡ true
+      → OutAdds p (follow (Plan.call_by f s j) s t j) (lower_qualified_by f i s rec j b d p)
+  unfolding Plan.call_by Plan.other_args Plan.all_args follow lower_qualified_by qualified_local qualified_this qualified_named qualified_values
+  by-qualified (Call.local slot) i b d p q = at-adds i (Local slot) (d + (count s j - 1)) (other_args s rec j b d p) (others-add b d p)
+  by-qualified Call.named i b d p q =
+      let v = name (field_a s (child j)) 0 in
+      let k = name_at s v p in
+      let o = loaded_args (LoadNamed k) s rec j b d (push_name s v p) in
+      rw (moves-none s j q)
+      (adds-tally (around (siblings s t 0 (count s j - 1) (next s (child j))))
+      (at-adds i (Named k) (d + count s j) o (adds-from (name-alike s v p) (loaded-adds (LoadNamed k) b d (push_name s v p)))))
+  by-qualified Call.this i b d p q =
+      adds-tally (around (siblings s t 0 (count s j - 1) (next s (child j))))
+      (at-adds i This (d + count s j) (loaded_args LoadThis s rec j b d p) (loaded-adds LoadThis b d p))
+  by-qualified Call.value i b d p q =
+      then-adds (operands s rec (count s j) (child j) b d p)
+      (ins (Call i (count s j) 0 (field_b s j)) (d + count s j) (position s j) ∷ [])
+      (operands-add s rec t C (count s j) (child j) b d p)
 
   module _ (b d : ℕ) (p : Pools) where
     make-adds : OutAdds p (follow (Plan.make_fn_ptr j) s t j) (make_fn_ptr s rec j b d p)
@@ -113,7 +148,7 @@ module _ (s : List ℕ) (rec : Rec) (t : Count.Rec) (C : Counts rec t) (j : ℕ)
         let l : length load + 1 ≡ 2 + Plan.rotates others = omega (arith, rotate-length others (d + count s j)) in
         adds-tally (more-instructions u (length load) 1 ∙ ap (λ n. plus u (instructions n)) l)
         (ref-adds s j (Named i) (d + count s j) (and_then o load)
-        (then-adds o load (adds-from (name-alike s (field_a s (child j)) 0 p) (others-add b d (push_name s v p)))))
+        (then-adds o load (adds-from (name-alike s (name (field_a s (child j)) 0) p) (others-add b d (push_name s v p)))))
 
     values-token : stores_token s j ≡ true → OutAdds p (follow (Plan.all_args s j) s t j) (call_values s rec j b d p)
     unfolding Plan.all_args call_values follow
@@ -140,18 +175,29 @@ module _ (s : List ℕ) (rec : Rec) (t : Count.Rec) (C : Counts rec t) (j : ℕ)
         let h = residual-adds j d (defeat p) in
         record { length-is = h.length-is; emitted-is = h.emitted-is; defeated-is = h.defeated-is ∙ sym (or-true p.defeated) }
 
-    by_first : (f : First) → OutAdds p (follow (Plan.call_by f s j) s t j) (lower_call_by f s rec j b d p)
+    by_first : (f : First) → qualified s j ≡ false → OutAdds p (follow (Plan.call_by f s j) s t j) (lower_call_by f s rec j b d p)
     unfolding Plan.call_by lower_call_by
-    by_first (Call.local slot) = local-adds slot
-    by_first Call.named = named-call-adds
-    by_first Call.this = this-call-adds
-    by_first Call.value = values-add
+    by_first (Call.local slot) q = local-adds slot
+    by_first Call.named q = rw (moves-plain s j q) named-call-adds
+    by_first Call.this q = this-call-adds
+    by_first Call.value q = values-add
+
+    -- with a namespace
+    lowerable-adds : OutAdds p (follow (Plan.call_by (receiver s j) s j) s t j) (lower_call s rec j b d p)
+    unfolding lower_call lower_qualified
+    lowerable-adds = by (qualified s j) refl
+      where
+        by : (x : Bool) → qualified s j ≡ x → OutAdds p (follow (Plan.call_by (receiver s j) s j) s t j) (lower_call s rec j b d p)
+        by true q =
+            let n = own_name s j (field_b s j) in
+            rw (q, lower_call) (adds-from (name-alike s n p) (by-qualified (receiver s j) (name_at s n p) b d (push_name s n p) q))
+        by false q = rw (q, lower_call) (by_first (receiver s j) q)
 
     by-call-rule : (r : CallRule) → OutAdds p (follow (Plan.fn_call_by (is_local s) r s j) s t j) (fn_call_by r s rec j b d p)
     unfolding Plan.fn_call_by fn_call_by
     by-call-rule Call.fn_ptr = make-adds
     by-call-rule Call.fn_ptr_call = pointer-adds
-    by-call-rule Call.lowerable = adds-tally (ap (λ q. follow q s t j) (sym (call_same s j))) (by_first (receiver s j))
+    by-call-rule Call.lowerable = adds-tally (ap (λ q. follow q s t j) (sym (call_same s j))) lowerable-adds
     by-call-rule Call.eval = alone-plan s t j eval-adds
     by-call-rule Call.residual = alone-plan s t j (residual-adds j d p)
 

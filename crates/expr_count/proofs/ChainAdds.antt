@@ -9,8 +9,9 @@ use native.Mathlib.Nat.{zero-add}
 use lib.Dec.{eqb}
 use lib.ListN.{length, length-append}
 use Rattle.sheet.specs.Limits.{max_depth}
-use Rattle.sheet.specs.Node.{kind, field_a, field_b, field_c, count, position, child}
+use Rattle.sheet.specs.Node.{field_a, field_b, field_c, count, position, child}
 use Rattle.sheet.specs.Text.{text}
+use Rattle.sheet.specs.Namespace.{role}
 use Rattle.bytecode.specs.declared.Root.{Root}
 use Rattle.bytecode.specs.declared.Step.{Step}
 use Rattle.bytecode.specs.declared.Op.TheVariants as Op
@@ -66,8 +67,8 @@ module _ (s : List ℕ) (rec : Rec) (t : Count.Rec) (C : Counts rec t) (c n b d 
       let p₁ = push_name s (name (field_a s x) 0) p in
       let p₂ = push_name s (name (field_b s x) 0) p₁ in
       let p₃ = push_name s (name (field_c s x) 0) p₂ in
-      adds-from (name-alike s (field_a s x) 0 p)
-      (adds-from (name-alike s (field_b s x) 0 p₁) (adds-from (name-alike s (field_c s x) 0 p₂) (adds_none p₃)))
+      adds-from (name-alike s (name (field_a s x) 0) p)
+      (adds-from (name-alike s (name (field_b s x) 0) p₁) (adds-from (name-alike s (name (field_c s x) 0) p₂) (adds_none p₃)))
 
   method-lowers : is_lowerable_method s (operand_of s c) ≡ true
       → StepAdds s t p (link_by Flatten.method s (operand_of s c)) (method_step s rec c n b d p)
@@ -75,7 +76,7 @@ module _ (s : List ℕ) (rec : Rec) (t : Count.Rec) (C : Counts rec t) (c n b d 
   method-lowers h =
       let x = operand_of s c in
       let o = operands s rec (count s x) (child x) b d p in
-      rw (h, link_by, method_step) (adds-into (name-alike s (field_a s x) 0 o.pools) (operands-add s rec t C (count s x) (child x) b d p))
+      rw (h, link_by, method_step) (adds-into (name-alike s (name (field_a s x) 0) o.pools) (operands-add s rec t C (count s x) (child x) b d p))
 
   method-fails : is_lowerable_method s (operand_of s c) ≡ false
       → StepAdds s t p (link_by Flatten.method s (operand_of s c)) (method_step s rec c n b d p)
@@ -165,10 +166,10 @@ chain-alike root xs n p = by (eqb (chain_at root xs n p) (length p.chains)) refl
 
 root_alike : (s : List ℕ) (v : ℕ) (p : Pools) → Alike p (root_pools s v p)
 unfolding root_pools
-root_alike s v p = by (eqb (kind s v) variable_kind) refl
+root_alike s v p = by (eqb (role s v) variable_kind) refl
   where
-    by : (l : Bool) → eqb (kind s v) variable_kind ≡ l → Alike p (root_pools s v p)
-    by true e = rw (e, root_pools) (name-alike s (field_a s v) 0 p)
+    by : (l : Bool) → eqb (role s v) variable_kind ≡ l → Alike p (root_pools s v p)
+    by true e = rw (e, root_pools) (name-alike s (name (field_a s v) 0) p)
     by false e = rw (e, root_pools) (alike_refl p)
 
 module _ (s : List ℕ) (rec : Rec) (t : Count.Rec) (C : Counts rec t) where
@@ -182,9 +183,9 @@ module _ (s : List ℕ) (rec : Rec) (t : Count.Rec) (C : Counts rec t) where
 
   root-adds : (v b d : ℕ) (p q : Pools) → OutAdds q (siblings s t 0 (temporary s v) v) (root_code rec (root_of s v p) v b d q)
   unfolding temporary root_of root_code siblings
-  root-adds v b d p q = by (eqb (kind s v) variable_kind) (eqb (kind s v) this_kind) refl refl
+  root-adds v b d p q = by (eqb (role s v) variable_kind) (eqb (role s v) this_kind) refl refl
     where
-      by : (l m : Bool) → eqb (kind s v) variable_kind ≡ l → eqb (kind s v) this_kind ≡ m
+      by : (l m : Bool) → eqb (role s v) variable_kind ≡ l → eqb (role s v) this_kind ≡ m
           → OutAdds q (siblings s t 0 (temporary s v) v) (root_code rec (root_of s v p) v b d q)
       by true m e f = rw (e, temporary, root_of) (variable-root v b d p q)
       by false true e f = rw (e, f, temporary, root_of) (adds_none q)

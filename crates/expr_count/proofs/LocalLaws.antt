@@ -9,8 +9,9 @@ use lib.ListN.{get_or}
 use borrow.Author.Tests.{eq-eqb, ne_eqb, lt-ltb, le-ltb}
 use native.Mathlib.Omega.{arith}
 use Rattle.sheet.specs.Sections.{node_count}
-use Rattle.sheet.specs.Node.{kind, field_a, field_b, field_c, count, child}
+use Rattle.sheet.specs.Node.{field_a, field_b, field_c, count, child}
 use Rattle.sheet.specs.Text.{text}
+use Rattle.sheet.specs.Namespace.{role}
 use Rattle.lowering.specs.Kinds.{variable_kind, this_kind}
 use Rattle.lowering.specs.Slots.{resolve}
 use Rattle.lowering.specs.Call as Call
@@ -37,9 +38,9 @@ module _ (s : List ℕ) (j : ℕ) where
 
   first-same : (v : ℕ) → call_by (first_by (is_local s) s v) s j ≡ call_by (Call.first_of s v) s j
   unfolding first_by Call.first_of
-  first-same v = by (eqb (kind s v) this_kind) (eqb (kind s v) variable_kind) refl refl
+  first-same v = by (eqb (role s v) this_kind) (eqb (role s v) variable_kind) refl refl
     where
-      by : (l m : Bool) → eqb (kind s v) this_kind ≡ l → eqb (kind s v) variable_kind ≡ m
+      by : (l m : Bool) → eqb (role s v) this_kind ≡ l → eqb (role s v) variable_kind ≡ m
           → call_by (first_by (is_local s) s v) s j ≡ call_by (Call.first_of s v) s j
       by true m e f = rw (e, first_by, Call.first_of)
       by false true e f = rw (e, f, first_by, Call.first_of) (variable-same v)
@@ -85,17 +86,17 @@ module _ (here : ℕ → Bool) (s : List ℕ) (j : ℕ) where
   unfolding variable_by first_of
   variable-named h = rw (h, variable_by)
 
-  pub first-this : kind s j ≡ 10 → Firsts.TheVariants.This ≡ first_of (first_by here s j)
+  pub first-this : role s j ≡ 10 → Firsts.TheVariants.This ≡ first_of (first_by here s j)
   unfolding first_by first_of
-  first-this h = rw (eq-eqb (kind s j) 10 h, first_by)
+  first-this h = rw (eq-eqb (role s j) 10 h, first_by)
 
-  pub first-variable : kind s j ≡ 9 → first_by here s j ≡ variable_by here j
+  pub first-variable : role s j ≡ 9 → first_by here s j ≡ variable_by here j
   unfolding first_by
-  first-variable h = rw (ne_eqb (kind s j) 10 (λ e. omega (arith, e, h)), eq-eqb (kind s j) 9 h, first_by)
+  first-variable h = rw (ne_eqb (role s j) 10 (λ e. omega (arith, e, h)), eq-eqb (role s j) 9 h, first_by)
 
-  pub first-value : (kind s j ≡ 10 → ⊥) → (kind s j ≡ 9 → ⊥) → Firsts.TheVariants.Value ≡ first_of (first_by here s j)
+  pub first-value : (role s j ≡ 10 → ⊥) → (role s j ≡ 9 → ⊥) → Firsts.TheVariants.Value ≡ first_of (first_by here s j)
   unfolding first_by first_of
-  first-value h i = rw (ne_eqb (kind s j) 10 h, ne_eqb (kind s j) 9 i, first_by)
+  first-value h i = rw (ne_eqb (role s j) 10 h, ne_eqb (role s j) 9 i, first_by)
 
   abbrev asked : Bool
   asked = eqb (field_c s j) 0 && eqb (field_b s j) 0 && leb 1 (count s j)

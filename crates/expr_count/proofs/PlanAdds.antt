@@ -9,14 +9,15 @@ use lib.Dec.{leb}
 use lib.ListN.{length, length-append}
 use Rattle.lowering.proofs.SoundCoalesce.{skipped-length}
 use Rattle.lowering.proofs.SoundShortCircuit.{decided-length}
-use Rattle.sheet.specs.Node.{field_a, count, position, child}
+use Rattle.sheet.specs.Node.{field_a, count, position, child, namespace_pos}
 use Rattle.sheet.specs.Text.{text}
+use Rattle.sheet.specs.Namespace.{qualified}
 use Rattle.sheet.specs.Walk.{skip}
 use Rattle.bytecode.specs.declared.Op.{Op}
 use Rattle.bytecode.specs.declared.Op.TheVariants.{MakeArray, InterpolateStart, InterpolateEnd}
 use Rattle.lowering.specs.Limits.{max_elements}
 use Rattle.lowering.specs.Code.{Code, ins, no_pos}
-use Rattle.lowering.specs.Pools.{Pools, const_of, emits, push_const, name, push_name, push_residual}
+use Rattle.lowering.specs.Pools.{Pools, Name, const_of, emits, push_const, name, own_name, push_name, push_residual}
 use Rattle.lowering.specs.Out.{Out, out, Rec, and_then, emit_at, residual_expr}
 use Rattle.lowering.specs.Slots.{resolve}
 use Rattle.lowering.specs.Leaf as Leaf
@@ -41,9 +42,9 @@ const-alike : (s : List ℕ) (j : ℕ) (p : Pools) → Alike p (push_const s (co
 unfolding push_const
 const-alike s j p = record { emitted-same = refl; defeated-same = refl }
 
-pub name-alike : (s : List ℕ) (text mark : ℕ) (p : Pools) → Alike p (push_name s (name text mark) p)
+pub name-alike : (s : List ℕ) (n : Name) (p : Pools) → Alike p (push_name s n p)
 unfolding push_name
-name-alike s text mark p = record { emitted-same = refl; defeated-same = refl }
+name-alike s n p = record { emitted-same = refl; defeated-same = refl }
 
 residual-alike : (j : ℕ) (p : Pools) → Alike p (push_residual j p)
 unfolding push_residual
@@ -89,15 +90,29 @@ module _ (s : List ℕ) (t : Count.Rec) (j d : ℕ) (p : Pools) where
 
   named-adds : OutAdds p (instructions 1) (Leaf.load_named s j d p)
   unfolding Leaf.load_named
-  named-adds = adds-from (name-alike s (field_a s j) 0 p) (emit-adds _ (position s j) d (push_name s (name (field_a s j) 0) p))
+  named-adds = adds-from (name-alike s (name (field_a s j) 0) p) (emit-adds _ (position s j) d (push_name s (name (field_a s j) 0) p))
+
+  plain-adds : OutAdds p (follow Plan.one s t j) (Leaf.load_plain s j d p)
+  unfolding Leaf.load_plain
+  plain-adds = by (resolve s (text s (field_a s j))) refl
+    where
+      by : (f : Option ℕ) → resolve s (text s (field_a s j)) ≡ f → OutAdds p (follow Plan.one s t j) (Leaf.load_plain s j d p)
+      by (some slot) e = rw (e, Leaf.load_plain) (alone-plan s t j (emit-adds _ no_pos d p))
+      by none e = rw (e, Leaf.load_plain) (alone-plan s t j named-adds)
+
+  qualified-adds : OutAdds p (follow Plan.one s t j) (Leaf.load_qualified s j d p)
+  unfolding Leaf.load_qualified
+  qualified-adds =
+      let n = own_name s j 0 in
+      alone-plan s t j (adds-from (name-alike s n p) (emit-adds _ (namespace_pos s j) d (push_name s n p)))
 
   pub variable-adds : OutAdds p (follow Plan.one s t j) (Leaf.variable s j d p)
   unfolding Leaf.variable
-  variable-adds = by (resolve s (text s (field_a s j))) refl
+  variable-adds = by (qualified s j) refl
     where
-      by : (f : Option ℕ) → resolve s (text s (field_a s j)) ≡ f → OutAdds p (follow Plan.one s t j) (Leaf.variable s j d p)
-      by (some slot) e = rw (e, Leaf.variable) (alone-plan s t j (emit-adds _ no_pos d p))
-      by none e = rw (e, Leaf.variable) (alone-plan s t j named-adds)
+      by : (q : Bool) → qualified s j ≡ q → OutAdds p (follow Plan.one s t j) (Leaf.variable s j d p)
+      by true e = rw (e, Leaf.variable) qualified-adds
+      by false e = rw (e, Leaf.variable) plain-adds
 
 module _ (s : List ℕ) (rec : Rec) (t : Count.Rec) (C : Counts rec t) (j b d : ℕ) (p : Pools) where
   -- ---- Array

@@ -1,5 +1,5 @@
 -- Laws of plans and links, in the shapes of the code: what is counted, by the code's name of the rule.
-use Prim.Native.Nat.{ℕ, zero, suc, ◌≤◌, ◌<◌}
+use Prim.Native.Nat.{ℕ, zero, suc, ◌-◌, ◌≤◌, ◌<◌}
 use mathlib.Core.Path.{◌≡◌, refl, sym, ap, ◌∙◌}
 use mathlib.Core.Bool.{Bool, true, false, ◌&&◌, not, false≢true}
 use mir.Val.{bool_byte}
@@ -9,6 +9,7 @@ use lib.Dec.{eqb}
 use lib.ListN.{get_or}
 use borrow.Author.Tests.{ne_eqb, le-leb, lt-leb}
 use Rattle.sheet.specs.Node.{kind, count}
+use Rattle.sheet.specs.Namespace.{qualified, role}
 use Rattle.lowering.specs.Limits.{max_elements}
 use Rattle.lowering.specs.Call.{call_rule}
 use Rattle.lowering.specs.Expression.{rules, rule, residual}
@@ -27,7 +28,7 @@ use Rattle.expr_count.specs.declared.links.Link.TheVariants.{Lowers, Fails}
 use Rattle.expr_count.specs.Tally.{instructions}
 use Rattle.expr_count.specs.Locals.{receiver_by}
 use Rattle.expr_count.specs.Operands.{all}
-use Rattle.expr_count.specs.Plan.{one, is_leaf, array, rotates, call_by, fn_call_by, fn_call, plan_by, plan}
+use Rattle.expr_count.specs.Plan.{one, is_leaf, array, rotates, moves, call_by, fn_call_by, fn_call, plan_by, plan}
 use Rattle.expr_count.specs.Link.{link_by, link, temporary}
 
 leaf-large : (k : ℕ) → 10 < k → is_leaf k ≡ false
@@ -91,11 +92,11 @@ module _ (s : List ℕ) (j : ℕ) where
   method-fails h = rw (h, link_by)
 
   -- a root that is no variable and not `this`, as the code has it
-  pub root-lowered : bool_byte (not (eqb (kind s j) 9) && not (eqb (kind s j) 10)) ≡ temporary s j
+  pub root-lowered : bool_byte (not (eqb (role s j) 9) && not (eqb (role s j) 10)) ≡ temporary s j
   unfolding temporary
-  root-lowered = by (eqb (kind s j) 9) (eqb (kind s j) 10) refl refl
+  root-lowered = by (eqb (role s j) 9) (eqb (role s j) 10) refl refl
     where
-      by : (a b : Bool) → eqb (kind s j) 9 ≡ a → eqb (kind s j) 10 ≡ b → bool_byte (not (eqb (kind s j) 9) && not (eqb (kind s j) 10)) ≡ temporary s j
+      by : (a b : Bool) → eqb (role s j) 9 ≡ a → eqb (role s j) 10 ≡ b → bool_byte (not (eqb (role s j) 9) && not (eqb (role s j) 10)) ≡ temporary s j
       by true b e f = rw (e, temporary)
       by false true e f = rw (e, f, temporary)
       by false false e f = rw (e, f, temporary)
@@ -117,3 +118,19 @@ rotates-least others = by (eqb others 0) refl
     by : (t : Bool) → eqb others 0 ≡ t → rotates others ≤ 1
     by true e = rw (e, rotates) (omega arith)
     by false e = rw (e, rotates) (omega arith)
+
+-- with a namespace nothing is moved
+pub moves-none : (s : List ℕ) (j : ℕ) → qualified s j ≡ true → moves s j ≡ 0
+unfolding moves
+moves-none s j h = rw (h, moves)
+
+pub moves-plain : (s : List ℕ) (j : ℕ) → qualified s j ≡ false → moves s j ≡ rotates (count s j - 1)
+unfolding moves
+moves-plain s j h = rw (h, moves)
+
+pub moves-least : (s : List ℕ) (j : ℕ) → moves s j ≤ 1
+moves-least s j = by (qualified s j) refl
+  where
+    by : (t : Bool) → qualified s j ≡ t → moves s j ≤ 1
+    by true h = let e = moves-none s j h in omega arith
+    by false h = let e = moves-plain s j h in let l = rotates-least (count s j - 1) in omega arith

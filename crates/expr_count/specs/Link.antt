@@ -1,6 +1,7 @@
 -- What of a chain's link is counted: the operands of its step.
 use Rattle.std.specs.Prelude.{ℕ, min, Bool, true, false, ◌&&◌, List, [], ◌∷◌, eqb}
 use Rattle.sheet.specs.Node.{kind, child}
+use Rattle.sheet.specs.Namespace.{role}
 use Rattle.lowering.specs.Kinds.{variable_kind, this_kind, property_kind, dot_kind}
 use Rattle.lowering.specs.Flatten.{rest_of, goes_on, operand_of, StepRule, index, property, method, none, step_rule}
 use Rattle.lowering.specs.Steps.{is_lowerable_method}
@@ -40,7 +41,7 @@ least s (c ∷ cs) = min (grade (link s c)) (least s cs)
 -- 1 for a root that is lowered
 unfoldable pub temporary : List ℕ → ℕ → ℕ
 temporary s v =
-    elim (eqb (kind s v) variable_kind) [ true ↦ 0 | false ↦ elim (eqb (kind s v) this_kind) [ true ↦ 0 | false ↦ 1 ] ]
+    elim (eqb (role s v) variable_kind) [ true ↦ 0 | false ↦ elim (eqb (role s v) this_kind) [ true ↦ 0 | false ↦ 1 ] ]
 
 -- chain j is one Property of a variable or of `this`: no operand, and no root that is lowered
 unfoldable pub is_plain : List ℕ → ℕ → Bool

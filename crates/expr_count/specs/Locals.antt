@@ -3,8 +3,9 @@
 use Rattle.std.specs.Prelude.{ℕ, ◌*◌, Bool, true, false, ◌&&◌, not, List, leb, ltb, eqb, get_or}
 use Rattle.std.proofs.Math.Option.{none, some}
 use Rattle.sheet.specs.Sections.{node_count}
-use Rattle.sheet.specs.Node.{kind, field_a, field_b, field_c, count, child}
+use Rattle.sheet.specs.Node.{field_a, field_b, field_c, count, child}
 use Rattle.sheet.specs.Text.{text}
+use Rattle.sheet.specs.Namespace.{role}
 use Rattle.lowering.specs.Kinds.{variable_kind, this_kind}
 use Rattle.lowering.specs.Slots.{resolve}
 use Rattle.expr_count.specs.declared.locals.Locals.{Locals}
@@ -32,9 +33,9 @@ variable_by here v = elim (here v) [ true ↦ local 0 | false ↦ named ]
 
 unfoldable pub first_by : (ℕ → Bool) → List ℕ → ℕ → First
 first_by here s v =
-    elim (eqb (kind s v) this_kind) [
+    elim (eqb (role s v) this_kind) [
       | true ↦ this
-      | false ↦ elim (eqb (kind s v) variable_kind) [ true ↦ variable_by here v | false ↦ value ]
+      | false ↦ elim (eqb (role s v) variable_kind) [ true ↦ variable_by here v | false ↦ value ]
     ]
 
 -- the receiver of call j

@@ -3,6 +3,7 @@
 -- Variable whether it is a local.
 use Rattle.std.specs.Prelude.{ℕ, ◌+◌, ◌-◌, Bool, true, false, ◌&&◌, ◌||◌, List, leb, eqb}
 use Rattle.sheet.specs.Node.{count, child}
+use Rattle.sheet.specs.Namespace.{qualified}
 use Rattle.lowering.specs.Limits.{max_elements}
 use Rattle.lowering.specs.Call.{CallRule, fn_ptr, fn_ptr_call, lowerable, eval, call_rule, First, local, named}
 use Rattle.lowering.specs.Call as Call
@@ -64,10 +65,14 @@ other_args s j n = parts 0 (others s j) n
 unfoldable pub rotates : ℕ → ℕ
 rotates others = elim (eqb others 0) [ true ↦ 0 | false ↦ 1 ]
 
+-- in call j: with a namespace it is loaded before them, and not moved
+unfoldable pub moves : List ℕ → ℕ → ℕ
+moves s j = elim (qualified s j) [ true ↦ 0 | false ↦ rotates (count s j - 1) ]
+
 -- CallRef; LoadNamed, Rotate, CallRef; LoadThis, CallRef; Call
 unfoldable pub call_by : First → List ℕ → ℕ → Plan
 call_by (local slot) s j = other_args s j 1
-call_by named s j = other_args s j (2 + rotates (count s j - 1))
+call_by named s j = other_args s j (2 + moves s j)
 call_by Call.this s j = other_args s j 2
 call_by Call.value s j = all_args s j
 

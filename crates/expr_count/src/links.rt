@@ -7,7 +7,7 @@ ghost use Rattle.expr_count.specs.Link as linked;
 use crate::operands::Operands;
 use expr_rules::chains::{Read, StepRule, goes_on, is_lowerable_method, rest_of};
 use sheet::kinds::{DOT, PROPERTY, THIS, VARIABLE};
-use sheet::{child, kind};
+use sheet::{child, kind, role};
 
 // The operands of a link's step; a method that does not lower; no step at all.
 // Kept: not a Result. `Result<_, Distance>` would have `Whole` as an error, which no link has; an enum of the two others would be one more,
@@ -48,7 +48,7 @@ pub fn link_with(sheet: &[u8], p: Read) -> Link
 pub fn temporary(sheet: &[u8], v: u32) -> u32
     ensures { result ≡ linked.temporary sheet.now v }
 {
-    let k = kind(sheet, v);
+    let k = role(sheet, v);
     u32::from((k != VARIABLE) & (k != THIS))
 }
 

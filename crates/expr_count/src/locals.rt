@@ -7,7 +7,7 @@ ghost use Rattle.expr_count.specs.Locals as locals;
 use expr_rules::calls::{First, receiver_node};
 use scratch::get;
 use sheet::kinds::{THIS, VARIABLE};
-use sheet::{field_a, kind, node_count};
+use sheet::{field_a, node_count, role};
 
 // Which Variables are locals: each name is looked up; all are; none is; or word 2 `v` tells it of Variable `v`, where `v` is a node, and 0
 // is no local.
@@ -77,7 +77,7 @@ impl<'a> Count<'a> {
             let sheet = it.sheet.now in
             result ≡ first_of (locals.first_by (locals.answer it.told sheet) sheet v) }
     {
-        match kind(self.sheet, v) {
+        match role(self.sheet, v) {
             THIS => First::This,
             VARIABLE => self.variable(v),
             _ => First::Value,

@@ -11,7 +11,7 @@ use expr_rules::kinds::Rule;
 use expr_rules::rule;
 use lowering::MAX_ELEMENTS;
 use sheet::kinds::{BOOL, STRING, THIS, VARIABLE};
-use sheet::{child, count};
+use sheet::{child, count, namespace};
 
 // Operands, each with `gap` instructions behind it, and `rest` besides; or a construct with a rule of its own.
 #[derive(Clone, Copy)]
@@ -81,6 +81,17 @@ fn rotates(others: u32) -> u32
     u32::from(others != 0)
 }
 
+// How often it is moved in call `j`: with a namespace it is loaded before the other arguments.
+#[tactic(auto, unfolding(crate::specs::Plan::moves))]
+fn moves(sheet: &[u8], j: u32) -> u32
+    ensures { result ≡ plans.moves sheet.now j }
+{
+    if namespace(sheet, j) != 0 {
+        return 0;
+    }
+    rotates(count(sheet, j).saturating_sub(1))
+}
+
 impl<'a> Count<'a> {
     // A call through its receiver: CallRef; LoadNamed, Rotate, CallRef; LoadThis, CallRef; or Call.
     // Kept: a match on the receiver. Each arm is one plan; closures for them would be chosen by the same match.
@@ -91,11 +102,7 @@ impl<'a> Count<'a> {
     {
         match self.receiver(j) {
             First::Local(_) => others(self.sheet, j, 1),
-            First::Named => others(
-                self.sheet,
-                j,
-                2 + rotates(count(self.sheet, j).saturating_sub(1)),
-            ),
+            First::Named => others(self.sheet, j, 2 + moves(self.sheet, j)),
             First::This => others(self.sheet, j, 2),
             First::Value => operands(self.sheet, j, 0, 1),
         }

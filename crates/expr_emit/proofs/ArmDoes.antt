@@ -34,10 +34,10 @@ use Rattle.scratch_store.specs.Holds.{Holds}
 use Rattle.scratch_store.specs.Does.{Fits, Does}
 use Rattle.scratch_store.proofs.DoesLaws.{does-same}
 use Rattle.scratch_keys.specs.Used.{ConstKey, NameKey}
-use Rattle.expr_emit.specs.Plain.{Plain}
+use Rattle.expr_emit.specs.Plain.{Unmarked}
 use Rattle.expr_emit.specs.Linked.{Linked}
 use Rattle.expr_emit.proofs.KeyFacts.{variable-kind, const-key, chain-key, own_key}
-use Rattle.expr_emit.proofs.StepDoes.{other_name}
+use Rattle.expr_emit.proofs.WayLaws.{unmarked-variable}
 use Rattle.expr_emit.proofs.Doing.{does_at}
 use Rattle.expr_emit.proofs.CycleMore.{does-as}
 
@@ -64,13 +64,13 @@ module _ {s : List ℕ} {l : Layout} {xs ys : List ℕ} {st r : State} (levels j
       let is = sym by-is ∙ e in
       does-same (lowered levels s j) (λ a g. lowered-constant levels s j a some is) (d (const-key s j v is))
 
-  pub arm-variable : Valid s j → by ≡ Kinds.TheVariants.Variable → (Plain s j → NameKey s (key_of j 0) → Does s l xs st ys r (variable s j))
+  pub arm-variable : Valid s j → by ≡ Kinds.TheVariants.Variable → (Unmarked s j → NameKey s (key_of j 0) → Does s l xs st ys r (variable s j))
       → Does s l xs st ys r (lowered levels s j)
   arm-variable v e d =
       let is = sym by-is ∙ e in
       let k = variable-kind s j is in
       does-same (lowered levels s j) (λ a g. lowered-variable levels s j a some is)
-      (d (other_name s j (λ z. omega arith)) (own_key s j v (omega arith)))
+      (d (unmarked-variable s j k) (own_key s j v (omega arith)))
 
   pub arm-this : (pos : ℕ) → by ≡ Kinds.TheVariants.This → pos ≡ position s j → Does s l xs st ys r (emit Ops.LoadThis pos 0)
       → Does s l xs st ys r (lowered levels s j)

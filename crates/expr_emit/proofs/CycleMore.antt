@@ -32,6 +32,7 @@ use Rattle.scratch_store.specs.Does.{Fits, Growing, Does}
 use Rattle.scratch_store.proofs.DoesLaws.{does-seq, does-same}
 use Rattle.expr_emit.specs.declared.after.After.TheVariants.{Nothing, Decide, Unless}
 use Rattle.expr_emit.specs.declared.calls.Way.{Way}
+use Rattle.expr_emit.specs.declared.calls.Opened.{Opened}
 use Rattle.expr_emit.specs.Ways.{way_of, arg_count, first_arg, arguments, opened, opened_at, closed}
 use Rattle.expr_emit.specs.Decision.{decision}
 use Rattle.expr_emit.proofs.EndDoes.{decision-grows}
@@ -105,7 +106,7 @@ coalesce-does {s} {l} {xs} {ys} {zs} {st} {q} {r} levels end j m n from k C v so
 
 -- ---- FnCall
 
-call-does : {s : List ℕ} {l : Layout} {ws xs ys zs : List ℕ} {st p q r : State} (levels j at : ℕ) (o : Operands) (w : Way)
+call-does : {s : List ℕ} {l : Layout} {ws xs ys zs : List ℕ} {st p q r : State} (levels j : ℕ) (at : Opened) (o : Operands) (w : Way)
     → Right s → Row s (arg_count w s j) (first_arg w s j)
     → ((a : Made) → closed w s j (opened_at w s j a) (operands s (lowered levels s) (arg_count w s j) (first_arg w s j) (opened w s j a))
     ≡ fn_call s (lowered levels s) j a)
@@ -127,7 +128,7 @@ call-does {s} {l} {ws} {xs} {ys} {zs} {st} {p} {q} {r} levels j at o w C row sam
     (does-placed (closed w s j) grows found (does-seq (rows_grow levels s Nothing N F) first lowers_args) last)
 
 -- the way as the code finds it
-pub call-by-way : {s : List ℕ} {l : Layout} {ws xs ys zs : List ℕ} {st p q r : State} (levels j at : ℕ) (o : Operands) (w : Way)
+pub call-by-way : {s : List ℕ} {l : Layout} {ws xs ys zs : List ℕ} {st p q r : State} (levels j : ℕ) (at : Opened) (o : Operands) (w : Way)
     → Right s → Valid s j → kind s j ≡ 13 → w ≡ way_of s j → o ≡ arguments w s j
     → (Facts w s j → Does s l ws st xs p (opened w s j))
     → (Facts w s j → (a : Made) → Holds s l ws st a → at ≡ opened_at w s j a)

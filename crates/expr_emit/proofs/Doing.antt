@@ -8,14 +8,14 @@ use Rattle.scratch_store.specs.Does.{Fits, Growing, Does}
 
 module _ {s : List ℕ} {l : Layout} where
   -- A, which finds its entry at place `at`, and then E of that place
-  pub does-placed : {xs ys zs : List ℕ} {st q r : State} {at : ℕ} {place : Made → ℕ} {A : Made → Made} (E : ℕ → Made → Made)
+  pub does-placed : {P : Type 0} {xs ys zs : List ℕ} {st q r : State} {at : P} {place : Made → P} {A : Made → Made} (E : P → Made → Made)
       → Growing (E at) → ((a : Made) → Holds s l xs st a → at ≡ place a) → Does s l xs st ys q A → Does s l ys q zs r (E at)
       → Does s l xs st zs r (λ a. E (place a) (A a))
-  does-placed {zs = zs} {r = r} {at = at} {A = A} E grows found first next = record {
+  does-placed {P} {zs = zs} {r = r} {at = at} {A = A} E grows found first next = record {
     holds = λ a h f.
-        let room : Fits l (E at (A a)) = subst (λ (i : ℕ). Fits l (E i (A a))) (sym (found a h)) f in
+        let room : Fits l (E at (A a)) = subst (λ (i : P). Fits l (E i (A a))) (sym (found a h)) f in
         let more = grows.each (A a) in
-        subst (λ (i : ℕ). Holds s l zs r (E i (A a))) (found a h) (next.holds (A a) (first.holds a h (omega arith)) room);
+        subst (λ (i : P). Holds s l zs r (E i (A a))) (found a h) (next.holds (A a) (first.holds a h (omega arith)) room);
   }
 
   -- the same change, named by an equal

@@ -18,14 +18,14 @@ use Rattle.expr_emit.specs.declared.calls.Way.{Way}
 use Rattle.expr_emit.specs.declared.calls.Way.TheVariants.{Kept}
 use Rattle.expr_emit.specs.ChainParts.{step_names}
 use Rattle.expr_emit.specs.Siblings.{rows}
-use Rattle.expr_emit.specs.Ways.{opened, opened_at}
+use Rattle.expr_emit.specs.Ways.{nowhere, opened, opened_at}
 use Rattle.expr_emit.proofs.CallDoes.{Opens}
 use Rattle.expr_emit.proofs.WalkDoes.{Walking, walk-on, walk-done}
 
 -- a call that is kept opens with nothing
-pub open_kept : {s : List ℕ} {l : Layout} {xs : List ℕ} {st : State} (w : Way) (j : ℕ) → w ≡ Kept → Opens s l xs st xs st 0 j w
+pub open_kept : {s : List ℕ} {l : Layout} {xs : List ℕ} {st : State} (w : Way) (j : ℕ) → w ≡ Kept → Opens s l xs st xs st nowhere j w
 unfolding opened opened_at
-open_kept {s} {l} {xs} {st} w j e = subst (Opens s l xs st xs st 0 j) (sym e) ((λ f. does-none xs st), (λ f a h. refl))
+open_kept {s} {l} {xs} {st} w j e = subst (Opens s l xs st xs st nowhere j) (sym e) ((λ f. does-none xs st), (λ f a h. refl))
 
 -- the last link lowers
 pub walk_ends :

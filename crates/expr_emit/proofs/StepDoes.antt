@@ -4,6 +4,8 @@ use borrow.Author.Tests.{eqb-false}
 use Rattle.scratch_store.proofs.GrowingLaws.{growing-name}
 use Rattle.sheet.specs.Limits.{max_depth}
 use Rattle.sheet.specs.Node.{kind, field_a, field_b, field_c, position, child}
+use Rattle.sheet.specs.Namespace.{namespace, role}
+use Rattle.sheet.proofs.NamespaceLaws.{namespace-none, unqualified, role-kind, role-variable}
 use Rattle.sheet.specs.Walk.{skip}
 use Rattle.bytecode.specs.declared.Op.TheVariants.{Chain}
 use Rattle.lowering.specs.Limits.{max_args, names_per_node}
@@ -28,9 +30,9 @@ use Rattle.expr_count.specs.declared.links.Link.TheVariants.{Lowers, Fails, Nowh
 use Rattle.expr_count.specs.declared.operands.Operands.{Operands}
 use Rattle.expr_count.specs.Operands.{all}
 use Rattle.expr_count.specs.Link.{link_by, link, grade, temporary}
-use Rattle.scratch_keys.specs.Keys.{key_of, call_kind, field_of, is_marked, mark_by, mark_of, name_of}
+use Rattle.scratch_keys.specs.Keys.{key_of, call_kind, field_of, is_marked, mark_by, mark_of, namespace_of, name_of}
 use Rattle.scratch_keys.specs.Used.{ChainKey, NameKey}
-use Rattle.scratch_keys.proofs.KeyLaws.{field-a, field-b, field-c, name-of, no-mark}
+use Rattle.scratch_keys.proofs.KeyLaws.{field-a, field-b, field-c, own-namespace, no-namespace, name-plain, no-mark}
 use Rattle.expr_model.specs.Made.{Made, emit, add_name}
 use Rattle.expr_model.specs.Construct.{Low, operands, property, method, step_by, root_name, add_chain, chain_place, close_chain}
 use Rattle.expr_model.proofs.WayLaws.{root-variable, root-nameless}
@@ -50,15 +52,20 @@ use Rattle.expr_emit.proofs.KeyFacts.{own_key, getter-key, setter-key}
 -- ---- names of nodes that are no calls
 
 module _ (s : List ℕ) (j : ℕ) where
-  unmarked : (f t : ℕ) → f < names_per_node → (kind s j ≡ call_kind → ⊥) → field_of s f j ≡ t → name_of s (key_of j f) ≡ name t 0
-  unmarked f t h n e =
-      name-of s j f h ∙ ap (λ (m : ℕ). name (field_of s f j) m) (no-mark s j f n) ∙ ap (λ (u : ℕ). name u 0) e
+  unmarked : (f t : ℕ) → f < names_per_node → (kind s j ≡ call_kind → ⊥) → namespace_of s j f ≡ 0 → field_of s f j ≡ t
+      → name_of s (key_of j f) ≡ name t 0
+  unmarked f t h n w e =
+      name-plain s j f h w ∙ ap (λ (m : ℕ). name (field_of s f j) m) (no-mark s j f n) ∙ ap (λ (u : ℕ). name u 0) e
 
-  pub other_name : (kind s j ≡ call_kind → ⊥) → name_of s (key_of j 0) ≡ name (field_a s j) 0
-  other_name n = unmarked 0 (field_a s j) (omega arith) n (field-a s j)
+  pub other_name : (kind s j ≡ call_kind → ⊥) → namespace s j ≡ 0 → name_of s (key_of j 0) ≡ name (field_a s j) 0
+  other_name n w = unmarked 0 (field_a s j) (omega arith) n (own-namespace s j ∙ w) (field-a s j)
+
+  -- a node that has no namespace by its kind
+  kind-name : (kind s j ≡ call_kind → ⊥) → (kind s j ≡ variable_kind → ⊥) → name_of s (key_of j 0) ≡ name (field_a s j) 0
+  kind-name n v = other_name n (namespace-none s j v n)
 
   other-getter : (kind s j ≡ call_kind → ⊥) → name_of s (key_of j 1) ≡ name (field_b s j) 0
-  other-getter n = unmarked 1 (field_b s j) (omega arith) n (field-b s j)
+  other-getter n = unmarked 1 (field_b s j) (omega arith) n (no-namespace s j 1 (λ e. omega arith)) (field-b s j)
 
   setter-mark : mark_of s j 2 ≡ 0
   unfolding mark_of is_marked mark_by
@@ -67,25 +74,27 @@ module _ (s : List ℕ) (j : ℕ) where
   -- the setter that a link is taken with
   other-setter : (v : ℕ) → v ≡ operand_of s j → name_of s (key_of j 2) ≡ name (field_c s v) 0
   other-setter v e =
-      name-of s j 2 (omega arith) ∙ ap (name (field_of s 2 j)) setter-mark
+      name-plain s j 2 (omega arith) (no-namespace s j 2 (λ e. omega arith)) ∙ ap (name (field_of s 2 j)) setter-mark
       ∙ ap (λ (u : ℕ). name u 0) (field-c s j ∙ ap (field_c s) (sym e))
 
 -- ---- the root's name, and the names of a step
 
 module _ {s : List ℕ} {l : Layout} {xs ys : List ℕ} {st r : State} (v : ℕ) where
-  pub root-named : (k : ℕ) → k ≡ kind s v → k ≡ variable_kind → Valid s v
+  pub root-named : (k : ℕ) → k ≡ role s v → k ≡ variable_kind → Valid s v
       → (NameKey s (key_of v 0) → Does s l xs st ys r (add_name s (name_of s (key_of v 0)))) → Does s l xs st ys r (root_name s v)
   root-named k e h valid d =
+      let is = role-kind s v (sym e ∙ h) (omega arith) in
       let done = d (own_key s v valid (omega arith)) in
-      does-same (root_name s v) (λ a g. root-variable s v a (sym e ∙ h)) (does_at (add_name s) (other_name s v (λ z. omega arith)) done)
+      let none = unqualified s v (role-variable s v (sym e ∙ h)) in
+      does-same (root_name s v) (λ a g. root-variable s v a (sym e ∙ h)) (does_at (add_name s) (other_name s v (λ z. omega arith) none) done)
 
   pub method-does : kind s v ≡ method_call_kind → Valid s v
       → (NameKey s (key_of v 0) → Does s l xs st ys r (add_name s (name_of s (key_of v 0))))
       → Does s l xs st ys r (step_names Flatten.method s v)
   unfolding step_names
-  method-does h valid d = does_at (add_name s) (other_name s v (λ z. omega arith)) (d (own_key s v valid (omega arith)))
+  method-does h valid d = does_at (add_name s) (kind-name s v (λ z. omega arith) (λ z. omega arith)) (d (own_key s v valid (omega arith)))
 
-pub root-other : {s : List ℕ} {l : Layout} {xs : List ℕ} {st : State} (v k : ℕ) → k ≡ kind s v → (k ≡ variable_kind → ⊥)
+pub root-other : {s : List ℕ} {l : Layout} {xs : List ℕ} {st : State} (v k : ℕ) → k ≡ role s v → (k ≡ variable_kind → ⊥)
     → Does s l xs st xs st (root_name s v)
 root-other {s} {l} {xs} {st} v k e h =
     does-same (root_name s v) (λ a g. root-nameless s v a (λ z. h (e ∙ z))) (does-none xs st)
@@ -100,7 +109,7 @@ unfolding property
 property-does {s} v c h at k valid link a b d =
     does-seq (growing-name s (name (field_c s v) 0))
     (does-seq (growing-name s (name (field_b s v) 0))
-    (does_at (add_name s) (other_name s v (λ z. omega arith)) (a (own_key s v valid (omega arith))))
+    (does_at (add_name s) (kind-name s v (λ z. omega arith) (λ z. omega arith)) (a (own_key s v valid (omega arith))))
     (does_at (add_name s) (other-getter s v (λ z. omega arith)) (b (getter-key s v valid h))))
     (does_at (add_name s) (other-setter s c v at) (d (setter-key s c link k)))
 
@@ -229,9 +238,9 @@ module _ (s : List ℕ) where
 
   pub temporary-few : (v : ℕ) → temporary s v ≤ 1
   unfolding temporary
-  temporary-few v = by (eqb (kind s v) variable_kind) refl (eqb (kind s v) this_kind) refl
+  temporary-few v = by (eqb (role s v) variable_kind) refl (eqb (role s v) this_kind) refl
     where
-      by : (t : Bool) → eqb (kind s v) variable_kind ≡ t → (u : Bool) → eqb (kind s v) this_kind ≡ u → temporary s v ≤ 1
+      by : (t : Bool) → eqb (role s v) variable_kind ≡ t → (u : Bool) → eqb (role s v) this_kind ≡ u → temporary s v ≤ 1
       by true e u f = rw (e, temporary) (omega arith)
       by false e true f = rw (e, f, temporary) (omega arith)
       by false e false f = rw (e, f, temporary) (omega arith)

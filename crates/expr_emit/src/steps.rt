@@ -21,14 +21,14 @@ use expr_count::links::temporary;
 use expr_rules::chains::{Read, StepRule};
 use scratch_store::Store;
 use sheet::kinds::VARIABLE;
-use sheet::{child, kind, position};
+use sheet::{child, position, role};
 
 // A variable's name, for the root of a chain.
 pub fn root_name(sheet: &[u8], store: &mut Store, v: u32)
     ensures { let sheet = sheet.now in ((l : Layout) → Valid sheet v
         → Done sheet l store.old store.new (constructs.root_name sheet v)) }
 {
-    if kind(sheet, v) == VARIABLE {
+    if role(sheet, v) == VARIABLE {
         let _at = add_name(sheet, store, v, 0);
     }
 }

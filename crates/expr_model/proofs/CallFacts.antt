@@ -8,12 +8,14 @@ use lib.Dec.{leb, eqb}
 use borrow.Author.Tests.{leb-true, eqb-true}
 use Rattle.text.specs.Keyword.{is_eval, is_fn}
 use Rattle.sheet.specs.Node.{kind, count, field_b, field_c, child}
+use Rattle.sheet.specs.Namespace.{qualified}
 use Rattle.check_shape.specs.Kinds.{bound}
 use Rattle.check_shape.specs.Shape.{within_bounds_by, self_by}
 use Rattle.lowering.specs.Limits.{max_args}
 use Rattle.lowering.specs.Nodes.{Valid, Right}
 use Rattle.lowering.proofs.NodesLaws.{node-own}
-use Rattle.lowering.specs.Call.{CallRule, First, callee, syntactic, is_fn_ptr, is_fn_ptr_call, is_lowerable_call, call_rule, first_of, receiver}
+use Rattle.lowering.specs.Call.{CallRule, First, callee, syntactic, is_fn_ptr, is_fn_ptr_call, is_lowerable_call, general_rule, plain_rule}
+use Rattle.lowering.specs.Call.{call_rule, first_of, receiver}
 use Rattle.lowering.specs.Call as Call
 
 capture-bound : (k : ℕ) → k ≡ 13 → bound k 3 ≡ 1
@@ -55,21 +57,33 @@ module _ (s : List ℕ) (j : ℕ) where
       by true = tt
       by false = tt
 
+  general-says : RuleSays (general_rule s j)
+  unfolding general_rule
+  general-says = by (is_lowerable_call s j) refl
+    where
+      by : (t : Bool) → is_lowerable_call s j ≡ t → RuleSays (general_rule s j)
+      by true h = rw (h, general_rule) (lowerable-says h)
+      by false h = rw (h, general_rule) other-says
+
+  plain-says : RuleSays (plain_rule s j)
+  unfolding plain_rule
+  plain-says = by (is_fn_ptr s j) refl
+    where
+      by_call : (t : Bool) → is_fn_ptr_call s j ≡ t → is_fn_ptr s j ≡ false → RuleSays (plain_rule s j)
+      by_call true h f = rw (f, h, plain_rule) (pointer-call-says h)
+      by_call false h f = rw (f, h, plain_rule) general-says
+
+      by : (t : Bool) → is_fn_ptr s j ≡ t → RuleSays (plain_rule s j)
+      by true h = rw (h, plain_rule) (pointer-says h)
+      by false h = by_call (is_fn_ptr_call s j) refl h
+
   pub rule-says : RuleSays (call_rule s j)
   unfolding call_rule
-  rule-says = by (is_fn_ptr s j) refl
+  rule-says = by (qualified s j) refl
     where
-      by-low : (t : Bool) → is_lowerable_call s j ≡ t → is_fn_ptr s j ≡ false → is_fn_ptr_call s j ≡ false → RuleSays (call_rule s j)
-      by-low true h f g = rw (f, g, h, call_rule) (lowerable-says h)
-      by-low false h f g = rw (f, g, h, call_rule) other-says
-
-      by_call : (t : Bool) → is_fn_ptr_call s j ≡ t → is_fn_ptr s j ≡ false → RuleSays (call_rule s j)
-      by_call true h f = rw (f, h, call_rule) (pointer-call-says h)
-      by_call false h f = by-low (is_lowerable_call s j) refl f h
-
-      by : (t : Bool) → is_fn_ptr s j ≡ t → RuleSays (call_rule s j)
-      by true h = rw (h, call_rule) (pointer-says h)
-      by false h = by_call (is_fn_ptr_call s j) refl h
+      by : (t : Bool) → qualified s j ≡ t → RuleSays (call_rule s j)
+      by true h = rw (h, call_rule) general-says
+      by false h = rw (h, call_rule) plain-says
 
   -- a receiver is an argument
   abbrev pub FirstSays : First → Type 0

@@ -7,12 +7,14 @@ use native.Mathlib.Omega.{arith}
 use lib.Dec.{eqb}
 use lib.ListN.{length-append}
 use Rattle.sheet.specs.Node.{count, field_a, field_b, field_c, position, child, next}
+use Rattle.sheet.specs.Namespace.{qualified}
 use Rattle.bytecode.specs.declared.Receiver.{Receiver}
 use Rattle.bytecode.specs.declared.Receiver.TheVariants.{Local, Named, This}
+use Rattle.bytecode.specs.declared.Op as Ops
 use Rattle.bytecode.specs.declared.Op.TheVariants as Op
 use Rattle.lowering.specs.Limits.{max_args}
 use Rattle.lowering.specs.Code.{Ins, ins, no_pos}
-use Rattle.lowering.specs.Pools.{emits, name, name_at, push_name, token_at, push_token}
+use Rattle.lowering.specs.Pools.{Name, emits, name, own_name, name_at, push_name, token_at, push_token}
 use Rattle.lowering.specs.Out.{Out, out, Rec, and_then}
 use Rattle.lowering.specs.Operands as Operands
 use Rattle.lowering.specs.Call.{CallRule, First, call_rule, receiver, stores_token}
@@ -20,6 +22,8 @@ use Rattle.lowering.specs.Call as Call
 use Rattle.expr_model.specs.Made.{Made, place, after, emit, add_name, add_token, defeated}
 use Rattle.expr_model.specs.Construct.{make_fn_ptr, call_fn_ptr, other_args, call_ref, call_local, call_this, rotate, call_named, call_as}
 use Rattle.expr_model.specs.Construct.{call_token, call_end, call_values, call_by, fn_call_by, fn_call}
+use Rattle.expr_model.specs.Construct.{add_own, ref_at, qualified_local, qualified_this, load_first, qualified_named, values_at}
+use Rattle.expr_model.specs.Construct.{qualified_values, qualified_by, call_qualified, call}
 use Rattle.expr_model.proofs.Put.{put, behind, low_of, made-path, put-emit, then-then, put-around}
 use Rattle.expr_model.proofs.AfterLaws.{
   after-named,
@@ -176,6 +180,60 @@ module _ (s : List ℕ) (rec : Rec) (j : ℕ) (a : Made) where
       by true t = values-token t h
       by false t = values-plain t h
 
+  -- with a namespace, the call's name at place i: the receiver is loaded first
+  at-is : (i : ℕ) (r : Receiver) (o : Out) (d : ℕ) (x : Made)
+      → ref_at i s j r (put o d x) ≡ put (Call.ref_at i s j r d o) (after (Op.CallRef i (count s j) r) 0 d) x
+  unfolding ref_at Call.ref_at
+  at-is i r o d x = put-emit (Op.CallRef i (count s j) r) (position s j) 0 o d x
+
+  loaded-is : (load : Ops.Op) (x : Made) → after load 0 x.depth ≡ suc x.depth → 1 ≤ count s j
+      → other_args s (low_of rec) j (emit load (position s (child j)) 0 x)
+      ≡ put (Call.loaded_args load s rec j (place x) x.depth x.pools) (x.depth + count s j) x
+  unfolding Call.loaded_args emit and_then
+  loaded-is load x e g =
+      let d = x.depth in
+      let m = count s j in
+      let i = ins load d (position s (child j)) in
+      let y = put (and_then (out [] x.pools) (i ∷ [])) (suc d) x in
+      let go : ℕ → Out = λ b. Call.other_args s rec j b (suc d) (emits 1 x.pools) in
+      let first : emit load (position s (child j)) 0 x ≡ y = made-path refl refl e in
+      let deep : suc d + (m - 1) ≡ d + m = omega arith in
+      ap (other_args s (low_of rec) j) first
+      ∙ others-is y
+      ∙ ap (λ b. put (go b) (suc d + (m - 1)) y) (length-append x.code (i ∷ []))
+      ∙ put-around (out [] x.pools) i (go (place x + 1)) (suc d) (suc d + (m - 1)) x
+      ∙ made-path refl refl deep
+
+  by-qualified : (f : First) (i : ℕ) → FirstSays s j f → count s j ≤ max_args
+      → qualified_by f i s (low_of rec) j a ≡ behind (Call.lower_qualified_by f i s rec j) a
+  unfolding qualified_by qualified_local qualified_this qualified_named qualified_values values_at load_first add_name Call.lower_qualified_by
+      Call.qualified_local Call.qualified_this Call.qualified_named Call.qualified_values
+  by-qualified (Call.local slot) i g h =
+      let d = a.depth in
+      ap (ref_at i s j (Local slot)) (others-is a)
+      ∙ at-is i (Local slot) (Call.other_args s rec j (place a) d a.pools) (d + (count s j - 1)) a
+      ∙ made-path refl refl (after-ref-local 0 d i (count s j) h slot)
+  by-qualified Call.named i g h =
+      let d = a.depth in
+      let v = name (field_a s (child j)) 0 in
+      let k = name_at s v a.pools in
+      let x = add_name s v a in
+      ap (ref_at i s j (Named k)) (loaded-is (Op.LoadNamed k) x (after-named 0 d k) g)
+      ∙ at-is i (Named k) (Call.loaded_args (Op.LoadNamed k) s rec j (place a) d x.pools) (d + count s j) a
+      ∙ made-path refl refl (after-ref-named 0 d i (count s j) h k)
+  by-qualified Call.this i g h =
+      let d = a.depth in
+      ap (ref_at i s j This) (loaded-is Op.LoadThis a (after-this 0 d) g)
+      ∙ at-is i This (Call.loaded_args Op.LoadThis s rec j (place a) d a.pools) (d + count s j) a
+      ∙ made-path refl refl (after-ref-this 0 d i (count s j) h)
+  by-qualified Call.value i g h =
+      let d = a.depth in
+      let m = count s j in
+      let o = Operands.operands s rec m (child j) (place a) d a.pools in
+      ap (emit (Op.Call i m 0 (field_b s j)) (position s j) 0) (operands-is s rec m (child j) a)
+      ∙ put-emit (Op.Call i m 0 (field_b s j)) (position s j) 0 o (d + m) a
+      ∙ made-path refl refl (after_call 0 d i m 0 (field_b s j) h)
+
   by_first : (f : First) → FirstSays s j f → count s j ≤ max_args → call_by f s (low_of rec) j a ≡ behind (Call.lower_call_by f s rec j) a
   unfolding call_by Call.lower_call_by
   by_first (Call.local slot) g h = local-is slot h
@@ -183,11 +241,25 @@ module _ (s : List ℕ) (rec : Rec) (j : ℕ) (a : Made) where
   by_first Call.this g h = this-call-is h g
   by_first Call.value g h = values-is h
 
+module _ (s : List ℕ) (rec : Rec) (j : ℕ) (a : Made) where
+  lowerable-is : count s j ≤ max_args → call s (low_of rec) j a ≡ behind (Call.lower_call s rec j) a
+  unfolding call call_qualified add_own add_name Call.lower_call Call.lower_qualified
+  lowerable-is h = by (qualified s j) refl
+    where
+      n : Name
+      n = own_name s j (field_b s j)
+
+      by : (t : Bool) → qualified s j ≡ t → call s (low_of rec) j a ≡ behind (Call.lower_call s rec j) a
+      by true q =
+          rw (q, call, Call.lower_call)
+          (by-qualified s rec j (add_name s n a) (receiver s j) (name_at s n a.pools) (first_says s j) h)
+      by false q = rw (q, call, Call.lower_call) (by_first s rec j a (receiver s j) (first_says s j) h)
+
   by-call-rule : (r : CallRule) → RuleSays s j r → fn_call_by r s (low_of rec) j a ≡ behind (Call.fn_call_by r s rec j) a
   unfolding fn_call_by Call.fn_call_by defeated
-  by-call-rule Call.fn_ptr h = make-is
-  by-call-rule Call.fn_ptr_call h = pointer_is h.0
-  by-call-rule Call.lowerable h = by_first (receiver s j) (first_says s j) h
+  by-call-rule Call.fn_ptr h = make-is s rec j a
+  by-call-rule Call.fn_ptr_call h = pointer_is s rec j a h.0
+  by-call-rule Call.lowerable h = lowerable-is h
   by-call-rule Call.eval h = residual-is j (defeated a)
   by-call-rule Call.residual h = residual-is j a
 

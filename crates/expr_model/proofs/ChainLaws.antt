@@ -8,8 +8,9 @@ use native.Mathlib.Omega.{arith}
 use lib.Dec.{eqb}
 use lib.ListN.{length}
 use Rattle.sheet.specs.Limits.{max_depth}
-use Rattle.sheet.specs.Node.{kind, field_a, position, child}
+use Rattle.sheet.specs.Node.{field_a, position, child}
 use Rattle.sheet.specs.Text.{text}
+use Rattle.sheet.specs.Namespace.{role}
 use Rattle.sheet.specs.Walk.{skip}
 use Rattle.bytecode.specs.declared.Root.{Root}
 use Rattle.bytecode.specs.declared.Root.TheVariants.{Local, Named, This, Temporary}
@@ -43,9 +44,9 @@ use Rattle.expr_model.proofs.StepLaws.{steps-walked, steps-stopped}
 
 pub root-name-is : (s : List ℕ) (v : ℕ) (a : Made) → root_name s v a ≡ with (root_pools s v) a
 unfolding root_name add_name
-root-name-is s v a = by (eqb (kind s v) variable_kind) refl
+root-name-is s v a = by (eqb (role s v) variable_kind) refl
   where
-    by : (t : Bool) → eqb (kind s v) variable_kind ≡ t → root_name s v a ≡ with (root_pools s v) a
+    by : (t : Bool) → eqb (role s v) variable_kind ≡ t → root_name s v a ≡ with (root_pools s v) a
     by true h = rw (h, root_name) (made-path refl (sym (root-pools-on s v a.pools h)) refl)
     by false h = rw (h, root_name) (made-path refl (sym (root-pools-off s v a.pools h)) refl)
 
@@ -81,15 +82,15 @@ module _ (s : List ℕ) (rec : Rec) (v : ℕ) where
 
   rooted : (p : Pools) → Rooted (root_of s v p) (temporary s v)
   unfolding root_of temporary
-  rooted p = by (eqb (kind s v) variable_kind) refl
+  rooted p = by (eqb (role s v) variable_kind) refl
     where
-      by-this : (t : Bool) → eqb (kind s v) this_kind ≡ t → eqb (kind s v) variable_kind ≡ false → Rooted (root_of s v p) (temporary s v)
+      by-this : (t : Bool) → eqb (role s v) this_kind ≡ t → eqb (role s v) variable_kind ≡ false → Rooted (root_of s v p) (temporary s v)
       by-this true h f = rw (f, h, root_of, temporary) (rooted-this (position s v))
       by-this false h f = rw (f, h, root_of, temporary) rooted-value
 
-      by : (t : Bool) → eqb (kind s v) variable_kind ≡ t → Rooted (root_of s v p) (temporary s v)
+      by : (t : Bool) → eqb (role s v) variable_kind ≡ t → Rooted (root_of s v p) (temporary s v)
       by true h = rw (h, root_of, temporary) (rooted-variable p)
-      by false h = by-this (eqb (kind s v) this_kind) refl h
+      by false h = by-this (eqb (role s v) this_kind) refl h
 
 -- ---- the chain instruction
 

@@ -6,7 +6,8 @@ use mathlib.Core.List.{List, [], ◌∷◌}
 use native.Mathlib.Omega.{arith}
 use lib.Dec.{eqb}
 use lib.ListN.{length, length-append}
-use Rattle.sheet.specs.Node.{kind, count, field_a, field_b, field_c, position, child}
+use Rattle.sheet.specs.Node.{count, field_a, field_b, field_c, position, child}
+use Rattle.sheet.specs.Namespace.{role}
 use Rattle.sheet.specs.Walk.{skip}
 use Rattle.bytecode.specs.declared.Receiver.{Receiver}
 use Rattle.bytecode.specs.declared.Root.{Root}
@@ -213,9 +214,9 @@ module _ (s : List ℕ) where
 
   pub root-name-rises : (v : ℕ) → Rising (root_name s v)
   unfolding root_name
-  root-name-rises v a = by (eqb (kind s v) variable_kind) refl
+  root-name-rises v a = by (eqb (role s v) variable_kind) refl
     where
-      by : (t : Bool) → eqb (kind s v) variable_kind ≡ t → Grown a (root_name s v a)
+      by : (t : Bool) → eqb (role s v) variable_kind ≡ t → Grown a (root_name s v a)
       by true h = rw (h, root_name) (name-rises s (name (field_a s v) 0) a)
       by false h = rw (h, root_name) (grown-refl a)
 

@@ -5,7 +5,8 @@ use mathlib.Core.Bool.{true, false}
 use mathlib.Core.List.{List}
 use borrow.Author.Tests.{eq-eqb, ne_eqb, le-leb, lt-leb}
 use Rattle.sheet.specs.Limits.{max_depth}
-use Rattle.sheet.specs.Node.{kind, count, field_a, position, child}
+use Rattle.sheet.specs.Node.{count, field_a, position, child}
+use Rattle.sheet.specs.Namespace.{role}
 use Rattle.bytecode.specs.declared.Op.TheVariants as Op
 use Rattle.lowering.specs.Limits.{max_elements}
 use Rattle.lowering.specs.Kinds.{variable_kind}
@@ -21,13 +22,13 @@ use Rattle.expr_model.specs.Construct.{Low, elements, array, steps, root_name, r
 
 module _ (s : List ℕ) (j : ℕ) (a : Made) where
   -- a chain's root at node j
-  pub root-variable : kind s j ≡ variable_kind → add_name s (name (field_a s j) 0) a ≡ root_name s j a
+  pub root-variable : role s j ≡ variable_kind → add_name s (name (field_a s j) 0) a ≡ root_name s j a
   unfolding root_name
-  root-variable h = rw (eq-eqb (kind s j) variable_kind h, root_name)
+  root-variable h = rw (eq-eqb (role s j) variable_kind h, root_name)
 
-  pub root-nameless : (kind s j ≡ variable_kind → ⊥) → a ≡ root_name s j a
+  pub root-nameless : (role s j ≡ variable_kind → ⊥) → a ≡ root_name s j a
   unfolding root_name
-  root-nameless h = rw (ne_eqb (kind s j) variable_kind h, root_name)
+  root-nameless h = rw (ne_eqb (role s j) variable_kind h, root_name)
 
 module _ (s : List ℕ) (low : Low) (j : ℕ) (a : Made) where
   pub array-few : count s j ≤ max_elements

@@ -2,8 +2,9 @@
 use Rattle.std.specs.Prelude.{ℕ, zero, suc, ◌+◌, ◌-◌, true, false, List, [], ◌∷◌, eqb, leb}
 use Rattle.std.proofs.Math.Option.{none, some}
 use Rattle.sheet.specs.Limits.{max_depth}
-use Rattle.sheet.specs.Node.{kind, count, field_a, field_b, field_c, position, child, next}
+use Rattle.sheet.specs.Node.{count, field_a, field_b, field_c, position, child, next, namespace_pos}
 use Rattle.sheet.specs.Text.{text}
+use Rattle.sheet.specs.Namespace.{qualified, role}
 use Rattle.sheet.specs.Walk.{skip}
 use Rattle.bytecode.specs.declared.Op.{Op}
 use Rattle.bytecode.specs.declared.Op.TheVariants.{Const, Unit, Bool, LoadLocal, LoadNamed, LoadThis, Pop, Jump}
@@ -14,7 +15,7 @@ use Rattle.bytecode.specs.declared.Receiver.TheVariants.{Local, Named, This}
 use Rattle.lowering.specs.Limits.{max_elements}
 use Rattle.lowering.specs.Kinds.{variable_kind}
 use Rattle.lowering.specs.Code.{no_pos}
-use Rattle.lowering.specs.Pools.{name, name_at, const_of, const_at, token_at, chain_at, push_chain}
+use Rattle.lowering.specs.Pools.{name, own_name, name_at, const_of, const_at, token_at, chain_at, push_chain}
 use Rattle.lowering.specs.Slots.{resolve}
 use Rattle.lowering.specs.ShortCircuit.{jump_on}
 use Rattle.lowering.specs.Call.{First, local, named, this, value, receiver, stores_token, CallRule, fn_ptr, fn_ptr_call, lowerable, eval}
@@ -49,9 +50,18 @@ load_named s j a =
     let n = name (field_a s j) 0 in
     emit (LoadNamed (name_at s n a.pools)) (position s j) 0 (add_name s n a)
 
-unfoldable pub variable : List ℕ → ℕ → Made → Made
-variable s j a =
+-- a name in its namespace
+unfoldable pub load_qualified : List ℕ → ℕ → Made → Made
+load_qualified s j a =
+    let n = own_name s j 0 in
+    emit (LoadNamed (name_at s n a.pools)) (namespace_pos s j) 0 (add_name s n a)
+
+unfoldable pub load_plain : List ℕ → ℕ → Made → Made
+load_plain s j a =
     elim (resolve s (text s (field_a s j))) [ some slot ↦ emit (LoadLocal slot) no_pos 0 a | none ↦ load_named s j a ]
+
+unfoldable pub variable : List ℕ → ℕ → Made → Made
+variable s j a = elim (qualified s j) [ true ↦ load_qualified s j a | false ↦ load_plain s j a ]
 
 unfoldable pub this_of : List ℕ → ℕ → Made → Made
 this_of s j a = emit LoadThis (position s j) 0 a
@@ -161,10 +171,54 @@ call_by named s low j a = call_named s low j a
 call_by this s low j a = call_this s low j a
 call_by value s low j a = call_values s low j a
 
+-- a call with a namespace, whose name, with `!` where it captures, is pooled before all else
+unfoldable pub add_own : List ℕ → ℕ → Made → Made
+add_own s j a = add_name s (own_name s j (field_b s j)) a
+
+-- CallRef, with the call's name at place i
+unfoldable pub ref_at : ℕ → List ℕ → ℕ → Receiver → Made → Made
+ref_at i s j r a = emit (CallRef i (count s j) r) (position s j) 0 a
+
+unfoldable pub qualified_local : ℕ → List ℕ → Low → ℕ → ℕ → Made → Made
+qualified_local i s low slot j a = ref_at i s j (Local slot) (other_args s low j a)
+
+unfoldable pub qualified_this : ℕ → List ℕ → Low → ℕ → Made → Made
+qualified_this i s low j a = ref_at i s j This (other_args s low j (emit LoadThis (position s (child j)) 0 a))
+
+-- a receiver's name, loaded before the other arguments
+unfoldable pub load_first : List ℕ → ℕ → Made → Made
+load_first s j a =
+    let v = name (field_a s (child j)) 0 in
+    emit (LoadNamed (name_at s v a.pools)) (position s (child j)) 0 (add_name s v a)
+
+unfoldable pub qualified_named : ℕ → List ℕ → Low → ℕ → Made → Made
+qualified_named i s low j a =
+    ref_at i s j (Named (name_at s (name (field_a s (child j)) 0) a.pools)) (other_args s low j (load_first s j a))
+
+-- Call, without a token
+unfoldable pub values_at : ℕ → List ℕ → ℕ → Made → Made
+values_at i s j a = emit (Call i (count s j) 0 (field_b s j)) (position s j) 0 a
+
+unfoldable pub qualified_values : ℕ → List ℕ → Low → ℕ → Made → Made
+qualified_values i s low j a = values_at i s j (operands s low (count s j) (child j) a)
+
+unfoldable pub qualified_by : First → ℕ → List ℕ → Low → ℕ → Made → Made
+qualified_by (local slot) i s low j a = qualified_local i s low slot j a
+qualified_by named i s low j a = qualified_named i s low j a
+qualified_by this i s low j a = qualified_this i s low j a
+qualified_by value i s low j a = qualified_values i s low j a
+
+unfoldable pub call_qualified : List ℕ → Low → ℕ → Made → Made
+call_qualified s low j a =
+    qualified_by (receiver s j) (name_at s (own_name s j (field_b s j)) a.pools) s low j (add_own s j a)
+
+unfoldable pub call : List ℕ → Low → ℕ → Made → Made
+call s low j a = elim (qualified s j) [ true ↦ call_qualified s low j a | false ↦ call_by (receiver s j) s low j a ]
+
 unfoldable pub fn_call_by : CallRule → List ℕ → Low → ℕ → Made → Made
 fn_call_by fn_ptr s low j a = make_fn_ptr s low j a
 fn_call_by fn_ptr_call s low j a = call_fn_ptr s low j a
-fn_call_by lowerable s low j a = call_by (receiver s j) s low j a
+fn_call_by lowerable s low j a = call s low j a
 fn_call_by eval s low j a = Made.residual j (defeated a)
 fn_call_by residual s low j a = Made.residual j a
 
@@ -194,7 +248,7 @@ steps s low (c ∷ cs) a =
 
 -- a variable's name is pooled before the steps
 unfoldable pub root_name : List ℕ → ℕ → Made → Made
-root_name s v a = elim (eqb (kind s v) variable_kind) [ true ↦ add_name s (name (field_a s v) 0) a | false ↦ a ]
+root_name s v a = elim (eqb (role s v) variable_kind) [ true ↦ add_name s (name (field_a s v) 0) a | false ↦ a ]
 
 -- a root that is taken off the stack
 unfoldable pub root_value : List ℕ → Low → ℕ → Made → Made

@@ -10,10 +10,10 @@ use Rattle.text.proofs.SameLaws.{same_true, same-lengths}
 use Rattle.text.specs.Keyword.{eval_name, fn_name, call_name, curry_name, is_eval, is_fn, is_call, is_curry}
 use Rattle.sheet.specs.Node.{count}
 use Rattle.lowering.specs.Limits.{max_args}
-use Rattle.lowering.specs.Call.{callee, syntactic, is_lowerable_call, is_fn_ptr, is_fn_ptr_call, call_rule}
+use Rattle.lowering.specs.Call.{callee, syntactic, is_lowerable_call, is_fn_ptr, is_fn_ptr_call, general_rule, plain_rule}
 use Rattle.lowering.specs.Call.{CallRule, fn_ptr, fn_ptr_call, lowerable, eval, residual}
 use Rattle.lowering.specs.Steps.{is_lowerable_method}
-use Rattle.expr_rules.specs.Keywords.{keyword_by, keyword_of, rule_by, as_method}
+use Rattle.expr_rules.specs.Keywords.{keyword_by, keyword_of, general_by, rule_by, as_method}
 
 -- ---- names
 
@@ -134,10 +134,34 @@ said-other : (one some few all : Bool) → said false false false false one some
 said-other one some few true = refl
 said-other one some few false = refl
 
+abbrev general-said : Bool → Bool → Bool → Bool → Bool → CallRule
+general-said f c e u all =
+    elim (all && not (e || f || c || u)) [ true ↦ lowerable | false ↦ elim e [ true ↦ eval | false ↦ residual ] ]
+
+general-said-fn : (all : Bool) → general-said true false false false all ≡ residual
+general-said-fn true = refl
+general-said-fn false = refl
+
+general-said-call : (all : Bool) → general-said false true false false all ≡ residual
+general-said-call true = refl
+general-said-call false = refl
+
+general-said-eval : (all : Bool) → general-said false false true false all ≡ eval
+general-said-eval true = refl
+general-said-eval false = refl
+
+general-said-curry : (all : Bool) → general-said false false false true all ≡ residual
+general-said-curry true = refl
+general-said-curry false = refl
+
+general-said-other : (all : Bool) → general-said false false false false all ≡ elim all [ true ↦ lowerable | false ↦ residual ]
+general-said-other true = refl
+general-said-other false = refl
+
 module _ (s : List ℕ) (j : ℕ) where
-  pub rule_is : call_rule s j ≡ rule_by (keyword_of (callee s j)) (count s j)
-  unfolding call_rule is_fn_ptr is_fn_ptr_call is_lowerable_call syntactic keyword_of rule_by
-  rule_is =
+  pub plain_is : plain_rule s j ≡ rule_by (keyword_of (callee s j)) (count s j)
+  unfolding plain_rule general_rule is_fn_ptr is_fn_ptr_call is_lowerable_call syntactic keyword_of general_by rule_by
+  plain_is =
       let n = count s j in
       by-keyword (callee s j)
       (λ f c e u. said f c e u (eqb n 1) (leb 1 n) (leb n (max_args + 1)) (leb n max_args) ≡ rule_by (keyword_by f c e u) n)
@@ -146,6 +170,15 @@ module _ (s : List ℕ) (j : ℕ) where
       (said-eval (eqb n 1) (leb 1 n) (leb n (max_args + 1)) (leb n max_args))
       (said-curry (eqb n 1) (leb 1 n) (leb n (max_args + 1)) (leb n max_args))
       (said-other (eqb n 1) (leb 1 n) (leb n (max_args + 1)) (leb n max_args))
+
+  pub general_is : general_rule s j ≡ general_by (keyword_of (callee s j)) (count s j)
+  unfolding general_rule is_lowerable_call syntactic keyword_of general_by
+  general_is =
+      let n = count s j in
+      by-keyword (callee s j)
+      (λ f c e u. general-said f c e u (leb n max_args) ≡ general_by (keyword_by f c e u) n)
+      (general-said-fn (leb n max_args)) (general-said-call (leb n max_args)) (general-said-eval (leb n max_args))
+      (general-said-curry (leb n max_args)) (general-said-other (leb n max_args))
 
   pub method_lowers : is_lowerable_method s j ≡ (leb (count s j) max_args && as_method (keyword_of (callee s j)))
   unfolding is_lowerable_method is_lowerable_call syntactic keyword_of as_method

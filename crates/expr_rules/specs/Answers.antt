@@ -1,7 +1,8 @@
 -- The rules of the definition as the code's enums give them.
 use Rattle.std.specs.Prelude.{ℕ, ◌/◌, ◌%◌, Bool, true, false, ◌&&◌, not, List, leb, eqb, get_or, Option}
 use Rattle.std.specs.Bool.{then_some}
-use Rattle.sheet.specs.Node.{kind, count, field_b, field_c, child}
+use Rattle.sheet.specs.Node.{count, field_b, field_c, child}
+use Rattle.sheet.specs.Namespace.{role}
 use Rattle.lowering.specs.Kinds.{index_kind}
 use Rattle.lowering.specs.Expression.{Rule, boolean, unit, constant, interpolated, array, variable, this, fn_call, chain, and, or, coalesce}
 use Rattle.lowering.specs.Expression.{residual, rules}
@@ -48,10 +49,10 @@ first_of Call.value = Firsts.TheVariants.Value
 unfoldable pub receiver_node : List ℕ → ℕ → Option ℕ
 receiver_node s j = then_some (eqb (field_c s j) 0 && eqb (field_b s j) 0 && leb 1 (count s j)) (child j)
 
--- the kind of a call's receiver, 0 where it has none
-unfoldable pub receiver_kind : List ℕ → ℕ → ℕ
-receiver_kind s j =
-    elim (eqb (field_c s j) 0 && eqb (field_b s j) 0 && leb 1 (count s j)) [ true ↦ kind s (child j) | false ↦ 0 ]
+-- the role of a call's receiver, 0 where it has none
+unfoldable pub receiver_role : List ℕ → ℕ → ℕ
+receiver_role s j =
+    elim (eqb (field_c s j) 0 && eqb (field_b s j) 0 && leb 1 (count s j)) [ true ↦ role s (child j) | false ↦ 0 ]
 
 unfoldable pub step_rule_of : Flatten.StepRule → StepRules.StepRule
 step_rule_of Flatten.index = StepRules.TheVariants.Index

@@ -21,13 +21,21 @@ keyword_by f c e u =
 unfoldable pub keyword_of : List ℕ → Keyword
 keyword_of name = keyword_by (is_fn name) (is_call name) (is_eval name) (is_curry name)
 
--- the rule of a call of n arguments
+-- the rule of a call of n arguments with a namespace
+unfoldable pub general_by : Keyword → ℕ → CallRule
+general_by Fn n = residual
+general_by Call n = residual
+general_by Eval n = eval
+general_by Curry n = residual
+general_by Other n = elim (leb n max_args) [ true ↦ lowerable | false ↦ residual ]
+
+-- and without one
 unfoldable pub rule_by : Keyword → ℕ → CallRule
 rule_by Fn n = elim (eqb n 1) [ true ↦ fn_ptr | false ↦ residual ]
 rule_by Call n = elim (leb 1 n && leb n (max_args + 1)) [ true ↦ fn_ptr_call | false ↦ residual ]
 rule_by Eval n = eval
 rule_by Curry n = residual
-rule_by Other n = elim (leb n max_args) [ true ↦ lowerable | false ↦ residual ]
+rule_by Other n = general_by Other n
 
 -- a method lowers
 unfoldable pub as_method : Keyword → Bool

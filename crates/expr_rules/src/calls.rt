@@ -3,8 +3,8 @@ ghost use Rattle.std.specs.Prelude.{◌≡◌, ◌-◌};
 ghost use Rattle.lowering.specs.Call as calls;
 ghost use Rattle.expr_rules.specs.Answers as answers;
 
-use crate::keywords::{keyword_of, rule_by};
-use sheet::{child, count, field_a, field_b, field_c, kind};
+use crate::keywords::{general_by, keyword_of, rule_by};
+use sheet::{child, count, field_a, field_b, field_c, namespace, role};
 
 // Which rule lowers a call: `Fn`, `call`, generic dispatch, `eval`; or the call is kept.
 #[derive(Clone, Copy)]
@@ -16,7 +16,7 @@ pub enum CallRule {
     Residual,
 }
 
-// What the first argument is: a variable by slot or by name, `this`, or a value (or there is none).
+// What the first argument is: a variable without a namespace by slot or by name, `this`, or a value (or there is none).
 #[derive(Clone, Copy)]
 pub enum First {
     Local(u32),
@@ -25,12 +25,15 @@ pub enum First {
     Value,
 }
 
-#[tactic(auto, using(crate::proofs::KeywordLaws::rule_is))]
-// The rule of call `j`.
+#[tactic(auto, unfolding(lowering::specs::Call::call_rule), using(crate::proofs::KeywordLaws::plain_is, crate::proofs::KeywordLaws::general_is))]
+// The rule of call `j`. With a namespace neither `Fn` nor `call` has one of its own.
 pub fn call_rule(sheet: &[u8], j: u32) -> CallRule
     ensures { result ≡ answers.call_rule_of (calls.call_rule sheet.now j) }
 {
     let word = keyword_of(sheet::text(sheet, field_a(sheet, j)));
+    if namespace(sheet, j) != 0 {
+        return general_by(word, count(sheet, j));
+    }
     rule_by(word, count(sheet, j))
 }
 
@@ -45,24 +48,24 @@ pub fn receiver_node(sheet: &[u8], j: u32) -> Option<u32>
     ((c == 0) & (b == 0) & (1 <= n)).then_some(child(j))
 }
 
-#[tactic(auto, unfolding(crate::specs::Answers::receiver_node, crate::specs::Answers::receiver_kind))]
-// The kind of call `j`'s receiver, 0 where it has none: what the locals say of a variable is left to the caller.
+#[tactic(auto, unfolding(crate::specs::Answers::receiver_node, crate::specs::Answers::receiver_role))]
+// The role of call `j`'s receiver, 0 where it has none: what the locals say of a variable is left to the caller.
 // Kept: public, and 0 is no node's kind, so that the match on the answer (`way_first` of expr_emit) has no arm for it. With an Option both
 // of its arms would stand within `Some`. `receiver_node` is that form.
-pub fn receiver_kind(sheet: &[u8], j: u32) -> u32
-    ensures { result ≡ answers.receiver_kind sheet.now j }
+pub fn receiver_role(sheet: &[u8], j: u32) -> u32
+    ensures { result ≡ answers.receiver_role sheet.now j }
 {
     match receiver_node(sheet, j) {
-        Some(v) => kind(sheet, v),
+        Some(v) => role(sheet, v),
         None => 0,
     }
 }
 
 #[tactic(auto, unfolding(lowering::specs::Call::stores_token))]
-// An operator is stored with 1 or 2 arguments.
+// An operator is stored with 1 or 2 arguments and no namespace.
 pub fn stores_token(sheet: &[u8], j: u32) -> bool
     ensures { result ≡ calls.stores_token sheet.now j }
 {
     let n = count(sheet, j);
-    (!(field_c(sheet, j) == 0)) & ((n == 1) | (n == 2))
+    (namespace(sheet, j) == 0) & (!(field_c(sheet, j) == 0)) & ((n == 1) | (n == 2))
 }

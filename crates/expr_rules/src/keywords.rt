@@ -31,8 +31,20 @@ pub fn keyword_of(name: &[u8]) -> Keyword
     }
 }
 
+#[tactic(auto, unfolding(crate::specs::Keywords::general_by, crate::specs::Answers::call_rule_of))]
+// The rule of a call of `n` arguments by that name, in a namespace.
+pub fn general_by(word: Keyword, n: u32) -> CallRule
+    ensures { result ≡ answers.call_rule_of (keywords.general_by word n) }
+{
+    match word {
+        Keyword::Eval => CallRule::Eval,
+        Keyword::Other if n <= MAX_ARGS => CallRule::Lowerable,
+        _ => CallRule::Residual,
+    }
+}
+
 #[tactic(auto, unfolding(crate::specs::Keywords::rule_by, crate::specs::Answers::call_rule_of))]
-// The rule of a call of `n` arguments by that name.
+// The rule of a call of `n` arguments by that name, without a namespace.
 pub fn rule_by(word: Keyword, n: u32) -> CallRule
     ensures { result ≡ answers.call_rule_of (keywords.rule_by word n) }
 {
@@ -40,7 +52,7 @@ pub fn rule_by(word: Keyword, n: u32) -> CallRule
         Keyword::Fn if n == 1 => CallRule::FnPtr,
         Keyword::Call if (1 <= n) & (n <= MAX_ARGS + 1) => CallRule::FnPtrCall,
         Keyword::Eval => CallRule::Eval,
-        Keyword::Other if n <= MAX_ARGS => CallRule::Lowerable,
+        Keyword::Other => general_by(word, n),
         _ => CallRule::Residual,
     }
 }

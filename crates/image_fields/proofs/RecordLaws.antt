@@ -63,12 +63,12 @@ const-right s w i {texts} {k} {a} {b} q t e₀ e₁ e₂ =
     let at = consts_at w + const_width * i in
     cc (const-by s w at k a b (first-of w at e₀) e₁ e₂)
 
-pub name-right : (s w : List ℕ) (i : ℕ) {texts a b : ℕ} → texts ≡ text_count s → a ≡ name_word w i 0 → b ≡ name_word w i 1
-    → (ltb a texts && leb b 1) ≡ name_right s w i
+pub name-right : (s w : List ℕ) (i : ℕ) {texts a b c : ℕ} → texts ≡ text_count s → a ≡ name_word w i 0 → b ≡ name_word w i 1
+    → c ≡ name_word w i 2 → (ltb a texts && leb b 1 && leb c texts) ≡ name_right s w i
 unfolding fits name_word
-name-right s w i {texts} t e₀ e₁ =
+name-right s w i {texts} t e₀ e₁ e₂ =
     let at = names_at w + name_width * i in
-    cc (obeys-2 w at (first-of w at e₀) (below texts) (up_to 1) e₁)
+    cc (obeys-3 w at (first-of w at e₀) (below texts) (up_to 1) (up_to texts) e₁ e₂)
 
 pub token-right : (w : List ℕ) (i : ℕ) {a : ℕ} → a ≡ token w i → (leb 1 a && leb a 65535) ≡ token_right w i
 unfolding fits token

@@ -210,7 +210,9 @@ impl<'a> Pair<'a> {
     fn name_right(&self, i: u32) -> bool
         ensures { result ≡ records.name_right self.now.sheet.now self.now.image.words.now i }
     {
-        (self.image.name_word(i, 0) < self.texts) & (self.image.name_word(i, 1) <= 1)
+        (self.image.name_word(i, 0) < self.texts)
+            & (self.image.name_word(i, 1) <= 1)
+            & (self.image.name_word(i, 2) <= self.texts)
     }
 
     fn token_right(&self, i: u32) -> bool

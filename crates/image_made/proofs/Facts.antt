@@ -11,7 +11,9 @@ use Rattle.words.specs.Count.{all_below}
 use Rattle.words.proofs.CountLaws.{all-at}
 use Rattle.sheet.specs.Limits.{max_depth}
 use Rattle.sheet.specs.Sections.{node_count, text_count}
-use Rattle.sheet.specs.Node.{kind, count, field_a, field_b, field_c, child}
+use Rattle.sheet.specs.Node.{kind, count, field_a, field_b, field_c, child, namespace_word}
+use Rattle.sheet.specs.Text.{text_length}
+use Rattle.sheet.specs.Namespace.{may_have, namespace_by, namespace}
 use Rattle.check_shape.specs.Kinds.{bound, scalar}
 use Rattle.check_shape.specs.Shape.{within_bounds_by, within_bounds, own_rule, self_by}
 use Rattle.check_numbers.specs.Numbers.{names_text, exist, number_by, number_ok, node_numbers_by, numbers_by, numbers_ok}
@@ -77,16 +79,37 @@ step-kinds s c = by (eqb (kind s c) index_kind) refl
     by true e = rw (e, step_rule, step_kind)
     by false e = rw (e, step_rule) (dot-kinds (kind s (operand_of s c)))
 
+-- a namespace is the node's word for it, or none
+namespace-within : (s : List ℕ) (n X : ℕ) → namespace_word s n ≤ X → namespace s n ≤ X
+unfolding namespace namespace_by
+namespace-within s n X h = by (may_have (kind s n))
+  where
+    by-text : (t : Bool) → elim t as (λ u. ℕ) [ true ↦ 0 | false ↦ namespace_word s n ] ≤ X
+    by-text true = omega arith
+    by-text false = h
+
+    by-word : (t : Bool)
+        → elim t as (λ u. ℕ) [
+          | true ↦ 0
+          | false ↦ elim (eqb (text_length s (namespace_word s n - 1)) 0) [ true ↦ 0 | false ↦ namespace_word s n ]
+        ] ≤ X
+    by-word true = omega arith
+    by-word false = by-text (eqb (text_length s (namespace_word s n - 1)) 0)
+
+    by : (t : Bool) → elim t as (λ u. ℕ) [ true ↦ namespace_by s (namespace_word s n) | false ↦ 0 ] ≤ X
+    by true = by-word (eqb (namespace_word s n) 0)
+    by false = omega arith
+
 -- a node by itself
 module _ (s : List ℕ) (C : Right s) (M : numbers_ok s ≡ true) (j : ℕ) (v : Valid s j) where
   -- what the check says of the node
   within : within_bounds (kind s j) (count s j) (field_a s j) (field_b s j) (field_c s j) ≡ true
   unfolding self_by
-  within = let k = simp and-eq-true_iff at (node-own s C j v) in k.0.0.0
+  within = let k = simp and-eq-true_iff at (node-own s C j v) in k.0.0.0.0
 
   own : own_rule (kind s j) (count s j) (field_a s j) (field_b s j) ≡ true
   unfolding self_by
-  own = let k = simp and-eq-true_iff at (node-own s C j v) in k.0.0.1
+  own = let k = simp and-eq-true_iff at (node-own s C j v) in k.0.0.0.1
 
   exists : number_ok s j ≡ true
   unfolding numbers_by node_numbers_by
@@ -118,7 +141,14 @@ module _ (s : List ℕ) (C : Right s) (M : numbers_ok s ≡ true) (j : ℕ) (v :
   unfolding number_by exist
   named k e h =
       let x = simp and-eq-true_iff at exists in
-      ltb-true (field_a s j) (text_count s) (rw (ap names_text e ∙ h) at x.0.0.0.0)
+      ltb-true (field_a s j) (text_count s) (rw (ap names_text e ∙ h) at x.0.0.0.0.1)
+
+  -- so does the namespace
+  in_space : namespace s j ≤ text_count s
+  unfolding number_by exist
+  in_space =
+      let x = simp and-eq-true_iff at exists in
+      namespace-within s j (text_count s) (leb-true (namespace_word s j) (text_count s) x.0.0.0.0.0)
 
   -- a Property's three texts
   property-texts : kind s j ≡ property_kind → StepFacts s j StepRule.property
@@ -155,6 +185,7 @@ module _ (s : List ℕ) (C : Right s) (M : numbers_ok s ≡ true) where
     valid = v;
     args = children s C j v;
     named = named s C M j v 13 e refl;
+    space = in_space s C M j v;
     capture = b-bound s C M j v 13 e;
     operator = c-bound s C M j v 13 e;
     first = λ one f. named s C M (child j) (child-valid s C j v one) 9 f refl;
@@ -196,7 +227,7 @@ module _ (s : List ℕ) (C : Right s) (M : numbers_ok s ≡ true) where
       const-at s C M j v (kind s j) refl (leb-true 3 (kind s j) h.0) (leb-true (kind s j) 6 h.1)
   rule-says j v interpolated n e = tt
   rule-says j v array n e = tt
-  rule-says j v variable n e = named s C M j v 9 (eqb-true (kind s j) 9 e) refl
+  rule-says j v variable n e = (named s C M j v 9 (eqb-true (kind s j) 9 e) refl, in_space s C M j v)
   rule-says j v this n e = tt
   rule-says j v fn_call n e = call_facts j v (eqb-true (kind s j) 13 e)
   rule-says j v chain n e = chain-facts j v n

@@ -48,7 +48,7 @@ abbrev no_const : Pools.Const
 no_const = record { kind = 0; a = 0; b = 0 }
 
 abbrev no_name : Pools.Name
-no_name = record { text = 0; mark = 0 }
+no_name = record { text = 0; mark = 0; namespace = 0 }
 
 abbrev no_case : SwitchCase
 no_case = record { target = 0; constant = 0 }
@@ -105,7 +105,7 @@ module _ (s : List ℕ) (r : Program) (L : Listed s r) where
       let n = get_or r.pools.names i no_name in
       let ok = all-in-at (NameOk s) r.pools.names no_name L.pools.names i h in
       row-obeys (name_rules s) (name_words n) w (names_at w + name_width * i) (λ f g. name-word r no_name i f h g)
-      (row_more ok.0 (row_more ok.1 (row-nil [])))
+      (row_more ok.0 (row_more ok.1 (row_more (omega (arith, ok.2)) (row-nil []))))
 
   -- a record of one word
   single : (R : Rule) (at x : ℕ) → word w at ≡ x → Fits R x → Obeys (R ∷ []) w at

@@ -13,13 +13,16 @@ use Rattle.text.specs.Keyword.{is_eval, is_fn, is_call}
 use Rattle.sheet.specs.Sections.{text_count, local_count}
 use Rattle.sheet.specs.Node.{kind, field_a, field_b, field_c, position, count, child, next}
 use Rattle.sheet.specs.Text.{text}
+use Rattle.sheet.specs.Namespace.{namespace, qualified, role}
+use Rattle.sheet.proofs.NamespaceLaws.{role-kind}
 use Rattle.bytecode.specs.declared.Receiver.{Receiver}
 use Rattle.bytecode.specs.declared.Receiver.TheVariants as Receivers
+use Rattle.bytecode.specs.declared.Op.{Op}
 use Rattle.bytecode.specs.declared.Op.TheVariants as Ops
 use Rattle.lowering.specs.Kinds.{variable_kind, this_kind}
 use Rattle.lowering.specs.Limits.{max_args}
 use Rattle.lowering.specs.Code.{ins}
-use Rattle.lowering.specs.Pools.{Pools, emits, defeat, name, name_at, push_name, token_at, push_token}
+use Rattle.lowering.specs.Pools.{Pools, emits, defeat, name, own_name, name_at, push_name, token_at, push_token}
 use Rattle.lowering.specs.Out.{Out, Rec, out, and_then}
 use Rattle.lowering.specs.Slots.{resolve}
 use Rattle.lowering.specs.Operands.{operands}
@@ -28,11 +31,11 @@ use Rattle.lowering.specs.Call.{First, CallRule}
 use Rattle.lowering.specs.Nodes.{Valid, Row}
 use Rattle.lowering.proofs.NodesLaws.{row_first, row-others}
 use Rattle.lowering.proofs.SoundCall.{lowerable-count}
-use Rattle.image_made.proofs.Listed.{counts_for, ReceiverOk, PoolsOk, CodeOk}
+use Rattle.image_made.proofs.Listed.{counts_for, ReceiverOk, OpOk, NameOk, PoolsOk, CodeOk}
 use Rattle.image_made.proofs.Gives.{chains-more, receiver-more, Gives, GivesOut, GivesAll, gives_none, gives-seq, gives-behind}
 use Rattle.image_made.proofs.Gives.{gives-code}
 use Rattle.image_made.proofs.Gives.{gives-emits, gives-ins, gives_then}
-use Rattle.image_made.proofs.GivesPools.{name-pushed, name-there, token-pushed, token-there}
+use Rattle.image_made.proofs.GivesPools.{bare-name, name-pushed, name-there, token-pushed, token-there}
 use Rattle.image_made.proofs.GivesLeaf.{slot-there, residual-gives}
 use Rattle.image_made.proofs.GivesBranch.{operands-give}
 
@@ -41,6 +44,7 @@ pub record CallFacts (s : List ℕ) (j : ℕ) : Type 0 where
   pub valid : Valid s j
   pub args : Row s (count s j) (child j)
   pub named : field_a s j < text_count s
+  pub space : namespace s j ≤ text_count s
   pub capture : field_b s j ≤ 1
   pub operator : field_c s j ≤ 65535
   pub first : 1 ≤ count s j → kind s (child j) ≡ variable_kind → field_a s (child j) < text_count s
@@ -97,18 +101,32 @@ module _ (s : List ℕ) (j : ℕ) where
       let both = (and-eq-true_iff (is_call (Call.callee s j) && leb 1 (count s j)) (leb (count s j) (max_args + 1))).0 h in
       leb-true (count s j) (max_args + 1) both.1
 
-  -- the rule of the node
+  -- the rule of the node: of a call that is no `Fn` and no `call`, without a namespace, and of any
+  general-ok : RuleOk (Call.general_rule s j)
+  unfolding Call.general_rule
+  general-ok = by (Call.is_lowerable_call s j) (is_eval (Call.callee s j)) refl refl
+    where
+      by : (l e : Truth.Bool) → Call.is_lowerable_call s j ≡ l → is_eval (Call.callee s j) ≡ e → RuleOk (Call.general_rule s j)
+      by true e k m = rw (k, Call.general_rule) (lowerable-count s j k)
+      by false true k m = rw (k, m, Call.general_rule) tt
+      by false false k m = rw (k, m, Call.general_rule) tt
+
+  plain-ok : RuleOk (Call.plain_rule s j)
+  unfolding Call.plain_rule
+  plain-ok = by (Call.is_fn_ptr s j) (Call.is_fn_ptr_call s j) refl refl
+    where
+      by : (a c : Truth.Bool) → Call.is_fn_ptr s j ≡ a → Call.is_fn_ptr_call s j ≡ c → RuleOk (Call.plain_rule s j)
+      by true c g h = rw (g, Call.plain_rule) (ptr-count g)
+      by false true g h = rw (g, h, Call.plain_rule) (ptr_call-count h)
+      by false false g h = rw (g, h, Call.plain_rule) general-ok
+
   rule-ok : RuleOk (Call.call_rule s j)
   unfolding Call.call_rule
-  rule-ok = by (Call.is_fn_ptr s j) (Call.is_fn_ptr_call s j) (Call.is_lowerable_call s j) (is_eval (Call.callee s j)) refl refl refl refl
+  rule-ok = by (qualified s j)
     where
-      by : (a c l e : Truth.Bool) → Call.is_fn_ptr s j ≡ a → Call.is_fn_ptr_call s j ≡ c → Call.is_lowerable_call s j ≡ l
-          → is_eval (Call.callee s j) ≡ e → RuleOk (Call.call_rule s j)
-      by true c l e g h k m = rw (g, Call.call_rule) (ptr-count g)
-      by false true l e g h k m = rw (g, h, Call.call_rule) (ptr_call-count h)
-      by false false true e g h k m = rw (g, h, k, Call.call_rule) (lowerable-count s j k)
-      by false false false true g h k m = rw (g, h, k, m, Call.call_rule) tt
-      by false false false false g h k m = rw (g, h, k, m, Call.call_rule) tt
+      by : (t : Truth.Bool) → RuleOk (elim t as (λ u. CallRule) [ true ↦ Call.general_rule s j | false ↦ Call.plain_rule s j ])
+      by true = general-ok
+      by false = plain-ok
 
   -- of the first argument, where it is a receiver
   abbrev FirstOk : First → Type 0
@@ -128,12 +146,14 @@ module _ (s : List ℕ) (j : ℕ) where
 
     first-ok : 1 ≤ count s j → FirstOk (Call.first_of s (child j))
     unfolding Call.first_of
-    first-ok a = by (eqb (kind s (child j)) this_kind) (eqb (kind s (child j)) variable_kind) refl refl
+    first-ok a = by (eqb (role s (child j)) this_kind) (eqb (role s (child j)) variable_kind) refl refl
       where
-        by : (t v : Truth.Bool) → eqb (kind s (child j)) this_kind ≡ t → eqb (kind s (child j)) variable_kind ≡ v
+        by : (t v : Truth.Bool) → eqb (role s (child j)) this_kind ≡ t → eqb (role s (child j)) variable_kind ≡ v
             → FirstOk (Call.first_of s (child j))
         by true v e f = rw (e, Call.first_of) a
-        by false true e f = rw (e, f, Call.first_of) (variable-ok a (eqb-true (kind s (child j)) variable_kind f))
+        by false true e f =
+            let k = role-kind s (child j) (eqb-true (role s (child j)) variable_kind f) (omega arith) in
+            rw (e, f, Call.first_of) (variable-ok a k)
         by false false e f = rw (e, f, Call.first_of) tt
 
     -- the first argument of the node
@@ -157,8 +177,8 @@ module _ (s : List ℕ) (T : ℕ) (rec : Rec) (L : GivesAll s T rec) (j : ℕ) (
   call_ref-gives r d p o a h g =
       let n = name (field_a s j) 0 in
       let q = push_name s n o.pools in
-      let pushed = name-pushed s T o.pools g.good n (F.named, omega arith) in
-      let there = name-there s T o.pools g.good n (F.named, omega arith) in
+      let pushed = name-pushed s T o.pools g.good n (bare-name s F.named) in
+      let there = name-there s T o.pools g.good n (bare-name s F.named) in
       gives_then (out o.code q) (ins (Ops.CallRef (name_at s n o.pools) (count s j) r) d (position s j))
       (gives-behind g pushed)
       (there, a, few, receiver-more s T o.pools q pushed.more r h)
@@ -169,10 +189,10 @@ module _ (s : List ℕ) (T : ℕ) (rec : Rec) (L : GivesAll s T rec) (j : ℕ) (
   call_as-gives op capture d p o k h g =
       let n = name (field_a s j) capture in
       let i = name_at s n o.pools in
-      let pushed = name-pushed s T o.pools g.good n (F.named, k) in
+      let pushed = name-pushed s T o.pools g.good n (F.named, k, omega arith) in
       gives_then (out o.code (push_name s n o.pools)) (ins (Ops.Call i (count s j) op capture) (d + count s j) (position s j))
       (gives-behind g pushed)
-      (name-there s T o.pools g.good n (F.named, k), few, k, omega (arith, h, pushed.more.tokens))
+      (name-there s T o.pools g.good n (F.named, k, omega arith), few, k, omega (arith, h, pushed.more.tokens))
 
   -- the arguments behind the first
   others-give : (b d : ℕ) (p : Pools) → PoolsOk s p → GivesOut s T p (Call.other_args s rec j b d p)
@@ -202,11 +222,11 @@ module _ (s : List ℕ) (T : ℕ) (rec : Rec) (L : GivesAll s T rec) (j : ℕ) (
       let v = name (field_a s (child j)) 0 in
       let i = name_at s v p in
       let others = count s j - 1 in
-      let pushed = name-pushed s T p G v (h, omega arith) in
+      let pushed = name-pushed s T p G v (bare-name s h) in
       let o = Call.other_args s rec j b d (push_name s v p) in
       let q = o.pools in
       let g = others-give b d (push_name s v p) pushed.good in
-      let there : i < length q.names = omega (arith, name-there s T p G v (h, omega arith), g.more.names) in
+      let there : i < length q.names = omega (arith, name-there s T p G v (bare-name s h), g.more.names) in
       let low : others ≤ max_args = omega arith in
       let last = ins (Ops.LoadNamed i) (d + others) (position s (child j)) ∷ Call.rotate others (d + count s j) in
       let rest = gives-code {T = T} {c' = last} (gives_none g.good) (λ z. (there, rotate-ok s T q others (d + count s j) low)) in
@@ -233,17 +253,88 @@ module _ (s : List ℕ) (T : ℕ) (rec : Rec) (L : GivesAll s T rec) (j : ℕ) (
       by : (o : Out) → operands s rec (count s j) (child j) b d p ≡ o → GivesOut s T p o → (t : Truth.Bool) → Call.stores_token s j ≡ t
           → GivesOut s T p (Call.call_values s rec j b d p)
       by o q g true e =
-          let z = not-true (eqb (field_c s j) 0) ((and-eq-true_iff (not (eqb (field_c s j) 0)) _).0 e).0 in
+          let both = ((and-eq-true_iff (not (qualified s j) && not (eqb (field_c s j) 0)) _).0 e).0 in
+          let z = not-true (eqb (field_c s j) 0) ((and-eq-true_iff (not (qualified s j)) (not (eqb (field_c s j) 0))).0 both).1 in
           rw (e, Call.call_values, q) (call_token-gives d p o (eqb-false (field_c s j) 0 z) g)
       by o q g false e = rw (e, Call.call_values, q) (call_as-gives 0 (field_b s j) d p o F.capture (omega arith) g)
 
   -- by the first argument
-  lower_call-gives : (f : First) (b d : ℕ) (p : Pools) → FirstOk s j f → PoolsOk s p → GivesOut s T p (Call.lower_call_by f s rec j b d p)
+  lower_call_by-gives : (f : First) (b d : ℕ) (p : Pools) → FirstOk s j f → PoolsOk s p
+      → GivesOut s T p (Call.lower_call_by f s rec j b d p)
   unfolding Call.lower_call_by
-  lower_call-gives (First.local slot) b d p h G = call_local-gives slot b d p h.1 h.0 G
-  lower_call-gives First.named b d p h G = call_named-gives b d p h.1 h.0 G
-  lower_call-gives First.this b d p h G = call_this-gives b d p h G
-  lower_call-gives First.value b d p h G = call_values-gives b d p G
+  lower_call_by-gives (First.local slot) b d p h G = call_local-gives slot b d p h.1 h.0 G
+  lower_call_by-gives First.named b d p h G = call_named-gives b d p h.1 h.0 G
+  lower_call_by-gives First.this b d p h G = call_this-gives b d p h G
+  lower_call_by-gives First.value b d p h G = call_values-gives b d p G
+
+  -- with a namespace the name is there: CallRef behind code that is right
+  ref_at-gives : (i : ℕ) (r : Receiver) (d : ℕ) (p : Pools) (o : Out) → i < length o.pools.names → 1 ≤ count s j
+      → ReceiverOk (counts_for s T o.pools) r → GivesOut s T p o → GivesOut s T p (Call.ref_at i s j r d o)
+  unfolding Call.ref_at
+  ref_at-gives i r d p o n a h g = gives_then o (ins (Ops.CallRef i (count s j) r) d (position s j)) g (n, a, few, h)
+
+  -- the receiver, then the other arguments
+  loaded_args-gives : (load : Op) (b d : ℕ) (p : Pools) → OpOk (counts_for s T p) load → PoolsOk s p
+      → GivesOut s T p (Call.loaded_args load s rec j b d p)
+  unfolding Call.loaded_args
+  loaded_args-gives load b d p h G =
+      let g = gives-ins {T = T} (ins load d (position s (child j))) G h in
+      gives-seq g (others-give (b + 1) (suc d) (emits 1 p) g.good)
+
+  -- a receiver by name
+  qualified_named-gives : (i b d : ℕ) (p : Pools) → field_a s (child j) < text_count s → 1 ≤ count s j → i < length p.names → PoolsOk s p
+      → GivesOut s T p (Call.qualified_named i s rec j b d p)
+  unfolding Call.qualified_named
+  qualified_named-gives i b d p h a n G =
+      let v = name (field_a s (child j)) 0 in
+      let k = name_at s v p in
+      let q = push_name s v p in
+      let ok : NameOk s v = bare-name s h in
+      let pushed = name-pushed s T p G v ok in
+      let there = name-there s T p G v ok in
+      let g = loaded_args-gives (Ops.LoadNamed k) b d q there pushed.good in
+      ref_at-gives i (Receivers.Named k) (d + count s j) p (Call.loaded_args (Ops.LoadNamed k) s rec j b d q)
+      (omega (arith, n, pushed.more.names, g.more.names)) a (omega (arith, there, g.more.names)) (gives-seq pushed g)
+
+  -- by the first argument
+  qualified_by-gives : (f : First) (i b d : ℕ) (p : Pools) → FirstOk s j f → i < length p.names → PoolsOk s p
+      → GivesOut s T p (Call.lower_qualified_by f i s rec j b d p)
+  unfolding Call.lower_qualified_by Call.qualified_local Call.qualified_this Call.qualified_values
+  qualified_by-gives (First.local slot) i b d p h n G =
+      let g = others-give b d p G in
+      ref_at-gives i (Receivers.Local slot) (d + (count s j - 1)) p (Call.other_args s rec j b d p) (omega (arith, n, g.more.names)) h.0 h.1
+      g
+  qualified_by-gives First.named i b d p h n G = qualified_named-gives i b d p h.1 h.0 n G
+  qualified_by-gives First.this i b d p h n G =
+      let g = loaded_args-gives Ops.LoadThis b d p tt G in
+      ref_at-gives i Receivers.This (d + count s j) p (Call.loaded_args Ops.LoadThis s rec j b d p) (omega (arith, n, g.more.names)) h tt g
+  qualified_by-gives First.value i b d p h n G =
+      let g = operands-give s T rec L (count s j) (child j) b d p F.args G in
+      gives_then (operands s rec (count s j) (child j) b d p) (ins (Ops.Call i (count s j) 0 (field_b s j)) (d + count s j) (position s j))
+      g (omega (arith, n, g.more.names), few, F.capture, omega arith)
+
+  lower_qualified-gives : (b d : ℕ) (p : Pools) → PoolsOk s p → GivesOut s T p (Call.lower_qualified s rec j b d p)
+  unfolding Call.lower_qualified
+  lower_qualified-gives b d p G =
+      let n = own_name s j (field_b s j) in
+      let ok : NameOk s n = (F.named, F.capture, omega (arith, F.space)) in
+      let pushed = name-pushed s T p G n ok in
+      let there = name-there s T p G n ok in
+      gives-seq pushed
+      (qualified_by-gives (Call.receiver s j) (name_at s n p) b d (push_name s n p) (receiver-ok s j F) there pushed.good)
+
+  -- with or without a namespace
+  lower_call-gives : (b d : ℕ) (p : Pools) → PoolsOk s p → GivesOut s T p (Call.lower_call s rec j b d p)
+  unfolding Call.lower_call
+  lower_call-gives b d p G = by (qualified s j)
+    where
+      by : (t : Truth.Bool)
+          → GivesOut s T p (elim t as (λ u. Out) [
+            | true ↦ Call.lower_qualified s rec j b d p
+            | false ↦ Call.lower_call_by (Call.receiver s j) s rec j b d p
+          ])
+      by true = lower_qualified-gives b d p G
+      by false = lower_call_by-gives (Call.receiver s j) b d p (receiver-ok s j F) G
 
 -- ---- any call
 
@@ -259,7 +350,7 @@ module _ (s : List ℕ) (T : ℕ) (rec : Rec) (L : GivesAll s T rec) (j : ℕ) (
       let call = ins (Ops.CallFnPtr (count s j - 1) (field_b s j)) (d + count s j) (position s j) in
       gives_then (operands s rec (count s j) (child j) b d p) call
       (operands-give s T rec L (count s j) (child j) b d p F.args G) (few, F.capture)
-  fn_call_by-gives CallRule.lowerable b d p h G = lower_call-gives s T rec L j F h (Call.receiver s j) b d p (receiver-ok s j F) G
+  fn_call_by-gives CallRule.lowerable b d p h G = lower_call-gives s T rec L j F h b d p G
   fn_call_by-gives CallRule.eval b d p h G =
       let g = defeat-gives s T p G in
       gives-seq g (residual-gives s T (defeat p) g.good j d F.valid)

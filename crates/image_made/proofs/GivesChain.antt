@@ -13,6 +13,8 @@ use Rattle.sheet.specs.Limits.{max_depth}
 use Rattle.sheet.specs.Sections.{text_count}
 use Rattle.sheet.specs.Node.{kind, field_a, field_b, field_c, position, count, child}
 use Rattle.sheet.specs.Text.{text}
+use Rattle.sheet.specs.Namespace.{role}
+use Rattle.sheet.proofs.NamespaceLaws.{role-kind}
 use Rattle.bytecode.specs.declared.Root.{Root}
 use Rattle.bytecode.specs.declared.Root.TheVariants as Roots
 use Rattle.bytecode.specs.declared.Step.{Step}
@@ -35,7 +37,7 @@ use Rattle.lowering.proofs.LinkedChain.{chain-flat, chain-stays, method-args}
 use Rattle.image_made.proofs.Listed.{NameOk, RootOk, StepOk, StepIn, AllIn, PoolsOk}
 use Rattle.image_made.proofs.Gives.{more-trans, root-more, step-more, steps-more, Gives, GivesOut, GivesAll, gives_none, gives-seq}
 use Rattle.image_made.proofs.Gives.{gives-behind, gives-ins}
-use Rattle.image_made.proofs.GivesPools.{name-pushed, name-there, chain-pushed}
+use Rattle.image_made.proofs.GivesPools.{bare-name, name-pushed, name-there, chain-pushed}
 use Rattle.image_made.proofs.GivesLeaf.{slot-there, residual-gives}
 use Rattle.image_made.proofs.GivesBranch.{operands-give}
 
@@ -108,12 +110,12 @@ module _ (s : List ℕ) (T : ℕ) (rec : Rec) (L : GivesAll s T rec) where
       let n₃ = name (field_c s x) 0 in
       let p₁ = push_name s n₁ p in
       let p₂ = push_name s n₂ p₁ in
-      let g₁ = name-pushed s T p G n₁ (f.0, omega arith) in
-      let g₂ = name-pushed s T p₁ g₁.good n₂ (f.1, omega arith) in
-      let g₃ = name-pushed s T p₂ g₂.good n₃ (f.2, omega arith) in
-      let a₁ = name-there s T p G n₁ (f.0, omega arith) in
-      let a₂ = name-there s T p₁ g₁.good n₂ (f.1, omega arith) in
-      let a₃ = name-there s T p₂ g₂.good n₃ (f.2, omega arith) in
+      let g₁ = name-pushed s T p G n₁ (bare-name s f.0) in
+      let g₂ = name-pushed s T p₁ g₁.good n₂ (bare-name s f.1) in
+      let g₃ = name-pushed s T p₂ g₂.good n₃ (bare-name s f.2) in
+      let a₁ = name-there s T p G n₁ (bare-name s f.0) in
+      let a₂ = name-there s T p₁ g₁.good n₂ (bare-name s f.1) in
+      let a₃ = name-there s T p₂ g₂.good n₃ (bare-name s f.2) in
       record {
         gives = gives-behind (gives-behind g₁ g₂) g₃;
         right = (omega (arith, a₁, g₂.more.names, g₃.more.names), omega (arith, a₂, g₃.more.names), a₃, omega arith);
@@ -128,8 +130,8 @@ module _ (s : List ℕ) (T : ℕ) (rec : Rec) (L : GivesAll s T rec) where
   after-ok c n p o f h g =
       let m = name (field_a s (operand_of s c)) 0 in
       record {
-        gives = gives-behind g (name-pushed s T o.pools g.good m (f, omega arith));
-        right = (name-there s T o.pools g.good m (f, omega arith), h, omega arith);
+        gives = gives-behind g (name-pushed s T o.pools g.good m (bare-name s f));
+        right = (name-there s T o.pools g.good m (bare-name s f), h, omega arith);
         inside = omega arith;
         few = h;
       }
@@ -196,23 +198,28 @@ module _ (s : List ℕ) (T : ℕ) (rec : Rec) (L : GivesAll s T rec) (j : ℕ) (
   abbrev RootReady : Pools → Type 0
   RootReady p = Gives s T p [] (root_pools s (child j) p) × RootOk s (length (root_pools s (child j) p).names) (root_of s (child j) p)
 
+  name-ok : eqb (role s (child j)) variable_kind ≡ true → NameOk s (name (field_a s (child j)) 0)
+  name-ok e =
+      let k = role-kind s (child j) (eqb-true (role s (child j)) variable_kind e) (omega arith) in
+      bare-name s (F.named k)
+
   -- the root of the node
   root-ready : (p : Pools) → PoolsOk s p → RootReady p
   unfolding root_pools root_of variable_root
   root-ready p G =
       let x = child j in
-      by (eqb (kind s x) variable_kind) (eqb (kind s x) this_kind) (resolve s (text s (field_a s x))) refl refl refl
+      by (eqb (role s x) variable_kind) (eqb (role s x) this_kind) (resolve s (text s (field_a s x))) refl refl refl
     where
-      by : (v t : Truth.Bool) (r : Option ℕ) → eqb (kind s (child j)) variable_kind ≡ v → eqb (kind s (child j)) this_kind ≡ t
+      by : (v t : Truth.Bool) (r : Option ℕ) → eqb (role s (child j)) variable_kind ≡ v → eqb (role s (child j)) this_kind ≡ t
           → resolve s (text s (field_a s (child j))) ≡ r → RootReady p
       by true t (some slot) e f g =
           let n = name (field_a s (child j)) 0 in
-          let ok : NameOk s n = (F.named (eqb-true (kind s (child j)) variable_kind e), omega arith) in
+          let ok = name-ok e in
           let slots = slot-there s (text s (field_a s (child j))) slot g in
           rw (e, root_pools, root_of, g, variable_root) (name-pushed s T p G n ok, (slots, name-there s T p G n ok))
       by true t none e f g =
           let n = name (field_a s (child j)) 0 in
-          let ok : NameOk s n = (F.named (eqb-true (kind s (child j)) variable_kind e), omega arith) in
+          let ok = name-ok e in
           rw (e, root_pools, root_of, g, variable_root) (name-pushed s T p G n ok, name-there s T p G n ok)
       by false true r e f g = rw (e, f, root_pools, root_of) (gives_none G, tt)
       by false false r e f g = rw (e, f, root_pools, root_of) (gives_none G, tt)

@@ -5,6 +5,7 @@ use native.Mathlib.Omega.{arith}
 use Rattle.sheet.specs.Sections.{text_count}
 use Rattle.sheet.specs.Node.{field_a, count, child}
 use Rattle.sheet.specs.Walk.{skip}
+use Rattle.sheet.specs.Namespace.{namespace}
 use Rattle.lowering.specs.Pools.{Pools, no_pools, const_of}
 use Rattle.lowering.specs.Out.{Rec}
 use Rattle.lowering.specs.Nodes.{Valid, Row}
@@ -25,7 +26,7 @@ RuleFacts s j unit = Prim.Unit {0}
 RuleFacts s j constant = ConstOk s (const_of s j)
 RuleFacts s j interpolated = Prim.Unit {0}
 RuleFacts s j array = Prim.Unit {0}
-RuleFacts s j variable = field_a s j < text_count s
+RuleFacts s j variable = (field_a s j < text_count s) × (namespace s j ≤ text_count s)
 RuleFacts s j this = Prim.Unit {0}
 RuleFacts s j fn_call = CallFacts s j
 RuleFacts s j chain = ChainFacts s j
@@ -49,7 +50,7 @@ module _ (s : List ℕ) (T : ℕ) (N : (j : ℕ) → Valid s j → NodeFacts s j
   by-rule rec L j b d p v G constant F = constant-gives s T p G j d F
   by-rule rec L j b d p v G interpolated F = interpolated-gives s T rec L j b d p (N j v).row G
   by-rule rec L j b d p v G array F = array-gives s T rec L j b d p v (N j v).row G
-  by-rule rec L j b d p v G variable F = variable-gives s T p G j d F
+  by-rule rec L j b d p v G variable F = variable-gives s T p G j d F.0 F.1
   by-rule rec L j b d p v G this F = this-gives s T p G j d
   by-rule rec L j b d p v G fn_call F = fn_call-gives s T rec L j F b d p G
   by-rule rec L j b d p v G chain F = chain-gives s T rec L j F b d p G

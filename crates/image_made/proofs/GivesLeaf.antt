@@ -10,19 +10,20 @@ use native.Mathlib.Omega.{arith}
 use lib.ListN.{length, length-append}
 use Rattle.text.specs.Same.{same}
 use Rattle.sheet.specs.Sections.{text_count, local_count}
-use Rattle.sheet.specs.Node.{field_a, position, local_text}
+use Rattle.sheet.specs.Node.{field_a, position, namespace_pos, local_text}
 use Rattle.sheet.specs.Text.{text}
+use Rattle.sheet.specs.Namespace.{namespace, qualified}
 use Rattle.bytecode.specs.declared.Op.TheVariants as Ops
 use Rattle.lowering.specs.Code.{no_pos}
-use Rattle.lowering.specs.Pools.{Pools, const_of, const_at, name, name_at, push_residual}
-use Rattle.lowering.specs.Out.{residual_expr}
+use Rattle.lowering.specs.Pools.{Pools, const_of, const_at, name, own_name, name_at, push_residual}
+use Rattle.lowering.specs.Out.{Out, residual_expr}
 use Rattle.lowering.specs.Slots.{resolve_below, resolve}
-use Rattle.lowering.specs.Leaf.{boolean, unit, constant, load_named, variable, this}
+use Rattle.lowering.specs.Leaf.{boolean, unit, constant, load_named, load_qualified, load_plain, variable, this}
 use Rattle.lowering.specs.Nodes.{Valid}
-use Rattle.lowering.proofs.LinkedLeaf.{variable-local, variable-named}
+use Rattle.lowering.proofs.LinkedLeaf.{plain-local, plain-named}
 use Rattle.image_made.proofs.Listed.{ConstOk, NameOk, PoolsOk}
 use Rattle.image_made.proofs.Gives.{GivesOut, gives_none, gives_at}
-use Rattle.image_made.proofs.GivesPools.{const-pushed, const-there, name-pushed, name-there, residual-pushed}
+use Rattle.image_made.proofs.GivesPools.{bare-name, const-pushed, const-there, name-pushed, name-there, residual-pushed}
 
 -- a slot is one of the locals
 some_same : (a b : ℕ) → ◌≡◌ {A = Option ℕ} (some a) (some b) → a ≡ b
@@ -74,14 +75,30 @@ module _ (s : List ℕ) (T : ℕ) (p : Pools) (G : PoolsOk s p) where
   unfolding load_named
   named-gives j d h =
       let n = name (field_a s j) 0 in
-      let ok : NameOk s n = (h, omega arith) in
+      let ok : NameOk s n = bare-name s h in
       gives_at (Ops.LoadNamed (name_at s n p)) (position s j) d (name-pushed s T p G n ok) (name-there s T p G n ok)
 
-  pub variable-gives : (j d : ℕ) → field_a s j < text_count s → GivesOut s T p (variable s j d p)
-  variable-gives j d h = by (resolve s (text s (field_a s j))) refl
+  qualified-gives : (j d : ℕ) → field_a s j < text_count s → namespace s j ≤ text_count s → GivesOut s T p (load_qualified s j d p)
+  unfolding load_qualified
+  qualified-gives j d h k =
+      let n = own_name s j 0 in
+      let ok : NameOk s n = (h, omega arith, omega arith) in
+      gives_at (Ops.LoadNamed (name_at s n p)) (namespace_pos s j) d (name-pushed s T p G n ok) (name-there s T p G n ok)
+
+  plain-gives : (j d : ℕ) → field_a s j < text_count s → GivesOut s T p (load_plain s j d p)
+  plain-gives j d h = by (resolve s (text s (field_a s j))) refl
     where
-      by : (r : Option ℕ) → resolve s (text s (field_a s j)) ≡ r → GivesOut s T p (variable s j d p)
+      by : (r : Option ℕ) → resolve s (text s (field_a s j)) ≡ r → GivesOut s T p (load_plain s j d p)
       by (some slot) e =
           let there = slot-there s (text s (field_a s j)) slot e in
-          rw (variable-local s j d p slot e) (gives_at (Ops.LoadLocal slot) no_pos d (gives_none G) there)
-      by none e = rw (variable-named s j d p e) (named-gives j d h)
+          rw (plain-local s j d p slot e) (gives_at (Ops.LoadLocal slot) no_pos d (gives_none G) there)
+      by none e = rw (plain-named s j d p e) (named-gives j d h)
+
+  pub variable-gives : (j d : ℕ) → field_a s j < text_count s → namespace s j ≤ text_count s → GivesOut s T p (variable s j d p)
+  unfolding variable
+  variable-gives j d h k =
+      let loaded : Truth.Bool → Out = λ t. elim t [ true ↦ load_qualified s j d p | false ↦ load_plain s j d p ] in
+      elim (qualified s j) as (λ t. GivesOut s T p (loaded t)) [
+        | true ↦ qualified-gives j d h k
+        | false ↦ plain-gives j d h
+      ]

@@ -8,17 +8,21 @@ use native.Mathlib.Omega.{arith}
 use lib.Dec.{eqb}
 use lib.ListN.{length, length-append, get_or-append}
 use lib.Seq.{get_or-append-add}
-use Rattle.sheet.specs.Sections.{node_count}
+use Rattle.sheet.specs.Sections.{node_count, text_count}
 use Rattle.bytecode.specs.declared.Root.{Root}
 use Rattle.bytecode.specs.declared.Step.{Step}
 use Rattle.bytecode.specs.declared.Chain as ChainRecord
 use Rattle.lowering.specs.Limits.{max_elements}
-use Rattle.lowering.specs.Pools.{Pools, Const, Name, same_const, const_at, push_const, same_name, name_at, push_name, token_at, push_token}
-use Rattle.lowering.specs.Pools.{push_residual, chain_at, new_chain, push_chain}
+use Rattle.lowering.specs.Pools.{Pools, Const, Name, same_const, const_at, push_const, name, same_name, name_at, push_name, token_at}
+use Rattle.lowering.specs.Pools.{push_token, push_residual, chain_at, new_chain, push_chain}
 use Rattle.lowering.specs.Nodes.{Valid}
 use Rattle.lowering.proofs.ChainPool.{push-new, push-old}
 use Rattle.image_made.proofs.Listed.{ConstOk, NameOk, TokenOk, RootOk, StepOk, StepIn, no_step, ChainOk, AllIn, all-in-at, PoolsOk}
 use Rattle.image_made.proofs.Gives.{Gives, all_append, all_more, all_map, steps-more, chains-more, gives_none, added-right}
+
+-- a name without mark and namespace
+pub bare-name : (s : List ℕ) {x : ℕ} → x < text_count s → NameOk s (name x 0)
+bare-name s h = (h, omega arith, omega arith)
 
 module _ (s : List ℕ) (T : ℕ) (p : Pools) (G : PoolsOk s p) where
   -- what is pushed is right, and what is looked for is there: constants, names, tokens, residuals

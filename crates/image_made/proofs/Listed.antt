@@ -112,7 +112,7 @@ abbrev pub no_step : Step
 no_step = Index 0 0 0 0
 
 abbrev pub NameOk : List ℕ → P.Name → Type 0
-NameOk s n = (n.text < text_count s) × (n.mark ≤ 1)
+NameOk s n = (n.text < text_count s) × (n.mark ≤ 1) × (n.namespace ≤ text_count s)
 
 abbrev pub TokenOk : ℕ → Type 0
 TokenOk t = (1 ≤ t) × (t ≤ 65535)

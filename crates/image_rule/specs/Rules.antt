@@ -148,7 +148,7 @@ abbrev pub const_rules : List ℕ → List ℕ → ℕ → List Rule
 const_rules s w i = between 3 6 ∷ get_or (const_table s) (const_word w i 0) []
 
 abbrev pub name_rules : List ℕ → List Rule
-name_rules s = below (text_count s) ∷ up_to 1 ∷ []
+name_rules s = below (text_count s) ∷ up_to 1 ∷ up_to (text_count s) ∷ []
 
 abbrev pub token_rules : List Rule
 token_rules = between 1 65535 ∷ []

@@ -1,19 +1,21 @@
 -- Two lowerings of nodes that agree on every node with P: each construct over such nodes is lowered alike.
 use Prim.Native.Nat.{ℕ, zero, suc, ◌+◌, ◌-◌, ◌≤◌, ◌<◌}
 use mathlib.Core.Path.{◌≡◌, refl, ap, ◌∙◌}
-use mathlib.Core.Bool.{true, false}
+use mathlib.Core.Bool.{Bool, true, false}
 use mathlib.Core.List.{List, [], ◌∷◌, ◌++◌}
 use native.Mathlib.Omega.{arith}
 use lib.Dec.{leb}
 use lib.ListN.{length}
 use Rattle.sheet.specs.Node.{count, field_a, field_b, position, child, next}
 use Rattle.sheet.specs.Walk.{skip}
+use Rattle.sheet.specs.Namespace.{qualified}
+use Rattle.bytecode.specs.declared.Op.{Op}
 use Rattle.bytecode.specs.declared.Op.TheVariants.{CheckSize, InterpolateAppend, InterpolateStart, InterpolateEnd, MakeArray, MakeFnPtr}
-use Rattle.bytecode.specs.declared.Op.TheVariants.{CallFnPtr, LoadNamed, LoadThis}
+use Rattle.bytecode.specs.declared.Op.TheVariants.{Call as CallOp, CallFnPtr, LoadNamed, LoadThis}
 use Rattle.bytecode.specs.declared.Receiver.TheVariants.{Local, Named, This}
 use Rattle.lowering.specs.Limits.{max_elements}
 use Rattle.lowering.specs.Code.{ins, no_pos}
-use Rattle.lowering.specs.Pools.{Pools, emits, name, name_at, push_name}
+use Rattle.lowering.specs.Pools.{Pools, Name, emits, name, own_name, name_at, push_name}
 use Rattle.lowering.specs.Out.{Out, out, Rec, and_then, residual_expr}
 use Rattle.lowering.specs.Operands.{operands}
 use Rattle.lowering.specs.Array.{elements, array}
@@ -155,6 +157,43 @@ module _ (s : List ℕ) {P : ℕ → Type 0} {rec rec' : Rec} (A : Agree P rec r
       ap (λ (o : Out). elim (Call.stores_token s j) [ true ↦ Call.call_token s j d o | false ↦ Call.call_as s j 0 (field_b s j) d o ])
       (operands_same (count s j) (child j) b d p a)
 
+  loaded-same : (load : Op) (j b d : ℕ) (p : Pools) → Each s P (count s j) (child j)
+      → Call.loaded_args load s rec j b d p ≡ Call.loaded_args load s rec' j b d p
+  unfolding Call.loaded_args
+  loaded-same load j b d p a =
+      ap (λ (r : Out). out (ins load d (position s (child j)) ∷ r.code) r.pools) (others_same j (b + 1) (suc d) (emits 1 p) a)
+
+  qualified-same : (r : Call.First) (i j b d : ℕ) (p : Pools) → Each s P (count s j) (child j)
+      → Call.lower_qualified_by r i s rec j b d p ≡ Call.lower_qualified_by r i s rec' j b d p
+  unfolding Call.lower_qualified_by Call.qualified_local Call.qualified_named Call.qualified_this Call.qualified_values
+  qualified-same (Call.local slot) i j b d p a = ap (Call.ref_at i s j (Local slot) (d + (count s j - 1))) (others_same j b d p a)
+  qualified-same Call.named i j b d p a =
+      let v = name (field_a s (child j)) 0 in
+      let k = name_at s v p in
+      ap (Call.ref_at i s j (Named k) (d + count s j)) (loaded-same (LoadNamed k) j b d (push_name s v p) a)
+  qualified-same Call.this i j b d p a = ap (Call.ref_at i s j This (d + count s j)) (loaded-same LoadThis j b d p a)
+  qualified-same Call.value i j b d p a =
+      ap (λ (o : Out). and_then o (ins (CallOp i (count s j) 0 (field_b s j)) (d + count s j) (position s j) ∷ []))
+      (operands_same (count s j) (child j) b d p a)
+
+  lower_call-same : (j b d : ℕ) (p : Pools) → Each s P (count s j) (child j)
+      → Call.lower_call s rec j b d p ≡ Call.lower_call s rec' j b d p
+  unfolding Call.lower_call Call.lower_qualified
+  lower_call-same j b d p a = by (qualified s j)
+    where
+      n : Name
+      n = own_name s j (field_b s j)
+
+      of : Rec → Bool → Out
+      of r t = elim t [
+        | true ↦ Call.lower_qualified s r j b d p
+        | false ↦ Call.lower_call_by (Call.receiver s j) s r j b d p
+      ]
+
+      by : (t : Bool) → of rec t ≡ of rec' t
+      by true = qualified-same (Call.receiver s j) (name_at s n p) j b d (push_name s n p) a
+      by false = lower-same (Call.receiver s j) j b d p a
+
   by-same : (c : Call.CallRule) (j b d : ℕ) (p : Pools) → Takes c (count s j) → Each s P (count s j) (child j)
       → Call.fn_call_by c s rec j b d p ≡ Call.fn_call_by c s rec' j b d p
   unfolding Call.fn_call_by Call.make_fn_ptr Call.call_fn_ptr
@@ -164,7 +203,7 @@ module _ (s : List ℕ) {P : ℕ → Type 0} {rec rec' : Rec} (A : Agree P rec r
   by-same Call.fn_ptr_call j b d p h a =
       ap (λ (o : Out). and_then o (ins (CallFnPtr (count s j - 1) (field_b s j)) (d + count s j) (position s j) ∷ []))
       (operands_same (count s j) (child j) b d p a)
-  by-same Call.lowerable j b d p h a = lower-same (Call.receiver s j) j b d p a
+  by-same Call.lowerable j b d p h a = lower_call-same j b d p a
   by-same Call.eval j b d p h a = refl
   by-same Call.residual j b d p h a = refl
 

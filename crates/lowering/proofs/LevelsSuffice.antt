@@ -11,9 +11,9 @@ use Rattle.words.specs.Count.{all_below}
 use Rattle.words.proofs.CountLaws.{all-at}
 use Rattle.sheet.specs.Limits.{max_depth}
 use Rattle.sheet.specs.Sections.{node_count}
-use Rattle.sheet.specs.Node.{kind, count, position, child, next}
+use Rattle.sheet.specs.Node.{kind, count, child, next}
 use Rattle.sheet.specs.Walk.{siblings_by, siblings, skip}
-use Rattle.sheet.specs.Start.{starts_inside, start_within, start_of}
+use Rattle.sheet.specs.Start.{starts_inside, own_start, start_within, start_of}
 use Rattle.sheet.specs.Kinds.{last_kind}
 use Rattle.check_shape.specs.Kinds.{bound}
 use Rattle.check_depth.specs.Depth.{within_by, within, depth_by}
@@ -188,7 +188,7 @@ module _ (s : List ℕ) where
   unfolding start_within
   start-down m j e = rw (e, start_within)
 
-  start-here : (m j : ℕ) → starts_inside (kind s j) ≡ false → start_within (suc m) s j ≡ position s j
+  start-here : (m j : ℕ) → starts_inside (kind s j) ≡ false → start_within (suc m) s j ≡ own_start s j
   unfolding start_within
   start-here m j e = rw (e, start_within)
 
@@ -273,7 +273,7 @@ module _ (s : List ℕ) (a : verdict_number (checked s) ≡ 0) where
   links-step m j = refl
 
   start-free : (j : ℕ) → Within s max_depth j
-      → start_of s j ≡ elim (starts_inside (kind s j)) [ true ↦ start_of s (child j) | false ↦ position s j ]
+      → start_of s j ≡ elim (starts_inside (kind s j)) [ true ↦ start_of s (child j) | false ↦ own_start s j ]
   start-free j w = by (starts_inside (kind s j)) refl
     where
       here : start_of s j ≡ start_within (suc max_levels) s j
@@ -282,7 +282,7 @@ module _ (s : List ℕ) (a : verdict_number (checked s) ≡ 0) where
       first : starts_inside (kind s j) ≡ true → Within s max_depth (child j)
       first e = first-within s C max_depth j (one_more s max_depth j w) (inside-count s C j w.valid e)
 
-      by : (t : Bool) → starts_inside (kind s j) ≡ t → start_of s j ≡ elim t [ true ↦ start_of s (child j) | false ↦ position s j ]
+      by : (t : Bool) → starts_inside (kind s j) ≡ t → start_of s j ≡ elim t [ true ↦ start_of s (child j) | false ↦ own_start s j ]
       by true e = here ∙ start-down s max_levels j e ∙ start-more 0 (child j) (first e)
       by false e = here ∙ start-here s max_levels j e
 

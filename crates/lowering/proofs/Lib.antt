@@ -73,3 +73,6 @@ pub mod GuidedRun
 pub mod ChainNodesLaws
 pub mod NodesLaws
 mod RowsRight
+mod ModuleRowsRight
+mod NamespaceWords
+pub mod ModulesHold

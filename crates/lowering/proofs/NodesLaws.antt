@@ -158,7 +158,7 @@ module _ (s : List ℕ) (C : Right s) where
     unfolding self_by
     switch-count =
         let k = simp and-eq-true_iff at (node-own 0 root-valid) in
-        own-switch (kind s 0) (count s 0) (field_a s 0) (field_b s 0) e k.0.0.1
+        own-switch (kind s 0) (count s 0) (field_a s 0) (field_b s 0) e k.0.0.0.1
 
     switch-child : (i : ℕ) → i < 1 + 2 * block_count s → Valid s (skip s i subject)
     switch-child i h = let l = switch-count in (children 0 root-valid).each i (omega arith)

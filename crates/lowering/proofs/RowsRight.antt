@@ -8,6 +8,6 @@ use Rattle.lowering.specs.Rows.{unit, and_bool, coalesce_unit, nested, empties, 
 use Rattle.lowering.specs.Rows.{default_switch, method_eval, rows, computed}
 
 pub rows_right : (p : ℕ) → map computed (rows p) ≡ rows p
-unfolding unit and_bool coalesce_unit nested empties widest overlapping call_local call_named empty_switch default_switch method_eval rows computed
-    answer small least greatest entry
+unfolding unit and_bool coalesce_unit nested empties widest overlapping call_local call_named empty_switch default_switch method_eval rows
+    computed answer small least greatest entry
 rows_right p = refl

@@ -8,23 +8,26 @@ use native.Mathlib.Omega.{arith}
 use borrow.Author.Tests.{leb-true}
 use Rattle.text.specs.Keyword.{is_call, is_eval}
 use Rattle.sheet.specs.Node.{count, field_a, field_b, field_c, position, child, next}
+use Rattle.sheet.specs.Namespace.{qualified}
 use Rattle.bytecode.specs.declared.Receiver.{Receiver}
 use Rattle.bytecode.specs.declared.Receiver.TheVariants.{Local, Named, This}
+use Rattle.bytecode.specs.declared.Op.{Op}
 use Rattle.bytecode.specs.declared.Op.TheVariants.{LoadNamed, LoadThis, Call, CallRef, Rotate, MakeFnPtr, CallFnPtr}
 use Rattle.lowering.specs.Limits.{max_args}
 use Rattle.lowering.specs.Code.{ins, no_pos}
-use Rattle.lowering.specs.Pools.{Pools, emits, defeat, name, name_at, push_name, token_at, push_token}
+use Rattle.lowering.specs.Pools.{Pools, emits, defeat, name, own_name, name_at, push_name, token_at, push_token}
 use Rattle.lowering.specs.Out.{Out, out, Rec, and_then}
 use Rattle.lowering.specs.Operands.{operands}
 use Rattle.lowering.specs.Call.{callee, syntactic, is_lowerable_call, CallRule, fn_ptr, fn_ptr_call, lowerable, eval, residual, is_fn_ptr}
-use Rattle.lowering.specs.Call.{is_fn_ptr_call, call_rule, make_fn_ptr, call_fn_ptr, First, local, named, this, value, first_of, receiver}
-use Rattle.lowering.specs.Call.{other_args, call_ref, call_local, call_this, rotate, call_named, stores_token, call_as, call_token}
-use Rattle.lowering.specs.Call.{call_values, lower_call_by, fn_call_by, fn_call}
+use Rattle.lowering.specs.Call.{is_fn_ptr_call, general_rule, plain_rule, call_rule, make_fn_ptr, call_fn_ptr, First, local, named, this}
+use Rattle.lowering.specs.Call.{value, first_of, receiver, other_args, call_ref, call_local, call_this, rotate, call_named, stores_token}
+use Rattle.lowering.specs.Call.{call_as, call_token, call_values, lower_call_by, ref_at, loaded_args, qualified_local, qualified_this}
+use Rattle.lowering.specs.Call.{qualified_named, qualified_values, lower_qualified_by, lower_qualified, lower_call, fn_call_by, fn_call}
 use Rattle.bytecode.specs.declared.Chain.{Chain}
 use Rattle.lowering.proofs.Effect.{ref_pops}
 use Rattle.lowering.proofs.Typed.{Nothing}
 use Rattle.lowering.proofs.Meets.{Meets}
-use Rattle.lowering.proofs.Lowers.{Lowers, Done, lowers-none, lowers-seq, lowers-one, lowers-to, done-then, meets_at}
+use Rattle.lowering.proofs.Lowers.{Lowers, Done, Straight, lowers-none, lowers-seq, lowers-one, lowers-to, done-then, meets_at}
 use Rattle.lowering.proofs.SoundLeaf.{residual-done}
 use Rattle.lowering.proofs.SoundOperands.{operands-done}
 
@@ -56,17 +59,31 @@ module _ (s : List ℕ) (j : ℕ) where
       let le = leb-true (count s j) max_args ((and-eq-true_iff (leb (count s j) max_args) (not (syntactic (callee s j)))).0 h).0 in
       omega arith
 
+  general-allows : Allows (general_rule s j) (count s j)
+  unfolding general_rule
+  general-allows = by (is_lowerable_call s j) (is_eval (callee s j)) refl refl
+    where
+      by : (l e : Bool) → is_lowerable_call s j ≡ l → is_eval (callee s j) ≡ e → Allows (general_rule s j) (count s j)
+      by true e k m = rw (k, general_rule) (lowerable-count k)
+      by false true k m = rw (k, m, general_rule) tt
+      by false false k m = rw (k, m, general_rule) tt
+
+  plain-allows : Allows (plain_rule s j) (count s j)
+  unfolding plain_rule
+  plain-allows = by (is_fn_ptr s j) (is_fn_ptr_call s j) refl refl
+    where
+      by : (a c : Bool) → is_fn_ptr s j ≡ a → is_fn_ptr_call s j ≡ c → Allows (plain_rule s j) (count s j)
+      by true c g h = rw (g, plain_rule) tt
+      by false true g h = rw (g, h, plain_rule) (fn_ptr_call-count h)
+      by false false g h = rw (g, h, plain_rule) general-allows
+
   rule-allows : Allows (call_rule s j) (count s j)
   unfolding call_rule
-  rule-allows = by (is_fn_ptr s j) (is_fn_ptr_call s j) (is_lowerable_call s j) (is_eval (callee s j)) refl refl refl refl
+  rule-allows = by _
     where
-      by : (a c l e : Bool) → is_fn_ptr s j ≡ a → is_fn_ptr_call s j ≡ c → is_lowerable_call s j ≡ l → is_eval (callee s j) ≡ e
-          → Allows (call_rule s j) (count s j)
-      by true c l e g h k m = rw (g, call_rule) tt
-      by false true l e g h k m = rw (g, h, call_rule) (fn_ptr_call-count h)
-      by false false true e g h k m = rw (g, h, k, call_rule) (lowerable-count k)
-      by false false false true g h k m = rw (g, h, k, m, call_rule) tt
-      by false false false false g h k m = rw (g, h, k, m, call_rule) tt
+      by : (t : Bool) → Allows (elim t as (λ u. CallRule) [ true ↦ general_rule s j | false ↦ plain_rule s j ]) (count s j)
+      by true = general-allows
+      by false = plain-allows
 
   any-takes : (f : First) → 1 ≤ count s j → Takes f (count s j)
   any-takes (local slot) h = h
@@ -84,7 +101,8 @@ module _ (s : List ℕ) (j : ℕ) where
           (leb-true 1 (count s j) ((and-eq-true_iff (eqb (field_c s j) 0 && eqb (field_b s j) 0) (leb 1 (count s j))).0 h).1))
       by false h = rw (h, receiver) tt
 
-other_args-done : (s : List ℕ) (rec : Rec) → Meets rec → (j b d : ℕ) (p : Pools) → Done p b d (d + (count s j - 1)) (other_args s rec j b d p)
+other_args-done : (s : List ℕ) (rec : Rec) → Meets rec → (j b d : ℕ) (p : Pools)
+    → Done p b d (d + (count s j - 1)) (other_args s rec j b d p)
 unfolding other_args
 other_args-done s rec M j b d p = operands-done s rec M (count s j - 1) (next s (child j)) b d p
 
@@ -96,6 +114,62 @@ rotate-lowers {x} {b} others e h = by (eqb others 0) refl
     by : (t : Bool) → eqb others 0 ≡ t → Lowers Nothing x b e e (rotate others e) x
     by true k = rw (k, rotate) lowers-none
     by false k = rw (k, rotate) (lowers-one (ins (Rotate others) e no_pos) refl (λ X A N q g end le. omega arith))
+
+-- a call with a namespace, its name being pooled
+module _ (s : List ℕ) (rec : Rec) (M : Meets rec) (j b d : ℕ) (p : Pools) where
+  -- CallRef behind code that ends at depth e, where it finds its arguments
+  ref_at-done : (i : ℕ) (r : Receiver) (e f : ℕ) (o : Out) → count s j < 256 → ref_pops (count s j) r + f ≡ e → Done p b d e o
+      → Done p b d (suc f) (ref_at i s j r e o)
+  unfolding ref_at
+  ref_at-done i r e f o h k g =
+      done-then o (ins (CallRef i (count s j) r) e (position s j)) refl (λ X A N q u end le. omega arith) g
+
+  -- the receiver, then the other arguments
+  loaded_args-done : (load : Op) → 1 ≤ count s j → Straight p.chains (suc d) (ins load d (position s (child j)))
+      → Done p b d (d + count s j) (loaded_args load s rec j b d p)
+  unfolding loaded_args emits
+  loaded_args-done load h f =
+      lowers-seq
+      (lowers-one {e = suc d} (ins load d (position s (child j))) refl f)
+      (lowers-to (omega arith) (other_args-done s rec M j (b + 1) (suc d) (emits 1 p)))
+
+  qualified_local-done : (i slot : ℕ) → count s j < 256 → Done p b d (suc d) (qualified_local i s rec slot j b d p)
+  unfolding qualified_local
+  qualified_local-done i slot h =
+      ref_at-done i (Local slot) (d + (count s j - 1)) d (other_args s rec j b d p) h (omega arith) (other_args-done s rec M j b d p)
+
+  qualified_this-done : (i : ℕ) → 1 ≤ count s j → count s j < 256 → Done p b d (suc d) (qualified_this i s rec j b d p)
+  unfolding qualified_this
+  qualified_this-done i h k =
+      ref_at-done i This (d + count s j) d (loaded_args LoadThis s rec j b d p) k (omega arith)
+      (loaded_args-done LoadThis h (λ X A N q g end le. omega arith))
+
+  qualified_values-done : (i : ℕ) → count s j < 256 → Done p b d (suc d) (qualified_values i s rec j b d p)
+  unfolding qualified_values
+  qualified_values-done i h =
+      done-then (operands s rec (count s j) (child j) b d p)
+      (ins (Call i (count s j) 0 (field_b s j)) (d + count s j) (position s j))
+      refl
+      (λ X A N q g end le. omega arith)
+      (operands-done s rec M (count s j) (child j) b d p)
+
+module _ (s : List ℕ) (rec : Rec) (M : Meets rec) (j b d : ℕ) (p : Pools) where
+  qualified_named-done : (i : ℕ) → 1 ≤ count s j → count s j < 256 → Done p b d (suc d) (qualified_named i s rec j b d p)
+  unfolding qualified_named push_name
+  qualified_named-done i h k =
+      let v = name (field_a s (child j)) 0 in
+      let at = name_at s v p in
+      let q = push_name s v p in
+      ref_at-done s rec M j b d q i (Named at) (d + count s j) d (loaded_args (LoadNamed at) s rec j b d q) k (omega arith)
+      (loaded_args-done s rec M j b d q (LoadNamed at) h (λ X A N q g end le. omega arith))
+
+  lower_qualified_by-done : (f : First) (i : ℕ) → Takes f (count s j) → count s j < 256
+      → Done p b d (suc d) (lower_qualified_by f i s rec j b d p)
+  unfolding lower_qualified_by
+  lower_qualified_by-done (local slot) i t h = qualified_local-done s rec M j b d p i slot h
+  lower_qualified_by-done named i t h = qualified_named-done i t h
+  lower_qualified_by-done this i t h = qualified_this-done s rec M j b d p i t h
+  lower_qualified_by-done value i t h = qualified_values-done s rec M j b d p i h
 
 module _ (s : List ℕ) (rec : Rec) (M : Meets rec) (j b d : ℕ) (p : Pools) where
   make_fn_ptr-done : Done p b d (suc d) (make_fn_ptr s rec j b d p)
@@ -156,7 +230,8 @@ module _ (s : List ℕ) (rec : Rec) (M : Meets rec) (j b d : ℕ) (p : Pools) wh
       (rotate-lowers n (d + count s j) (omega arith))))
 
   -- Call behind all arguments
-  call_as-done : (op capture : ℕ) (o : Out) → count s j < 256 → Done p b d (d + count s j) o → Done p b d (suc d) (call_as s j op capture d o)
+  call_as-done : (op capture : ℕ) (o : Out) → count s j < 256 → Done p b d (d + count s j) o
+      → Done p b d (suc d) (call_as s j op capture d o)
   unfolding call_as push_name
   call_as-done op capture o h g =
       let n = name (field_a s j) capture in
@@ -182,18 +257,36 @@ module _ (s : List ℕ) (rec : Rec) (M : Meets rec) (j b d : ℕ) (p : Pools) wh
           rw (k, call_values) (call_as-done 0 (field_b s j) (operands s rec (count s j) (child j) b d p) h
           (operands-done s rec M (count s j) (child j) b d p))
 
-  lower_call-done : (f : First) → Takes f (count s j) → count s j < 256 → Done p b d (suc d) (lower_call_by f s rec j b d p)
+  lower_call_by-done : (f : First) → Takes f (count s j) → count s j < 256 → Done p b d (suc d) (lower_call_by f s rec j b d p)
   unfolding lower_call_by
-  lower_call-done (local slot) t h = call_local-done slot h
-  lower_call-done named t h = call_named-done t h
-  lower_call-done this t h = call_this-done t h
-  lower_call-done value t h = call_values-done h
+  lower_call_by-done (local slot) t h = call_local-done slot h
+  lower_call_by-done named t h = call_named-done t h
+  lower_call_by-done this t h = call_this-done t h
+  lower_call_by-done value t h = call_values-done h
+
+  lower_qualified-done : count s j < 256 → Done p b d (suc d) (lower_qualified s rec j b d p)
+  unfolding lower_qualified push_name
+  lower_qualified-done h =
+      let n = own_name s j (field_b s j) in
+      lower_qualified_by-done s rec M j b d (push_name s n p) (receiver s j) (name_at s n p) (receiver-takes s j) h
+
+  lower_call-done : count s j < 256 → Done p b d (suc d) (lower_call s rec j b d p)
+  unfolding lower_call
+  lower_call-done h = by (qualified s j)
+    where
+      by : (t : Bool)
+          → Done p b d (suc d) (elim t as (λ u. Out) [
+            | true ↦ lower_qualified s rec j b d p
+            | false ↦ lower_call_by (receiver s j) s rec j b d p
+          ])
+      by true = lower_qualified-done h
+      by false = lower_call_by-done (receiver s j) (receiver-takes s j) h
 
   fn_call_by-done : (r : CallRule) → Allows r (count s j) → Done p b d (suc d) (fn_call_by r s rec j b d p)
   unfolding fn_call_by defeat
   fn_call_by-done fn_ptr a = make_fn_ptr-done
   fn_call_by-done fn_ptr_call a = call_fn_ptr-done a
-  fn_call_by-done lowerable a = lower_call-done (receiver s j) (receiver-takes s j) a
+  fn_call_by-done lowerable a = lower_call-done a
   fn_call_by-done eval a = residual-done j b d (defeat p)
   fn_call_by-done residual a = residual-done j b d p
 

@@ -7,7 +7,8 @@ use lib.Dec.{eqb}
 use lib.ListN.{length, length-append}
 use native.Mathlib.Omega.{arith}
 use native.Mathlib.Nat.{add-zero}
-use Rattle.sheet.specs.Node.{kind, count, position, child}
+use Rattle.sheet.specs.Node.{count, position, child}
+use Rattle.sheet.specs.Namespace.{role}
 use Rattle.bytecode.specs.declared.Root.{Root}
 use Rattle.bytecode.specs.declared.Root.TheVariants.{Local, Named, This, Temporary}
 use Rattle.bytecode.specs.declared.Step.{Step}
@@ -131,9 +132,9 @@ module _ (s : List ℕ) (rec : Rec) (M : Meets rec) where
 
   root_pools-chains : (v : ℕ) (p : Pools) → (root_pools s v p).chains ≡ p.chains
   unfolding root_pools push_name
-  root_pools-chains v p = by (eqb (kind s v) variable_kind) refl
+  root_pools-chains v p = by (eqb (role s v) variable_kind) refl
     where
-      by : (t : Bool) → eqb (kind s v) variable_kind ≡ t → (root_pools s v p).chains ≡ p.chains
+      by : (t : Bool) → eqb (role s v) variable_kind ≡ t → (root_pools s v p).chains ≡ p.chains
       by true h = rw (h, root_pools)
       by false h = rw (h, root_pools)
 

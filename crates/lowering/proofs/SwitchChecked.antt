@@ -10,7 +10,7 @@ use native.Mathlib.Nat.{add-zero}
 use borrow.Author.Tests.{leb-true, ltb-true, eqb-true, eq-eqb, ne_eqb, le-leb, lt-leb}
 use Rattle.words.proofs.CountLaws.{all-at}
 use Rattle.sheet.specs.Sections.{node_count, text_count}
-use Rattle.sheet.specs.Node.{kind, span, count, field_a, field_b, field_c, child, next}
+use Rattle.sheet.specs.Node.{kind, span, count, field_a, field_b, field_c, child, next, namespace_word}
 use Rattle.sheet.specs.Walk.{skip}
 use Rattle.sheet.proofs.WalkLaws.{skip-add}
 use Rattle.check_shape.specs.Kinds.{switch_child, case_child, child_kind, case_value}
@@ -100,19 +100,19 @@ value-kind p a b k e h = subst (λ (n : ℕ). child_kind n a b 0 k ≡ true) e h
 -- ---- numbers that exist
 
 -- the block of a Ref
-pub ref-exists : (X K k a b c : ℕ) → k ≡ 22 → exist X K k a b c ≡ true → a < K
+pub ref-exists : (X K k a b c x : ℕ) → k ≡ 22 → exist X K k a b c x ≡ true → a < K
 unfolding exist
-ref-exists X K k a b c e h = let l = rw (eq-eqb k 22 e) at (simp and-eq-true_iff at h).1 in ltb-true a K l
+ref-exists X K k a b c x e h = let l = rw (eq-eqb k 22 e) at (simp and-eq-true_iff at h).1 in ltb-true a K l
 
 -- of a Range
-pub range-exists : (X K k a b c : ℕ) → k ≡ 21 → exist X K k a b c ≡ true → b < K
+pub range-exists : (X K k a b c x : ℕ) → k ≡ 21 → exist X K k a b c x ≡ true → b < K
 unfolding exist
-range-exists X K k a b c e h = let l = rw (eq-eqb k 21 e) at (simp and-eq-true_iff at h).0.1 in ltb-true b K l
+range-exists X K k a b c x e h = let l = rw (eq-eqb k 21 e) at (simp and-eq-true_iff at h).0.1 in ltb-true b K l
 
 -- and of the default
-default-exist : (X K k a b c : ℕ) → k ≡ 19 → exist X K k a b c ≡ true → c ≤ K
+default-exist : (X K k a b c x : ℕ) → k ≡ 19 → exist X K k a b c x ≡ true → c ≤ K
 unfolding exist
-default-exist X K k a b c e h = let l = rw (eq-eqb k 19 e) at (simp and-eq-true_iff at h).0.0.1 in leb-true c K l
+default-exist X K k a b c x e h = let l = rw (eq-eqb k 19 e) at (simp and-eq-true_iff at h).0.0.1 in leb-true c K l
 
 -- a sibling is so many places behind the first
 nodes-at : (s : List ℕ) (n j x : ℕ) → Memᴰ x (nodes_from s n j) → (q : ℕ) × (q < n) × (x ≡ skip s q j)
@@ -126,7 +126,8 @@ nodes-at s (suc n) j x m =
 
 module _ (s : List ℕ) (C : Right s) (n : numbers_ok s ≡ true) (e : kind s 0 ≡ switch_kind) where
   -- the numbers of node j
-  pub number_at : (j : ℕ) → Valid s j → exist (text_count s) (block_count s) (kind s j) (field_a s j) (field_b s j) (field_c s j) ≡ true
+  pub number_at : (j : ℕ) → Valid s j → exist (text_count s) (block_count s) (kind s j) (field_a s j) (field_b s j) (field_c s j) (namespace_word s j)
+      ≡ true
   unfolding numbers_by node_numbers_by number_by
   number_at j v = all-at (number_ok s) (node_count s) j (simp and-eq-true_iff at n).0 v
 
@@ -180,18 +181,18 @@ module _ (s : List ℕ) (C : Right s) (n : numbers_ok s ≡ true) (e : kind s 0 
   unfolding case_blocks ranges_of range_of
   checked-blocks = record {
     default-exists =
-        default-exist (text_count s) (block_count s) (kind s 0) (field_a s 0) (field_b s 0) (field_c s 0) e (number_at 0 (root-valid s C));
+        default-exist (text_count s) (block_count s) (kind s 0) (field_a s 0) (field_b s 0) (field_c s 0) (namespace_word s 0) e (number_at 0 (root-valid s C));
     cases-exist = λ c m k h.
         let v = case-node c m in
         let r = Memᴰ.of_map (λ (x : ℕ). field_a s x) (nodes_from s (count s c - 1) (next s (child c))) h in
         let w = ref-node c v.0 v.1 r.0 r.1 in
         subst (λ (i : ℕ). i < block_count s) r.2
-        (ref-exists (text_count s) (block_count s) (kind s r.0) (field_a s r.0) (field_b s r.0) (field_c s r.0) w.1
+        (ref-exists (text_count s) (block_count s) (kind s r.0) (field_a s r.0) (field_b s r.0) (field_c s r.0) (namespace_word s r.0) w.1
         (number_at r.0 w.0));
     ranges-exist = λ x m.
         let r = Memᴰ.of_map (range_of s) (range_nodes s) m in
         let w = range-node r.0 r.1 in
         subst (λ (y : Range). y.block < block_count s) r.2
-        (range-exists (text_count s) (block_count s) (kind s r.0) (field_a s r.0) (field_b s r.0) (field_c s r.0) w.1
+        (range-exists (text_count s) (block_count s) (kind s r.0) (field_a s r.0) (field_b s r.0) (field_c s r.0) (namespace_word s r.0) w.1
         (number_at r.0 w.0));
   }

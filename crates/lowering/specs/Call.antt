@@ -1,16 +1,19 @@
--- FnCall: `Fn`, `call` and `eval` by their own rules, any other name as a call, through a receiver where the first argument is one.
+-- FnCall: `Fn`, `call` and `eval` by their own rules, any other name as a call, through a receiver where the first argument is one. With a
+-- namespace only `eval` has a rule of its own.
 use Rattle.std.specs.Prelude.{ℕ, suc, ◌+◌, ◌-◌, Bool, true, false, ◌&&◌, ◌||◌, not, List, [], ◌∷◌, leb, eqb}
 use Rattle.std.proofs.Math.Option.{none, some}
 use Rattle.text.specs.Keyword.{is_eval, is_fn, is_call, is_curry}
-use Rattle.sheet.specs.Node.{kind, count, field_a, field_b, field_c, position, child, next}
+use Rattle.sheet.specs.Node.{count, field_a, field_b, field_c, position, child, next}
 use Rattle.sheet.specs.Text.{text}
+use Rattle.sheet.specs.Namespace.{qualified, role}
 use Rattle.bytecode.specs.declared.Receiver.{Receiver}
 use Rattle.bytecode.specs.declared.Receiver.TheVariants.{Local, Named, This}
+use Rattle.bytecode.specs.declared.Op.{Op}
 use Rattle.bytecode.specs.declared.Op.TheVariants.{LoadNamed, LoadThis, Call, CallRef, Rotate, MakeFnPtr, CallFnPtr}
 use Rattle.lowering.specs.Limits.{max_args}
 use Rattle.lowering.specs.Kinds.{variable_kind, this_kind}
 use Rattle.lowering.specs.Code.{Code, ins, no_pos}
-use Rattle.lowering.specs.Pools.{Pools, emits, defeat, name, name_at, push_name, token_at, push_token}
+use Rattle.lowering.specs.Pools.{Pools, emits, defeat, name, own_name, name_at, push_name, token_at, push_token}
 use Rattle.lowering.specs.Out.{Out, out, Rec, and_then, residual_expr}
 use Rattle.lowering.specs.Slots.{resolve}
 use Rattle.lowering.specs.Operands.{operands}
@@ -39,20 +42,24 @@ is_fn_ptr s j = is_fn (callee s j) && eqb (count s j) 1
 unfoldable pub is_fn_ptr_call : List ℕ → ℕ → Bool
 is_fn_ptr_call s j = is_call (callee s j) && leb 1 (count s j) && leb (count s j) (max_args + 1)
 
-unfoldable pub call_rule : List ℕ → ℕ → CallRule
-call_rule s j =
+-- a call that is no `Fn` and no `call`
+unfoldable pub general_rule : List ℕ → ℕ → CallRule
+general_rule s j =
+    elim (is_lowerable_call s j) [
+      | true ↦ lowerable
+      | false ↦ elim (is_eval (callee s j)) [ true ↦ eval | false ↦ residual ]
+    ]
+
+-- a call without a namespace
+unfoldable pub plain_rule : List ℕ → ℕ → CallRule
+plain_rule s j =
     elim (is_fn_ptr s j) [
       | true ↦ fn_ptr
-      | false ↦
-          elim (is_fn_ptr_call s j) [
-            | true ↦ fn_ptr_call
-            | false ↦
-                elim (is_lowerable_call s j) [
-                  | true ↦ lowerable
-                  | false ↦ elim (is_eval (callee s j)) [ true ↦ eval | false ↦ residual ]
-                ]
-          ]
+      | false ↦ elim (is_fn_ptr_call s j) [ true ↦ fn_ptr_call | false ↦ general_rule s j ]
     ]
+
+unfoldable pub call_rule : List ℕ → ℕ → CallRule
+call_rule s j = elim (qualified s j) [ true ↦ general_rule s j | false ↦ plain_rule s j ]
 
 -- `Fn(name)`
 unfoldable pub make_fn_ptr : List ℕ → Rec → ℕ → ℕ → ℕ → Pools → Out
@@ -64,7 +71,7 @@ call_fn_ptr s rec j b d p =
     let o = operands s rec (count s j) (child j) b d p in
     and_then o (ins (CallFnPtr (count s j - 1) (field_b s j)) (d + count s j) (position s j) ∷ [])
 
--- what the first argument is: a variable by slot or by name, `this`, or a value (or there is none)
+-- what the first argument is: a variable without a namespace by slot or by name, `this`, or a value (or there is none)
 pub data First : Type 0 where
   local : ℕ → First
   named : First
@@ -76,9 +83,9 @@ variable_first s v = elim (resolve s (text s (field_a s v))) [ some slot ↦ loc
 
 unfoldable pub first_of : List ℕ → ℕ → First
 first_of s v =
-    elim (eqb (kind s v) this_kind) [
+    elim (eqb (role s v) this_kind) [
       | true ↦ this
-      | false ↦ elim (eqb (kind s v) variable_kind) [ true ↦ variable_first s v | false ↦ value ]
+      | false ↦ elim (eqb (role s v) variable_kind) [ true ↦ variable_first s v | false ↦ value ]
     ]
 
 -- a call with an operator, with capture or with no argument has no receiver
@@ -120,9 +127,9 @@ call_named s rec j b d p =
     let load = ins (LoadNamed i) (d + others) (position s (child j)) in
     call_ref s j (Named i) (d + count s j) (and_then o (load ∷ rotate others (d + count s j)))
 
--- an operator is stored with 1 or 2 arguments, and then nothing is captured
+-- an operator is stored with 1 or 2 arguments and no namespace, and then nothing is captured
 unfoldable pub stores_token : List ℕ → ℕ → Bool
-stores_token s j = not (eqb (field_c s j) 0) && (eqb (count s j) 1 || eqb (count s j) 2)
+stores_token s j = not (qualified s j) && not (eqb (field_c s j) 0) && (eqb (count s j) 1 || eqb (count s j) 2)
 
 -- o, the call's name, and Call with this token and this capture mark, after all arguments
 unfoldable pub call_as : List ℕ → ℕ → ℕ → ℕ → ℕ → Out → Out
@@ -151,10 +158,59 @@ lower_call_by named s rec j b d p = call_named s rec j b d p
 lower_call_by this s rec j b d p = call_this s rec j b d p
 lower_call_by value s rec j b d p = call_values s rec j b d p
 
+-- a call with a namespace: its name is pooled before all else, at place i
+
+-- o, and CallRef at depth d
+unfoldable pub ref_at : ℕ → List ℕ → ℕ → Receiver → ℕ → Out → Out
+ref_at i s j r d o = and_then o (ins (CallRef i (count s j) r) d (position s j) ∷ [])
+
+-- the receiver, loaded by this instruction, before the other arguments
+unfoldable pub loaded_args : Op → List ℕ → Rec → ℕ → ℕ → ℕ → Pools → Out
+loaded_args load s rec j b d p =
+    let r = other_args s rec j (b + 1) (suc d) (emits 1 p) in
+    out (ins load d (position s (child j)) ∷ r.code) r.pools
+
+unfoldable pub qualified_local : ℕ → List ℕ → Rec → ℕ → ℕ → ℕ → ℕ → Pools → Out
+qualified_local i s rec slot j b d p = ref_at i s j (Local slot) (d + (count s j - 1)) (other_args s rec j b d p)
+
+unfoldable pub qualified_this : ℕ → List ℕ → Rec → ℕ → ℕ → ℕ → Pools → Out
+qualified_this i s rec j b d p = ref_at i s j This (d + count s j) (loaded_args LoadThis s rec j b d p)
+
+unfoldable pub qualified_named : ℕ → List ℕ → Rec → ℕ → ℕ → ℕ → Pools → Out
+qualified_named i s rec j b d p =
+    let v = name (field_a s (child j)) 0 in
+    let k = name_at s v p in
+    ref_at i s j (Named k) (d + count s j) (loaded_args (LoadNamed k) s rec j b d (push_name s v p))
+
+-- no operator is stored
+unfoldable pub qualified_values : ℕ → List ℕ → Rec → ℕ → ℕ → ℕ → Pools → Out
+qualified_values i s rec j b d p =
+    let call = ins (Call i (count s j) 0 (field_b s j)) (d + count s j) (position s j) in
+    and_then (operands s rec (count s j) (child j) b d p) (call ∷ [])
+
+unfoldable pub lower_qualified_by : First → ℕ → List ℕ → Rec → ℕ → ℕ → ℕ → Pools → Out
+lower_qualified_by (local slot) i s rec j b d p = qualified_local i s rec slot j b d p
+lower_qualified_by named i s rec j b d p = qualified_named i s rec j b d p
+lower_qualified_by this i s rec j b d p = qualified_this i s rec j b d p
+lower_qualified_by value i s rec j b d p = qualified_values i s rec j b d p
+
+-- its name is marked where it captures; through a receiver it never does
+unfoldable pub lower_qualified : List ℕ → Rec → ℕ → ℕ → ℕ → Pools → Out
+lower_qualified s rec j b d p =
+    let n = own_name s j (field_b s j) in
+    lower_qualified_by (receiver s j) (name_at s n p) s rec j b d (push_name s n p)
+
+unfoldable pub lower_call : List ℕ → Rec → ℕ → ℕ → ℕ → Pools → Out
+lower_call s rec j b d p =
+    elim (qualified s j) [
+      | true ↦ lower_qualified s rec j b d p
+      | false ↦ lower_call_by (receiver s j) s rec j b d p
+    ]
+
 unfoldable pub fn_call_by : CallRule → List ℕ → Rec → ℕ → ℕ → ℕ → Pools → Out
 fn_call_by fn_ptr s rec j b d p = make_fn_ptr s rec j b d p
 fn_call_by fn_ptr_call s rec j b d p = call_fn_ptr s rec j b d p
-fn_call_by lowerable s rec j b d p = lower_call_by (receiver s j) s rec j b d p
+fn_call_by lowerable s rec j b d p = lower_call s rec j b d p
 fn_call_by eval s rec j b d p = residual_expr j d (defeat p)
 fn_call_by residual s rec j b d p = residual_expr j d p
 

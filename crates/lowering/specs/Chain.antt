@@ -1,8 +1,9 @@
 -- Dot and Index: a chain, read. A failed chain becomes a residual; its code is taken back, its pools stay.
 use Rattle.std.specs.Prelude.{ℕ, ◌+◌, true, false, List, [], ◌∷◌, ◌++◌, eqb, length}
 use Rattle.std.proofs.Math.Option.{none, some}
-use Rattle.sheet.specs.Node.{kind, field_a, position, child}
+use Rattle.sheet.specs.Node.{field_a, position, child}
 use Rattle.sheet.specs.Text.{text}
+use Rattle.sheet.specs.Namespace.{role}
 use Rattle.bytecode.specs.declared.Root.{Root}
 use Rattle.bytecode.specs.declared.Root.TheVariants.{Local, Named, This, Temporary}
 use Rattle.bytecode.specs.declared.Op.TheVariants.{Chain}
@@ -20,17 +21,17 @@ variable_root s v p =
     let i = name_at s (name (field_a s v) 0) p in
     elim (resolve s (text s (field_a s v))) [ some slot ↦ Local slot i | none ↦ Named i (position s v) ]
 
--- node v as a chain's root
+-- node v as a chain's root; a variable with a namespace is a value
 unfoldable pub root_of : List ℕ → ℕ → Pools → Root
 root_of s v p =
-    elim (eqb (kind s v) variable_kind) [
+    elim (eqb (role s v) variable_kind) [
       | true ↦ variable_root s v p
-      | false ↦ elim (eqb (kind s v) this_kind) [ true ↦ This (position s v) | false ↦ Temporary ]
+      | false ↦ elim (eqb (role s v) this_kind) [ true ↦ This (position s v) | false ↦ Temporary ]
     ]
 
 -- a variable's name is pooled before the steps
 unfoldable pub root_pools : List ℕ → ℕ → Pools → Pools
-root_pools s v p = elim (eqb (kind s v) variable_kind) [ true ↦ push_name s (name (field_a s v) 0) p | false ↦ p ]
+root_pools s v p = elim (eqb (role s v) variable_kind) [ true ↦ push_name s (name (field_a s v) 0) p | false ↦ p ]
 
 -- 1 for a root that is taken off the stack
 unfoldable pub on_stack : Root → ℕ

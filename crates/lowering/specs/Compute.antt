@@ -37,6 +37,7 @@ use Rattle.lowering.specs.SwitchTables
 use Rattle.check_shape.specs.Kinds as ShapeKinds
 use Rattle.sheet.specs.Node as SheetNode
 use Rattle.sheet.specs.Start as SheetStart
+use Rattle.sheet.specs.Namespace as SheetNamespace
 use Rattle.text.specs.Keyword as TextKeyword
 use Rattle.checks.specs.Checked.{verdict_number, checked}
 use Rattle.checks.specs.Compute as ChecksCompute
@@ -45,23 +46,27 @@ use Rattle.lowering.specs.Program.{Program}
 
 -- the check of 1 to 8
 unfoldable pub checked_number : List ℕ → ℕ
-unfolding ChecksCompute.opened_by TextKeyword.is_eval TextKeyword.is_fn TextKeyword.is_call
-    SheetNode.field SheetNode.position SheetStart.start_within SheetStart.start_of ShapeKinds.bound
+unfolding ChecksCompute.opened_by TextKeyword.is_eval TextKeyword.is_fn TextKeyword.is_call SheetNode.field SheetNode.position
+    SheetNamespace.namespace_by SheetNamespace.namespace SheetNamespace.qualified_variable SheetNamespace.role SheetStart.own_start
+    SheetStart.start_within SheetStart.start_of ShapeKinds.bound
 checked_number s = verdict_number (checked s)
 
 -- expressions
 unfoldable pub expression_out : ℕ → List ℕ → Rec
-unfolding Pools.no_pools Pools.first_where Pools.added Pools.emits Pools.defeat Pools.same_const Pools.const_at Pools.push_const Pools.name_bytes
-    Pools.same_name Pools.name_at Pools.push_name Pools.token_at Pools.push_token Pools.push_residual Pools.steps_of Pools.steps_words
-    Pools.same_chain Pools.chain_at Pools.new_chain Pools.push_chain Out.and_then Out.emit_at Out.residual_expr Slots.resolve_below Slots.resolve
-    Leaf.boolean Leaf.unit Leaf.constant Leaf.load_named Leaf.variable Leaf.this Operands.operands Array.elements Array.array
-    Interpolated.segments Interpolated.interpolated ShortCircuit.fragments ShortCircuit.extent ShortCircuit.decided ShortCircuit.jump_on
-    ShortCircuit.decision ShortCircuit.short_circuit Coalesce.skipped Coalesce.coalesce Call.syntactic Call.is_lowerable_call Call.is_fn_ptr
-    Call.is_fn_ptr_call Call.call_rule Call.make_fn_ptr Call.call_fn_ptr Call.variable_first Call.first_of Call.receiver Call.other_args Call.call_ref
-    Call.call_local Call.call_this Call.rotate Call.call_named Call.stores_token Call.call_as Call.call_token Call.call_values Call.lower_call_by
-    Call.fn_call_by Call.fn_call Flatten.rest_of Flatten.goes_on Flatten.operand_of Flatten.links Flatten.dot_rule Flatten.step_rule Flatten.has_step
-    Flatten.flattens Steps.index_step Steps.property_step Steps.is_lowerable_method Steps.method_after Steps.method_step Steps.step_by Steps.onto
-    Steps.steps Chain.variable_root Chain.root_of Chain.root_pools Chain.on_stack Chain.root_code Chain.chain_of Chain.chain Expression.rules
+unfolding Pools.no_pools Pools.first_where Pools.added Pools.emits Pools.defeat Pools.same_const Pools.const_at Pools.push_const
+    Pools.prefix Pools.name_bytes Pools.same_name Pools.name_at Pools.push_name Pools.token_at Pools.push_token Pools.push_residual
+    Pools.steps_of Pools.steps_words Pools.same_chain Pools.chain_at Pools.new_chain Pools.push_chain Out.and_then Out.emit_at
+    Out.residual_expr Slots.resolve_below Slots.resolve Leaf.boolean Leaf.unit Leaf.constant Leaf.load_named Leaf.load_qualified
+    Leaf.load_plain Leaf.variable Leaf.this Operands.operands Array.elements Array.array Interpolated.segments Interpolated.interpolated
+    ShortCircuit.fragments ShortCircuit.extent ShortCircuit.decided ShortCircuit.jump_on ShortCircuit.decision ShortCircuit.short_circuit
+    Coalesce.skipped Coalesce.coalesce Call.syntactic Call.is_lowerable_call Call.is_fn_ptr Call.is_fn_ptr_call Call.general_rule
+    Call.plain_rule Call.call_rule Call.make_fn_ptr Call.call_fn_ptr Call.variable_first Call.first_of Call.receiver Call.other_args
+    Call.call_ref Call.call_local Call.call_this Call.rotate Call.call_named Call.stores_token Call.call_as Call.call_token Call.call_values
+    Call.lower_call_by Call.ref_at Call.loaded_args Call.qualified_local Call.qualified_this Call.qualified_named Call.qualified_values
+    Call.lower_qualified_by Call.lower_qualified Call.lower_call Call.fn_call_by Call.fn_call Flatten.rest_of Flatten.goes_on
+    Flatten.operand_of Flatten.links Flatten.dot_rule Flatten.step_rule Flatten.has_step Flatten.flattens Steps.index_step
+    Steps.property_step Steps.is_lowerable_method Steps.method_after Steps.method_step Steps.step_by Steps.onto Steps.steps
+    Chain.variable_root Chain.root_of Chain.root_pools Chain.on_stack Chain.root_code Chain.chain_of Chain.chain Expression.rules
     Expression.rule Expression.by_rule Expression.expression
 expression_out levels s j b d p = Expression.expression levels s j b d p
 
@@ -71,15 +76,15 @@ unfolding CasesExcess.shifted CasesExcess.excess CasesExcess.low_word CasesExces
     CasesRange.blocks_where CasesPoints.points CasesPoints.insert CasesPoints.sort_onto CasesPoints.sort CasesPoints.dedup_after
     CasesPoints.dedup CasesPoints.cuts CasesSplit.first_match CasesSplit.atoms_from CasesSplit.atoms CasesSplit.covers CasesSplit.piece
     CasesSplit.opened CasesSplit.join CasesSplit.pieces CasesSplit.split SwitchSheet.nodes_from SwitchSheet.guard_of SwitchSheet.body_of
-    SwitchSheet.cases_of SwitchSheet.range_nodes SwitchSheet.case_blocks SwitchSheet.range_of SwitchSheet.ranges_of Arms.guard_kind Arms.try_at
-    Arms.tries_of Arms.entry_from Arms.tries_extent Arms.end_extent Arms.entry_extent Arms.end_emits Arms.arms_extent Arms.arm_chains Arms.member_of
-    Arms.distinct_from Arms.distinct Arms.drop_end Arms.drop_entry Arms.drop_idle_jump Bodies.try_wants Bodies.end_wants Bodies.entry_wants
-    Bodies.wanted Bodies.lay_bodies Bodies.bodies_extent Bodies.fall_extent Bodies.body_at SwitchLayout.lay_cases SwitchLayout.case_arms_of
-    SwitchLayout.lay_ranges SwitchLayout.ranges_extent SwitchLayout.layout SwitchCode.default_at SwitchCode.end_at SwitchCode.fallback_at
-    SwitchCode.tries_code SwitchCode.end_code SwitchCode.entry_code SwitchCode.arms_code SwitchCode.ranges_code SwitchCode.bodies_code
-    SwitchCode.bodies_fall SwitchCode.default_code SwitchCode.last_emits SwitchCode.switch_code SwitchTables.entry_of SwitchTables.target
-    SwitchTables.case_pools SwitchTables.case_rows SwitchTables.range_rows SwitchTables.range_table SwitchTables.case_table Switch.switch_of
-    Switch.switch
+    SwitchSheet.cases_of SwitchSheet.range_nodes SwitchSheet.case_blocks SwitchSheet.range_of SwitchSheet.ranges_of Arms.guard_kind
+    Arms.try_at Arms.tries_of Arms.entry_from Arms.tries_extent Arms.end_extent Arms.entry_extent Arms.end_emits Arms.arms_extent
+    Arms.arm_chains Arms.member_of Arms.distinct_from Arms.distinct Arms.drop_end Arms.drop_entry Arms.drop_idle_jump Bodies.try_wants
+    Bodies.end_wants Bodies.entry_wants Bodies.wanted Bodies.lay_bodies Bodies.bodies_extent Bodies.fall_extent Bodies.body_at
+    SwitchLayout.lay_cases SwitchLayout.case_arms_of SwitchLayout.lay_ranges SwitchLayout.ranges_extent SwitchLayout.layout
+    SwitchCode.default_at SwitchCode.end_at SwitchCode.fallback_at SwitchCode.tries_code SwitchCode.end_code SwitchCode.entry_code
+    SwitchCode.arms_code SwitchCode.ranges_code SwitchCode.bodies_code SwitchCode.bodies_fall SwitchCode.default_code SwitchCode.last_emits
+    SwitchCode.switch_code SwitchTables.entry_of SwitchTables.target SwitchTables.case_pools SwitchTables.case_rows SwitchTables.range_rows
+    SwitchTables.range_table SwitchTables.case_table Switch.switch_of Switch.switch
 switch_program s rec = Switch.switch s rec
 
 -- the image

@@ -16,7 +16,7 @@ unfoldable pub const_words : Const → List ℕ
 const_words c = c.kind ∷ c.a ∷ c.b ∷ []
 
 unfoldable pub name_words : Name → List ℕ
-name_words n = n.text ∷ n.mark ∷ []
+name_words n = n.text ∷ n.mark ∷ n.namespace ∷ []
 
 -- emitted, capped
 unfoldable pub max_stack : Pools → ℕ

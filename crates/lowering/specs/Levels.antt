@@ -1,9 +1,9 @@
 -- The levels of the definition cut nothing off. On a sheet that the check of 1 to 8 accepts, more levels give the same, and each
 -- definition that counts levels meets its own equation without them: it can be read as if there were none.
 use Rattle.std.specs.Prelude.{ℕ, ◌+◌, ◌<◌, ◌≡◌, true, false, List, [], ◌∷◌}
-use Rattle.sheet.specs.Node.{kind, count, position, child}
+use Rattle.sheet.specs.Node.{kind, count, child}
 use Rattle.sheet.specs.Walk.{skip}
-use Rattle.sheet.specs.Start.{starts_inside, start_within, start_of}
+use Rattle.sheet.specs.Start.{starts_inside, own_start, start_within, start_of}
 use Rattle.checks.specs.Checked.{verdict_number, checked}
 use Rattle.lowering.specs.Limits.{max_levels}
 use Rattle.lowering.specs.Pools.{Pools}
@@ -27,7 +27,7 @@ pub record Levelless (s : List ℕ) : Type 0 where
   pub links_is : (j : ℕ) → InTree s j → is_chain (kind s j) ≡ true
       → links max_levels s j ≡ j ∷ elim (goes_on s j) [ true ↦ links max_levels s (rest_of s j) | false ↦ [] ]
   pub start_is : (j : ℕ) → InTree s j
-      → start_of s j ≡ elim (starts_inside (kind s j)) [ true ↦ start_of s (child j) | false ↦ position s j ]
+      → start_of s j ≡ elim (starts_inside (kind s j)) [ true ↦ start_of s (child j) | false ↦ own_start s j ]
 
 -- what is to be proved, for every sheet that passes the check
 abbrev pub Statement : Type 0

@@ -29,6 +29,7 @@ pub mod Outcome
 pub mod MakeSheet
 pub mod Compute
 pub mod Rows
+pub mod ModuleRows
 pub mod Words
 pub mod Run
 pub mod Guided
@@ -39,3 +40,4 @@ pub mod All
 pub mod Nodes
 pub mod ChainNodes
 pub mod Levels
+pub mod Modules

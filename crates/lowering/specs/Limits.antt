@@ -21,7 +21,7 @@ const_width = 3
 
 -- a name
 abbrev pub name_width : ℕ
-name_width = 2
+name_width = 3
 
 -- a chain
 abbrev pub chain_width : ℕ

@@ -8,9 +8,13 @@ pub record Sheet : Type 0 where
   pub texts : List (List ℕ)
   pub locals : List ℕ
 
--- the words of a node
+-- the words of a node, with its namespace's text plus 1 and position
+abbrev pub node_in : ℕ → ℕ → ℕ → ℕ → ℕ → ℕ → ℕ → ℕ → List ℕ
+node_in kind span count a b c namespace pos = kind ∷ span ∷ count ∷ a ∷ b ∷ c ∷ namespace ∷ pos ∷ []
+
+-- without a namespace
 abbrev pub node : ℕ → ℕ → ℕ → ℕ → ℕ → ℕ → List ℕ
-node kind span count a b c = kind ∷ span ∷ count ∷ a ∷ b ∷ c ∷ []
+node kind span count a b c = node_in kind span count a b c 0 0
 
 -- the bytes of words, the lowest first
 unfoldable pub bytes_of : List ℕ → List ℕ

@@ -1,9 +1,10 @@
 -- What the lowering carries along besides the code: the pools, the count of instructions emitted, and whether an `eval` was reached.
 -- Nothing of this is taken back.
-use Rattle.std.specs.Prelude.{ℕ, suc, ◌+◌, Bool, true, false, ◌&&◌, List, [], ◌∷◌, ◌++◌, eqb, length, take, drop, replicate}
+use Rattle.std.specs.Prelude.{ℕ, suc, ◌+◌, ◌-◌, Bool, true, false, ◌&&◌, List, [], ◌∷◌, ◌++◌, eqb, length, take, drop, replicate}
 use Rattle.text.specs.Same.{same}
 use Rattle.sheet.specs.Node.{kind, field_a, field_b}
 use Rattle.sheet.specs.Text.{text}
+use Rattle.sheet.specs.Namespace.{namespace}
 use Rattle.bytecode.specs.declared.Root.{Root}
 use Rattle.bytecode.specs.declared.Step.{Step}
 use Rattle.bytecode.specs.declared.Chain.{Chain}
@@ -16,10 +17,11 @@ pub record Const : Type 0 where
   pub a : ℕ
   pub b : ℕ
 
--- a name: text number, and 1 if `!` is added
+-- a name: text number, 1 if `!` is added, and its namespace: text number plus 1, or 0 for none
 pub record Name : Type 0 where
   pub text : ℕ
   pub mark : ℕ
+  pub namespace : ℕ
 
 pub record Pools : Type 0 where
   pub consts : List Const
@@ -78,15 +80,27 @@ unfoldable pub push_const : List ℕ → Const → Pools → Pools
 push_const s c p =
     pools (added (same_const s c) c p.consts) p.names p.tokens p.residuals p.chains p.steps p.emitted p.defeated
 
--- names: equal by whole bytes, `!` included
+-- names: equal by whole bytes, the namespace with its separator `::` and `!` included
 abbrev pub bang : ℕ
 bang = 33
 
-unfoldable pub name_bytes : List ℕ → Name → List ℕ
-name_bytes s n = text s n.text ++ replicate n.mark bang
+abbrev pub separator : List ℕ
+separator = 58 ∷ 58 ∷ []
 
+-- what a namespace (its text plus 1, or 0) puts before a name
+unfoldable pub prefix : List ℕ → ℕ → List ℕ
+prefix s w = elim (eqb w 0) [ true ↦ [] | false ↦ text s (w - 1) ++ separator ]
+
+unfoldable pub name_bytes : List ℕ → Name → List ℕ
+name_bytes s n = prefix s n.namespace ++ (text s n.text ++ replicate n.mark bang)
+
+-- a name without a namespace
 abbrev pub name : ℕ → ℕ → Name
-name text mark = record { text = text; mark = mark }
+name text mark = record { text = text; mark = mark; namespace = 0 }
+
+-- the own name of node j, in its namespace if it has one
+abbrev pub own_name : List ℕ → ℕ → ℕ → Name
+own_name s j mark = record { text = field_a s j; mark = mark; namespace = namespace s j }
 
 unfoldable pub same_name : List ℕ → Name → Name → Bool
 same_name s x y = same (name_bytes s x) (name_bytes s y)

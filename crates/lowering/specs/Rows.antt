@@ -96,7 +96,7 @@ call_local =
     })
     (CallRef 0 1 (Local 0) ∷ [])
     (image
-    (listed (1 ∷ 0 ∷ 1 ∷ 0 ∷ 0 ∷ 0 ∷ 0 ∷ 0 ∷ 0 ∷ 0 ∷ 1 ∷ 1 ∷ []) (four 13 0 1 0) (at_line 1 1 ∷ []) (0 ∷ 0 ∷ [])))
+    (listed (1 ∷ 0 ∷ 1 ∷ 0 ∷ 0 ∷ 0 ∷ 0 ∷ 0 ∷ 0 ∷ 0 ∷ 1 ∷ 1 ∷ []) (four 13 0 1 0) (at_line 1 1 ∷ []) (0 ∷ 0 ∷ 0 ∷ [])))
 
 -- g(v,1), no local: depth 2
 unfoldable pub call_named : Row
@@ -113,7 +113,7 @@ call_named =
     (listed (4 ∷ 1 ∷ 2 ∷ 0 ∷ 0 ∷ 0 ∷ 0 ∷ 0 ∷ 0 ∷ 0 ∷ 4 ∷ 2 ∷ [])
     (four 1 0 0 0 ++ four 5 0 0 0 ++ four 14 1 0 0 ++ four 13 1 258 0)
     (0 ∷ at_line 1 3 ∷ 0 ∷ at_line 1 1 ∷ [])
-    (3 ∷ 1 ∷ 0 ∷ 1 ∷ 0 ∷ 0 ∷ 0 ∷ [])))
+    (3 ∷ 1 ∷ 0 ∷ 1 ∷ 0 ∷ 0 ∷ 0 ∷ 0 ∷ 0 ∷ [])))
 
 -- empty Switch on Unit
 unfoldable pub empty_switch : Row
@@ -156,7 +156,7 @@ method_eval =
     })
     (EvalAst 0 ∷ [])
     (image
-    (listed (1 ∷ 0 ∷ 1 ∷ 0 ∷ 1 ∷ 0 ∷ 0 ∷ 0 ∷ 0 ∷ 0 ∷ 1 ∷ 1 ∷ []) (four 24 0 0 0) (0 ∷ []) (0 ∷ 0 ∷ 0 ∷ [])))
+    (listed (1 ∷ 0 ∷ 1 ∷ 0 ∷ 1 ∷ 0 ∷ 0 ∷ 0 ∷ 0 ∷ 0 ∷ 1 ∷ 1 ∷ []) (four 24 0 0 0) (0 ∷ []) (0 ∷ 0 ∷ 0 ∷ 0 ∷ [])))
 
 -- the rows, the first of them for every position
 unfoldable pub rows : ℕ → List Row

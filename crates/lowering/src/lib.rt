@@ -1,5 +1,5 @@
-// The definition of the lowering stands in specs/. Here are its numbers for the code, as specs/Limits.antt has them; those of
-// the scratch that is asked for are in crate needs.
+// The definition of the lowering stands in specs/. Here are its numbers for the code, as specs/Limits.antt has them, and the separator of
+// specs/Pools.antt; those of the scratch that is asked for are in crate needs.
 #![tactic(auto)]
 
 // Words before the image's sections: the twelve sizes.
@@ -13,7 +13,7 @@ pub const CODE_WIDTH: usize = 5;
 
 pub const CONST_WIDTH: usize = 3;
 
-pub const NAME_WIDTH: usize = 2;
+pub const NAME_WIDTH: usize = 3;
 
 pub const CHAIN_WIDTH: usize = 6;
 
@@ -38,6 +38,9 @@ pub const MAX_STACK: u32 = 65535;
 
 // Greatest count of instructions emitted, those taken back included.
 pub const MAX_EMITTED: u64 = 262143;
+
+// What stands between a namespace and a name.
+pub const SEPARATOR: [u8; 2] = [58, 58];
 
 // Names that a node may give: the key of a name is this times the node plus the field.
 pub const NAMES_PER_NODE: u32 = 3;

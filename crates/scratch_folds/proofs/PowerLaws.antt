@@ -1,5 +1,5 @@
 -- The fold from another start, and the fold over what stands behind a front, by a power of the factor.
-use Prim.Native.Nat.{ℕ, zero, suc, ◌+◌, ◌*◌, ◌/◌, ◌%◌, ◌^◌, ◌<◌}
+use Prim.Native.Nat.{ℕ, zero, suc, ◌+◌, ◌-◌, ◌*◌, ◌/◌, ◌%◌, ◌^◌, ◌<◌}
 use mathlib.Core.Path.{◌≡◌, sym, ap, ◌∙◌}
 use mathlib.Core.List.{List, [], ◌∷◌}
 use native.Mathlib.Omega.{arith}
@@ -62,7 +62,25 @@ fold-from h (b ∷ bs) l =
     ∙ front-step h b (power_of factor (length bs)) (fold_hash 0 bs)
     ∙ sym (ap (λ (v : ℕ). (h * times (power_of factor (length bs)) factor + v) % 4294967296) (fold-from (byte_step 0 b) bs (omega arith)))
 
--- what stands behind a front is told by the folds over the front and over both
-pub behind-is : (e p w f : ℕ) → f < 4294967296 → e ≡ (p * w + f) % 4294967296 → behind e p w ≡ f
+-- another front, h in place of p: v is their difference as a word, x the product of v and the power
+other-front :
+    (h p w f v x k i e j : ℕ) → v + 4294967296 * k ≡ p + 4294967296 - h → h < 4294967296 → x + 4294967296 * i ≡ v * w
+    → e + 4294967296 * j ≡ p * w + f → x < 4294967296
+    → e + 4294967296 - x + 4294967296 * (w + j) ≡ h * w + f + 4294967296 * (k * w + i + 1)
+other-front h p w f v x k i e j a l b c m =
+    let d : v + h + 4294967296 * k ≡ p + 4294967296 = omega arith in
+    omega (arith, ap (λ (n : ℕ). n * w) d)
+
+-- what stands behind a front is told by the folds over the front and over both, and with it the fold from another start
+pub behind-is :
+    (h e p w f : ℕ) → h < 4294967296 → e ≡ (p * w + f) % 4294967296
+    → behind e ((p + 4294967296 - h) % 4294967296) w ≡ (h * w + f) % 4294967296
 unfolding behind
-behind-is e p w f l h = omega arith
+behind-is h e p w f l q =
+    let d = p + 4294967296 - h in
+    let v = d % 4294967296 in
+    let x = v * w % 4294967296 in
+    let s = p * w + f in
+    rest-same (e + 4294967296 - x) (h * w + f) (w + s / 4294967296) (d / 4294967296 * w + v * w / 4294967296 + 1)
+    (other-front h p w f v x _ _ e _ (mod-add-div d 4294967296) l (mod-add-div (v * w) 4294967296)
+    (ap (λ (n : ℕ). n + 4294967296 * (s / 4294967296)) q ∙ mod-add-div s 4294967296) (omega arith))

@@ -112,24 +112,27 @@ module _ (b : List ℕ) (at : ℕ) (xs : List ℕ) (i r : ℕ) (q : List ℕ) wh
 
 -- n bytes from i on
 fold-both :
-    (b : List ℕ) (i n : ℕ) → i + n ≤ length b
-    → fold_to b (i + n) ≡ (fold_to b i * power_of factor n + fold_hash 0 (take n (drop i b))) % 4294967296
-fold-both b i n l =
+    (b : List ℕ) (i n h : ℕ) → i + n ≤ length b → h < 4294967296
+    → fold_hash h (take n (drop i b)) ≡ (h * power_of factor n + fold_hash 0 (take n (drop i b))) % 4294967296
+fold-both b i n h l m =
     let c = take n (drop i b) in
     let size : length c ≡ n = length-take-le n (drop i b) (rw length-drop (omega arith)) in
-    fold-to-more b i n
-    ∙ fold-from (fold_to b i) c (fold_word 0 (take i b) (omega arith))
-    ∙ ap (λ (m : ℕ). (fold_to b i * power_of factor m + fold_hash 0 c) % 4294967296) size
+    fold-from h c m ∙ ap (λ (k : ℕ). (h * power_of factor k + fold_hash 0 c) % 4294967296) size
 
 pub part-fold :
-    (b : List ℕ) (at : ℕ) (xs : List ℕ) (i n p e w r : ℕ) → i + n ≤ length b → FoldsTo b at xs i p → FoldsTo b at xs (i + n) e
-    → w ≡ power_of factor n → r ≡ behind e p w → ByEnds b at xs (fold_hash 0 (take n (drop i b))) r
-part-fold b at xs i n p e w r l f g h m = record {
+    (b : List ℕ) (at : ℕ) (xs : List ℕ) (i n h p e v w r : ℕ) → i + n ≤ length b → h < 4294967296 → FoldsTo b at xs i p
+    → FoldsTo b at xs (i + n) e → v ≡ (p + 4294967296 - h) % 4294967296 → w ≡ power_of factor n → r ≡ behind e v w
+    → ByEnds b at xs (fold_hash h (take n (drop i b))) r
+part-fold b at xs i n h p e v w r l y f g z k m = record {
   is = λ ends.
       let c = take n (drop i b) in
       let front = f.is ends (omega arith) in
-      let parts = ap₂ (λ (u v : ℕ). (u * v + fold_hash 0 c) % 4294967296) (sym front) (sym h) in
-      m ∙ behind-is e p w (fold_hash 0 c) (fold_word 0 c (omega arith)) (g.is ends l ∙ fold-both b i n l ∙ parts);
+      let both = fold-to-more b i n ∙ fold-both b i n (fold_to b i) l (fold_word 0 (take i b) (omega arith)) in
+      let parts = ap₂ (λ (a q : ℕ). (a * q + fold_hash 0 c) % 4294967296) (sym front) (sym k) in
+      m ∙ ap (λ (a : ℕ). behind e a w) z
+      ∙ behind-is h e p w (fold_hash 0 c) y (g.is ends l ∙ both ∙ parts)
+      ∙ ap (λ (q : ℕ). (h * q + fold_hash 0 c) % 4294967296) k
+      ∙ sym (fold-both b i n h l y);
 }
 
 -- a text within the text bytes is a part of them
@@ -212,18 +215,18 @@ sums-set {s} {at} {xs} i v f off = sums_same s at xs (set xs i v) (λ k l. get_o
 
 -- a text by its bytes, or by what is kept
 module _ (s : List ℕ) (t at : ℕ) (xs : List ℕ) where
-  pub text-read : (q : List ℕ) (r : ℕ) → q ≡ text s t → r ≡ fold_hash 0 q → BySums s at xs (fold_hash 0 (text s t)) r
-  text-read q r e f = record { is = λ sums. f ∙ ap (fold_hash 0) e }
+  pub text-read : (h : ℕ) (q : List ℕ) (r : ℕ) → q ≡ text s t → r ≡ fold_hash h q → BySums s at xs (fold_hash h (text s t)) r
+  text-read h q r e f = record { is = λ sums. f ∙ ap (fold_hash h) e }
 
   pub long_kept :
-      (i n : ℕ) (b : List ℕ) (r : ℕ) → t < text_count s → long ≤ text_length s t → i ≡ text_start s t → n ≡ text_length s t
+      (h i n : ℕ) (b : List ℕ) (r : ℕ) → t < text_count s → long ≤ text_length s t → i ≡ text_start s t → n ≡ text_length s t
       → b ≡ summed_bytes s
-      → i + n ≤ length b → ByEnds b at xs (fold_hash 0 (take n (drop i b))) r → BySums s at xs (fold_hash 0 (text s t)) r
-  long_kept i n b r below m e f g l h = record {
+      → i + n ≤ length b → ByEnds b at xs (fold_hash h (take n (drop i b))) r → BySums s at xs (fold_hash h (text s t)) r
+  long_kept h i n b r below m e f g l k = record {
     is = λ sums.
-        h.is (subst (λ (c : List ℕ). Ends c at xs) (sym g) (sums.ends (short-fails s t below m)))
-        ∙ ap (λ (c : List ℕ). fold_hash 0 (take n (drop i c))) g
-        ∙ ap (fold_hash 0) (text-part s t i n e f (subst (λ (c : List ℕ). i + n ≤ length c) g l));
+        k.is (subst (λ (c : List ℕ). Ends c at xs) (sym g) (sums.ends (short-fails s t below m)))
+        ∙ ap (λ (c : List ℕ). fold_hash h (take n (drop i c))) g
+        ∙ ap (fold_hash h) (text-part s t i n e f (subst (λ (c : List ℕ). i + n ≤ length c) g l));
   }
 
   pub text-hashed : (f r : ℕ) → BySums s at xs (fold_hash 0 (text s t)) f → r ≡ spread f → BySums s at xs (bytes_hash (text s t)) r

@@ -163,46 +163,48 @@ fn fold_to(b: &[u8], scratch: &[u32], at: u32, i: usize) -> u32
     fold_on(part(b, passed * BLOCK, i % BLOCK), h)
 }
 
-// The fold over the `n` bytes of `b` from `i` on, where they are there.
-fn fold_part(b: &[u8], scratch: &[u32], at: u32, i: u32, n: u32) -> u32
+// The fold over a front, `start`, and the `n` bytes of `b` from `i` on behind it, where they are there. The front takes the place of the
+// bytes before `i`, so that no other power is needed.
+fn fold_part(b: &[u8], scratch: &[u32], at: u32, i: u32, n: u32, start: u32) -> u32
     requires { i + n ≤ length b.now }
-    ensures { let bytes = b.now in ByEnds bytes at scratch.now (fold_hash 0 (take n (drop i bytes))) result }
+    ensures { let bytes = b.now in ByEnds bytes at scratch.now (fold_hash start (take n (drop i bytes))) result }
 {
     let p = fold_to(b, scratch, at, i as usize);
     let e = fold_to(b, scratch, at, (i as usize) + (n as usize));
-    behind(e, p, power(n))
+    behind(e, p.wrapping_sub(start), power(n))
 }
 
-// The fold over text `t`, a long one: by what is kept, where it is one of the sheet's and lies within the text bytes.
-fn fold_long(sheet: &[u8], scratch: &[u32], at: u32, t: u32) -> u32
+// The fold over a front, `start`, and text `t` behind it, a long one: by what is kept, where it is one of the sheet's and lies within the
+// text bytes.
+fn fold_long(sheet: &[u8], scratch: &[u32], at: u32, t: u32, start: u32) -> u32
     requires { long ≤ texts.text_length sheet.now t }
-    ensures { let sheet = sheet.now in BySums sheet at scratch.now (fold_hash 0 (texts.text sheet t)) result }
+    ensures { let sheet = sheet.now in BySums sheet at scratch.now (fold_hash start (texts.text sheet t)) result }
 {
     if text_count(sheet) <= t {
-        return fold_bytes(text(sheet, t));
+        return fold_on(text(sheet, t), start);
     }
     let i = text_start(sheet, t);
     let n = text_length(sheet, t);
     let b = text_bytes(sheet);
     if b.len() < (i as usize) + (n as usize) {
-        return fold_bytes(text(sheet, t));
+        return fold_on(text(sheet, t), start);
     }
-    fold_part(b, scratch, at, i, n)
+    fold_part(b, scratch, at, i, n, start)
 }
 
-// The fold over text `t`: by its bytes, or by what is kept.
-pub fn fold_text(sheet: &[u8], scratch: &[u32], at: u32, t: u32) -> u32
-    ensures { let sheet = sheet.now in BySums sheet at scratch.now (fold_hash 0 (texts.text sheet t)) result }
+// The fold over a front, `start`, and text `t` behind it: by its bytes, or by what is kept.
+pub fn fold_text(sheet: &[u8], scratch: &[u32], at: u32, t: u32, start: u32) -> u32
+    ensures { let sheet = sheet.now in BySums sheet at scratch.now (fold_hash start (texts.text sheet t)) result }
 {
     if text_length(sheet, t) < LONG {
-        return fold_bytes(text(sheet, t));
+        return fold_on(text(sheet, t), start);
     }
-    fold_long(sheet, scratch, at, t)
+    fold_long(sheet, scratch, at, t, start)
 }
 
 // The hash of text `t`.
 pub fn hash_text(sheet: &[u8], scratch: &[u32], at: u32, t: u32) -> u32
     ensures { let sheet = sheet.now in BySums sheet at scratch.now (bytes_hash (texts.text sheet t)) result }
 {
-    spread_out(fold_text(sheet, scratch, at, t))
+    spread_out(fold_text(sheet, scratch, at, t, 0))
 }

@@ -6,7 +6,8 @@ use borrow.Author.Tests.{eqb-false}
 use Rattle.expr_chains.proofs.RootLaws.{as-variable}
 use Rattle.laws.proofs.Bool.{lazy-true}
 use Rattle.sheet.specs.Limits.{max_depth}
-use Rattle.sheet.specs.Node.{kind, count, field_a, field_b, field_c, position, child}
+use Rattle.sheet.specs.Node.{count, field_a, field_b, field_c, position, child}
+use Rattle.sheet.specs.Namespace.{role}
 use Rattle.sheet.specs.Start.{start_of}
 use Rattle.sheet.specs.Text.{text}
 use Rattle.lowering.specs.Kinds.{variable_kind, this_kind}
@@ -133,9 +134,9 @@ module _ (s : List ℕ) (ns : List Name) where
   root-same : (h v w : ℕ) → same_root s v w ≡ true → root_hash s ns h w ≡ root_hash s ns h v
   unfolding same_root root_hash
   root-same h v w e =
-      let k = root_kind (kind s v) in
-      let p = lazy-true (eqb k (root_kind (kind s w))) (same_root_as k s v w) e in
-      let z = eqb-true k (root_kind (kind s w)) p.0 in
+      let k = root_kind (role s v) in
+      let p = lazy-true (eqb k (root_kind (role s w))) (same_root_as k s v w) e in
+      let z = eqb-true k (root_kind (role s w)) p.0 in
       ap (λ (i : ℕ). root_hash_by i s ns (step h i) w) (sym z) ∙ root-by k (step h k) v w p.1
 
   chain_same : (i j : ℕ) → same_nodes s i j ≡ true → chain_hash s ns j ≡ chain_hash s ns i
@@ -193,14 +194,14 @@ module _ (s : List ℕ) {ns ms : List Name} (g : Grows ns ms) where
   root-stays h v t = by (eqb k variable_kind) refl (eqb k this_kind) refl
     where
       k : ℕ
-      k = root_kind (kind s v)
+      k = root_kind (role s v)
 
       by :
           (a : Bool) → eqb k variable_kind ≡ a → (b : Bool) → eqb k this_kind ≡ b
           → root_hash_by k s ms (step h k) v ≡ root_hash_by k s ns (step h k) v
       by true e b f =
           let z = eqb-true k variable_kind e in
-          let stands = t (eq-eqb (kind s v) variable_kind (root-variable (kind s v) z)) in
+          let stands = t (eq-eqb (role s v) variable_kind (root-variable (role s v) z)) in
           by-variable s ms k (step h k) v z
           ∙ variable-stays (is_local s v) (step h k) v (name-stays s (field_a s v) g stands)
           ∙ sym (by-variable s ns k (step h k) v z)

@@ -8,7 +8,8 @@ use Rattle.expr_chains.proofs.RootLaws.{as-variable}
 use Rattle.expr_chains.proofs.NameLaws.{texts-same, texts-equal}
 use Rattle.laws.proofs.Bool.{lazy-true, lazy-of, both}
 use Rattle.sheet.specs.Limits.{max_depth}
-use Rattle.sheet.specs.Node.{kind, count, field_a, field_b, field_c, position, child}
+use Rattle.sheet.specs.Node.{count, field_a, field_b, field_c, position, child}
+use Rattle.sheet.specs.Namespace.{role}
 use Rattle.sheet.specs.Start.{start_of}
 use Rattle.sheet.specs.Text.{text}
 use Rattle.lowering.specs.Kinds.{variable_kind, this_kind}
@@ -290,22 +291,22 @@ module _ (s : List ℕ) where
   root-swap : (v w : ℕ) → same_root s v w ≡ true → same_root s w v ≡ true
   unfolding same_root
   root-swap v w h =
-      let p = lazy-true (eqb (root_kind (kind s v)) (root_kind (kind s w))) (same_root_as (root_kind (kind s v)) s v w) h in
-      let e = eqb-true (root_kind (kind s v)) (root_kind (kind s w)) p.0 in
-      lazy-of (eqb (root_kind (kind s w)) (root_kind (kind s v))) (same_root_as (root_kind (kind s w)) s w v)
-      (eq-eqb (root_kind (kind s w)) (root_kind (kind s v)) (sym e))
-      (subst (λ (k : ℕ). same_root_as k s w v ≡ true) e (root-as-swap (root_kind (kind s v)) v w p.1))
+      let p = lazy-true (eqb (root_kind (role s v)) (root_kind (role s w))) (same_root_as (root_kind (role s v)) s v w) h in
+      let e = eqb-true (root_kind (role s v)) (root_kind (role s w)) p.0 in
+      lazy-of (eqb (root_kind (role s w)) (root_kind (role s v))) (same_root_as (root_kind (role s w)) s w v)
+      (eq-eqb (root_kind (role s w)) (root_kind (role s v)) (sym e))
+      (subst (λ (k : ℕ). same_root_as k s w v ≡ true) e (root-as-swap (root_kind (role s v)) v w p.1))
 
   root-join : (v w u : ℕ) → same_root s v w ≡ true → same_root s w u ≡ true → same_root s v u ≡ true
   unfolding same_root
   root-join v w u h g =
-      let p = lazy-true (eqb (root_kind (kind s v)) (root_kind (kind s w))) (same_root_as (root_kind (kind s v)) s v w) h in
-      let q = lazy-true (eqb (root_kind (kind s w)) (root_kind (kind s u))) (same_root_as (root_kind (kind s w)) s w u) g in
-      let e = eqb-true (root_kind (kind s v)) (root_kind (kind s w)) p.0 in
-      let f = eqb-true (root_kind (kind s w)) (root_kind (kind s u)) q.0 in
-      lazy-of (eqb (root_kind (kind s v)) (root_kind (kind s u))) (same_root_as (root_kind (kind s v)) s v u)
-      (eq-eqb (root_kind (kind s v)) (root_kind (kind s u)) (e ∙ f))
-      (root-as-join (root_kind (kind s v)) v w u p.1 (subst (λ (k : ℕ). same_root_as k s w u ≡ true) (sym e) q.1))
+      let p = lazy-true (eqb (root_kind (role s v)) (root_kind (role s w))) (same_root_as (root_kind (role s v)) s v w) h in
+      let q = lazy-true (eqb (root_kind (role s w)) (root_kind (role s u))) (same_root_as (root_kind (role s w)) s w u) g in
+      let e = eqb-true (root_kind (role s v)) (root_kind (role s w)) p.0 in
+      let f = eqb-true (root_kind (role s w)) (root_kind (role s u)) q.0 in
+      lazy-of (eqb (root_kind (role s v)) (root_kind (role s u))) (same_root_as (root_kind (role s v)) s v u)
+      (eq-eqb (root_kind (role s v)) (root_kind (role s u)) (e ∙ f))
+      (root-as-join (root_kind (role s v)) v w u p.1 (subst (λ (k : ℕ). same_root_as k s w u ≡ true) (sym e) q.1))
 
   pub nodes-swap : (i j : ℕ) → same_nodes s i j ≡ true → same_nodes s j i ≡ true
   unfolding same_nodes same_links

@@ -2,7 +2,8 @@
 use Rattle.std.proofs.Common.{◌≡◌, ℕ, Bool, true, false, List, [], sym, refl, ap, ◌∙◌, subst, ap₂, arith}
 use Rattle.expr_chains.proofs.RootLaws.{kind-variable, kind-this, kind-other}
 use Rattle.sheet.specs.Limits.{max_depth}
-use Rattle.sheet.specs.Node.{kind, count, field_a, field_b, field_c, position, child}
+use Rattle.sheet.specs.Node.{count, field_a, field_b, field_c, position, child}
+use Rattle.sheet.specs.Namespace.{role}
 use Rattle.lowering.specs.Kinds.{variable_kind, this_kind}
 use Rattle.lowering.specs.Pools.{Name, name}
 use Rattle.lowering.specs.Flatten.{negated, StepRule, step_rule, links}
@@ -96,8 +97,8 @@ module _ (s : List ℕ) (l : Layout) (n : ℕ) (xs : List ℕ) where
     unfolding links_hash
     walk_ends z = record { is = λ w. sym (ap (links_hash s held h) z) ∙ k.rest w }
 
-  -- a root by its kind k
-  module _ (h v : ℕ) {k : ℕ} (kinds : k ≡ kind s v) where
+  -- a root by its role k
+  module _ (h v : ℕ) {k : ℕ} (kinds : k ≡ role s v) where
     root-as : (i : ℕ) → root_kind k ≡ i → root_hash s held h v ≡ root_hash_by i s held (step h i) v
     unfolding root_hash
     root-as i e = ap (λ (m : ℕ). root_hash_by m s held (step h m) v) (sym (ap root_kind kinds) ∙ e)

@@ -1,15 +1,18 @@
 -- Names: the same names have the same hash (`names-alike`), and one law for each answer of the code.
-use Rattle.std.proofs.Common.{◌≡◌, ℕ, ◌/◌, ◌%◌, ◌<◌, Bool, true, false, List, [], ◌∷◌, sym, refl, ap, ◌∙◌, subst, ap₂}
-use mathlib.Core.Bool.{beq}
+use Rattle.std.proofs.Common.{◌≡◌, ℕ, ◌-◌, ◌/◌, ◌%◌, ◌<◌, Bool, true, false, ◌&&◌, List, [], ◌∷◌, ◌++◌, sym, refl, ap, ◌∙◌, subst, ap₂}
+use Rattle.std.proofs.Common.{eqb, ne_eqb, eqb-true}
+use Rattle.laws.proofs.Bool.{and_left, and_right}
+use mathlib.Core.Bool.{◌||◌, not, beq, true≢false}
 use Rattle.text.specs.Same.{same}
 use Rattle.text.proofs.SameLaws.{same_refl, same_true}
 use Rattle.sheet.specs.Text.{text}
-use Rattle.lowering.specs.Pools.{Name, name, same_name, name_bytes, bang}
+use Rattle.lowering.specs.Pools.{Name, name, same_name, name_bytes, bang, separator, prefix}
 use Rattle.scratch_keys.specs.Keys.{key_node, key_field, name_of, is_marked, mark_of, marked, mark_by}
 use Rattle.scratch_keys.proofs.BangLaws.{texts_same}
+use Rattle.scratch_keys.proofs.PiecesLaws.{same-join}
 use Rattle.scratch_index.specs.Pool.{Alike}
 use Rattle.scratch_folds.specs.Hash.{byte_step, spread, fold_hash, bytes_hash}
-use Rattle.scratch_folds.specs.Sums.{BySums}
+use Rattle.scratch_folds.specs.Sums.{Sums, BySums}
 use Rattle.scratch_index.specs.Names.{is_name, same_name_of, name_with, name_hash_of, name_hash}
 use Rattle.scratch_folds.proofs.HashLaws.{bytes_word, fold-append}
 use Rattle.scratch_folds.proofs.SumsLaws.{by-at}
@@ -46,86 +49,148 @@ module _ (s : List ℕ) where
   name-one n i j a b =
       names_of (name_of s i) (name_of s j) (sym (names-told n (name_of s i) a) ∙ names-told n (name_of s j) b)
 
--- `!` is one step more
-hash-marked : (x : List ℕ) → fold_hash 0 (marked x true) ≡ byte_step (fold_hash 0 x) bang
+-- `!` is one step more, after any front
+hash-marked : (h : ℕ) (x : List ℕ) → fold_hash h (marked x true) ≡ byte_step (fold_hash h x) bang
 unfolding marked mark_by fold_hash
-hash-marked x = fold-append 0 x (bang ∷ [])
+hash-marked h x = fold-append h x (bang ∷ [])
 
-hash-plain : (x : List ℕ) → fold_hash 0 (marked x false) ≡ fold_hash 0 x
+hash-plain : (h : ℕ) (x : List ℕ) → fold_hash h (marked x false) ≡ fold_hash h x
 unfolding marked mark_by fold_hash
-hash-plain x = fold-append 0 x []
+hash-plain h x = fold-append h x []
+
+-- and the separator two
+hash-separated : (x : List ℕ) → fold_hash 0 (x ++ separator) ≡ byte_step (byte_step (fold_hash 0 x) 58) 58
+unfolding fold_hash
+hash-separated x = fold-append 0 x separator
 
 module _ (s : List ℕ) where
-  with-bytes : (t : ℕ) (m : Bool) → name_bytes s (name_with s t m) ≡ marked (text s t) m
+  with-bytes : (t : ℕ) (m : Bool) (w : ℕ) → name_bytes s (name_with s t m w) ≡ prefix s w ++ marked (text s t) m
   unfolding name_bytes marked
-  with-bytes t m = refl
+  with-bytes t m w = refl
 
-  -- a key's name by its text and its mark
-  name-whole : (k : ℕ) → name_of s k ≡ name_with s (name_of s k).text (is_marked s (key_node k) (key_field k))
+  -- a key's name by its text, its mark and its namespace
+  name-whole : (k : ℕ) → name_of s k ≡ name_with s (name_of s k).text (is_marked s (key_node k) (key_field k)) (name_of s k).namespace
   unfolding name_of mark_of
   name-whole k = refl
 
-  -- from what the code read of key k: its text t, and whether it is marked
-  pub name-read : (k : ℕ) {t : ℕ} {b : Bool} → t ≡ (name_of s k).text → b ≡ is_marked s (key_node k) (key_field k)
-      → name_with s t b ≡ name_of s k
-  name-read k e f = ap₂ (name_with s) e f ∙ sym (name-whole k)
+  -- from what the code read of key k: its text t, whether it is marked, and its namespace w
+  pub name-read :
+      (k : ℕ) {t : ℕ} {b : Bool} {w : ℕ} → t ≡ (name_of s k).text → b ≡ is_marked s (key_node k) (key_field k)
+      → w ≡ (name_of s k).namespace → name_with s t b w ≡ name_of s k
+  name-read k {t} {b} {w} e f g =
+      ap₂ (λ (i : ℕ) (m : Bool). name_with s i m w) e f
+      ∙ ap (name_with s (name_of s k).text (is_marked s (key_node k) (key_field k))) g
+      ∙ sym (name-whole k)
 
-  pub with-plain : (t : ℕ) → name_with s t false ≡ name t 0
+  pub with-plain : (t : ℕ) → name_with s t false 0 ≡ name t 0
   unfolding mark_by
   with-plain t = refl
 
-  pub name-read-off :
-      (k : ℕ) {t : ℕ} {b : Bool} → t ≡ (name_of s k).text → b ≡ is_marked s (key_node k) (key_field k) → b ≡ false → name t 0 ≡ name_of s k
-  name-read-off k {t} e f h = sym (with-plain t) ∙ name-read k e (sym h ∙ f)
+  -- a name with neither, by one test
+  neither : (m b : Bool) → (m || not b) ≡ false → (m ≡ false) × (b ≡ true)
+  neither true b h = absurd (true≢false h)
+  neither false true h = (refl, refl)
+  neither false false h = absurd (true≢false h)
 
-  -- the hash of what the code read: f is the fold of text t, by what is kept at place at
+  pub name-read-off :
+      (k : ℕ) {t : ℕ} {b : Bool} {w : ℕ} → t ≡ (name_of s k).text → b ≡ is_marked s (key_node k) (key_field k)
+      → w ≡ (name_of s k).namespace → (b || not (eqb w 0)) ≡ false → name t 0 ≡ name_of s k
+  name-read-off k {t} {b} {w} e f g h =
+      let off = neither b (eqb w 0) h in
+      sym (with-plain t) ∙ name-read k e (sym off.0 ∙ f) (sym (eqb-true w 0 off.1) ∙ g)
+
+  -- what a namespace puts before a name, as a fold: none
+  pub prefix-none : (w p : ℕ) (xs : List ℕ) → w ≡ 0 → BySums s p xs (fold_hash 0 (prefix s w)) 0
+  unfolding prefix fold_hash
+  prefix-none w p xs e = record { is = λ sums. sym (ap (λ (i : ℕ). fold_hash 0 (prefix s i)) e) }
+
+  -- or its text and the separator: f is the fold of the text, by what is kept at place at
+  pub prefix-some :
+      (w p : ℕ) (xs : List ℕ) {f at g h : ℕ} → (w ≡ 0 → ⊥) → at ≡ p → BySums s at xs (fold_hash 0 (text s (w - 1))) f
+      → g ≡ byte_step f 58 → h ≡ byte_step g 58 → BySums s p xs (fold_hash 0 (prefix s w)) h
+  unfolding prefix
+  prefix-some w p xs n place fold q r = record {
+    is = λ sums.
+        r
+        ∙ ap (λ (v : ℕ). byte_step v 58) (q ∙ ap (λ (v : ℕ). byte_step v 58) ((by-at place fold).is sums))
+        ∙ sym (hash-separated (text s (w - 1)))
+        ∙ sym (ap (λ (t : Bool). fold_hash 0 (elim t [ true ↦ [] | false ↦ text s (w - 1) ++ separator ])) (ne_eqb w 0 n));
+  }
+
+  -- the hash of what the code read: a is the fold of what namespace w puts before, and f that of text t behind it, by what is kept at
+  -- place at
   module _
-      (t : ℕ) (m : Bool) (p : ℕ) (xs : List ℕ) {f at : ℕ} (place : at ≡ p) (fold : BySums s at xs (fold_hash 0 (text s t)) f)
+      (t : ℕ) (m : Bool) (w p : ℕ) (xs : List ℕ) {a f at : ℕ} (place : at ≡ p) (front : BySums s p xs (fold_hash 0 (prefix s w)) a)
+      (fold : BySums s at xs (fold_hash a (text s t)) f)
     where
-      bytes-are : (b : Bool) → m ≡ b → fold_hash 0 (marked (text s t) b) ≡ fold_hash 0 (name_bytes s (name_with s t m))
-      bytes-are b e = ap (fold_hash 0) (ap (marked (text s t)) (sym e) ∙ sym (with-bytes t m))
+      bytes-are : (b : Bool) → m ≡ b
+          → fold_hash (fold_hash 0 (prefix s w)) (marked (text s t) b) ≡ fold_hash 0 (name_bytes s (name_with s t m w))
+      bytes-are b e =
+          sym (fold-append 0 (prefix s w) (marked (text s t) b))
+          ∙ ap (fold_hash 0) (ap (λ (u : Bool). prefix s w ++ marked (text s t) u) (sym e) ∙ sym (with-bytes t m w))
+
+      both : Sums s p xs → f ≡ fold_hash (fold_hash 0 (prefix s w)) (text s t)
+      both sums = (by-at place fold).is sums ∙ ap (λ (v : ℕ). fold_hash v (text s t)) (front.is sums)
 
       pub name-hash-on :
-          {g h : ℕ} → m ≡ true → g ≡ byte_step f bang → h ≡ spread g → BySums s p xs (name_hash_of s (name_with s t m)) h
+          {g h : ℕ} → m ≡ true → g ≡ byte_step f bang → h ≡ spread g → BySums s p xs (name_hash_of s (name_with s t m w)) h
       unfolding name_hash_of bytes_hash
       name-hash-on e q r = record {
         is = λ sums.
             r
             ∙ ap spread
             (q
-            ∙ ap (λ (v : ℕ). byte_step v bang) ((by-at place fold).is sums)
-            ∙ sym (hash-marked (text s t))
+            ∙ ap (λ (v : ℕ). byte_step v bang) (both sums)
+            ∙ sym (hash-marked (fold_hash 0 (prefix s w)) (text s t))
             ∙ bytes-are true e);
       }
 
-      pub name-hash-off : {h : ℕ} → m ≡ false → h ≡ spread f → BySums s p xs (name_hash_of s (name_with s t m)) h
+      pub name-hash-off : {h : ℕ} → m ≡ false → h ≡ spread f → BySums s p xs (name_hash_of s (name_with s t m w)) h
       unfolding name_hash_of bytes_hash
       name-hash-off e r = record {
-        is = λ sums. r ∙ ap spread ((by-at place fold).is sums ∙ sym (hash-plain (text s t)) ∙ bytes-are false e);
+        is = λ sums. r ∙ ap spread (both sums ∙ sym (hash-plain (fold_hash 0 (prefix s w)) (text s t)) ∙ bytes-are false e);
       }
 
-  -- a comparison of the name with text t and mark m with that of key c, whose text is d
-  module _ (t c : ℕ) (m : Bool) {d : ℕ} (at : d ≡ (name_of s c).text) where
-    compared : is_name s (name_with s t m) c ≡ same (marked (text s t) m) (marked (text s d) (is_marked s (c / 3) (c % 3)))
-    unfolding same_name
-    compared =
-        ap₂ same (with-bytes t m)
-        (ap (name_bytes s) (name-whole c)
-        ∙ with-bytes (name_of s c).text (is_marked s (c / 3) (c % 3))
-        ∙ ap (λ (i : ℕ). marked (text s i) (is_marked s (c / 3) (c % 3))) (sym at))
+  -- a comparison of the name with text t and mark m in namespace w with that of key c, whose text is d and whose namespace is v
+  module _
+      (t c : ℕ) (m : Bool) (w : ℕ) {d v : ℕ} (at : d ≡ (name_of s c).text) (space : v ≡ (name_of s c).namespace)
+    where
+      abbrev mark : Bool
+      mark = is_marked s (c / 3) (c % 3)
 
-    pub name-compared :
-        {x y : List ℕ} {r : Bool} → x ≡ text s t → y ≡ text s d
-        → r ≡ same (marked x m) (marked y (is_marked s (c / 3) (c % 3))) → r ≡ is_name s (name_with s t m) c
-    name-compared p q h =
-        h
-        ∙ ap₂ same (ap (λ (z : List ℕ). marked z m) p) (ap (λ (z : List ℕ). marked z (is_marked s (c / 3) (c % 3))) q)
-        ∙ sym compared
+      compared : is_name s (name_with s t m w) c ≡ same (prefix s w ++ marked (text s t) m) (prefix s v ++ marked (text s d) mark)
+      unfolding same_name
+      compared =
+          ap₂ same (with-bytes t m w)
+          (ap (name_bytes s) (name-whole c)
+          ∙ with-bytes (name_of s c).text mark (name_of s c).namespace
+          ∙ ap₂ (λ (i u : ℕ). prefix s u ++ marked (text s i) mark) (sym at) (sym space))
 
-    -- where both have one text, the marks tell
-    module _ (one : t ≡ d) {b : Bool} (mark : b ≡ is_marked s (c / 3) (c % 3)) where
-      texts : is_name s (name_with s t m) c ≡ same (marked (text s t) m) (marked (text s t) b)
-      texts = compared ∙ ap₂ (λ (i : ℕ) (u : Bool). same (marked (text s t) m) (marked (text s i) u)) (sym one) (sym mark)
+      pub name-compared :
+          {x y : List ℕ} {b r : Bool} → x ≡ prefix s w ++ marked (text s t) m → b ≡ mark → y ≡ prefix s v ++ marked (text s d) b
+          → r ≡ same x y → r ≡ is_name s (name_with s t m w) c
+      name-compared p e q h = h ∙ ap₂ same p (q ∙ ap (λ (u : Bool). prefix s v ++ marked (text s d) u) e) ∙ sym compared
 
-      pub name-alone : beq b m ≡ is_name s (name_with s t m) c
-      name-alone = sym (texts ∙ texts_same (text s t) (text s t) m b (same_refl (text s t)))
+      -- in one namespace text and mark tell
+      pub own-compared :
+          {x y : List ℕ} {r : Bool} → w ≡ v → x ≡ text s t → y ≡ text s d
+          → r ≡ same (marked x m) (marked y mark) → r ≡ is_name s (name_with s t m w) c
+      own-compared one p q h =
+          h
+          ∙ ap₂ same (ap (λ (l : List ℕ). marked l m) p) (ap (λ (l : List ℕ). marked l mark) q)
+          ∙ sym (compared
+          ∙ ap (λ (k : ℕ). same (prefix s w ++ marked (text s t) m) (prefix s k ++ marked (text s d) mark)) (sym one)
+          ∙ same-join (prefix s w) (prefix s w) (marked (text s t) m) (marked (text s d) mark) refl
+          ∙ ap (λ (u : Bool). u && same (marked (text s t) m) (marked (text s d) mark)) (same_refl (prefix s w)))
+
+      -- where both have one text and one namespace, the marks tell
+      pub name-alone : {b : Bool} → (eqb t d && eqb w v) ≡ true → b ≡ mark → beq b m ≡ is_name s (name_with s t m w) c
+      name-alone {b} told e =
+          let one = eqb-true t d (and_left (eqb t d) (eqb w v) told) in
+          let two = eqb-true w v (and_right (eqb t d) (eqb w v) told) in
+          sym (compared
+          ∙ ap₂ (λ (i k : ℕ). same (prefix s w ++ marked (text s t) m) (prefix s k ++ marked (text s i) mark)) (sym one) (sym two)
+          ∙ same-join (prefix s w) (prefix s w) (marked (text s t) m) (marked (text s t) mark) refl
+          ∙ ap (λ (u : Bool). u && same (marked (text s t) m) (marked (text s t) mark)) (same_refl (prefix s w))
+          ∙ ap (λ (u : Bool). same (marked (text s t) m) (marked (text s t) u)) (sym e)
+          ∙ texts_same (text s t) (text s t) m b (same_refl (text s t)))

@@ -2,7 +2,8 @@
 -- c and v are nodes: of a chain, of a link, of a root.
 use Rattle.std.specs.Prelude.{◌≡◌, ℕ, Bool, true, false, List, [], ◌∷◌, ◌==◌}
 use Rattle.sheet.specs.Limits.{max_depth}
-use Rattle.sheet.specs.Node.{kind, count, field_a, field_b, field_c, position, child}
+use Rattle.sheet.specs.Node.{count, field_a, field_b, field_c, position, child}
+use Rattle.sheet.specs.Namespace.{role}
 use Rattle.sheet.specs.Start.{start_of}
 use Rattle.lowering.specs.Kinds.{variable_kind, this_kind}
 use Rattle.lowering.specs.Pools.{Name}
@@ -57,7 +58,7 @@ root_hash_by k s ns h v =
     ]
 
 unfoldable pub root_hash : List ℕ → List Name → ℕ → ℕ → ℕ
-root_hash s ns h v = root_hash_by (root_kind (kind s v)) s ns (step h (root_kind (kind s v))) v
+root_hash s ns h v = root_hash_by (root_kind (role s v)) s ns (step h (root_kind (role s v))) v
 
 unfoldable pub chain_hash : List ℕ → List Name → ℕ → ℕ
 chain_hash s ns j = spread (root_hash s ns (links_hash s ns 1 (links max_depth s j)) (child j))

@@ -1,6 +1,6 @@
 -- Names by their keys: when two are the same, their hashes, and the slots of their links.
 use Rattle.std.specs.Prelude.{ℕ, ◌+◌, ◌*◌, ◌%◌, Bool, List}
-use Rattle.lowering.specs.Pools.{Name, name, same_name, name_bytes}
+use Rattle.lowering.specs.Pools.{Name, same_name, name_bytes}
 use Rattle.scratch_keys.specs.Keys.{key_node, key_field, name_of, mark_by}
 use Rattle.scratch_folds.specs.Hash.{bytes_hash}
 
@@ -13,11 +13,11 @@ module _ (s : List ℕ) where
   abbrev pub same_name_of : ℕ → ℕ → Bool
   same_name_of i k = is_name (name_of s i) k
 
-  -- the name with text t, and `!` where m says
-  abbrev pub name_with : ℕ → Bool → Name
-  name_with t m = name t (mark_by m)
+  -- the name with text t, with `!` where m says, in namespace w
+  abbrev pub name_with : ℕ → Bool → ℕ → Name
+  name_with t m w = record { text = t; mark = mark_by m; namespace = w }
 
-  -- of the bytes, `!` included
+  -- of the bytes, with the namespace and `!`
   unfoldable pub name_hash_of : Name → ℕ
   name_hash_of n = bytes_hash (name_bytes s n)
 

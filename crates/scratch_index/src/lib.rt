@@ -6,32 +6,35 @@ ghost use Rattle.std.specs.Prelude.{◌≡◌, ◌+◌, ℕ, ◌/◌, ◌<◌, �
 ghost use Rattle.sheet.specs.Limits.{max_depth};
 ghost use Rattle.sheet.specs.Node as nodes;
 ghost use Rattle.lowering.specs.Pools.{name};
+ghost use Rattle.lowering.specs.Pools as pools;
 ghost use Rattle.lowering.specs.Flatten.{operand_of, links};
 ghost use Rattle.expr_rules.specs.Reads.{Reads};
 ghost use Rattle.expr_chains.specs.Same.{RootLocal, same_nodes};
 ghost use Rattle.scratch.specs.Places as places;
-ghost use Rattle.scratch_folds.specs.Hash.{mix};
+ghost use Rattle.scratch_folds.specs.Hash.{mix, fold_hash};
 ghost use Rattle.scratch_folds.specs.Sums.{BySums};
 ghost use Rattle.scratch_index.specs.Table.{head_at, link_at, tag_of, noted_by};
 ghost use Rattle.scratch_index.specs.Lookup.{hit_by, Finds, Seeks};
 ghost use Rattle.scratch_index.specs.Consts.{const_slot, same_const_of, const_hash, same_token_of, token_hash};
 ghost use Rattle.scratch_index.specs.Names.{is_name, name_with, name_hash_of, name_hash, name_slot};
-ghost use Rattle.scratch_index.specs.Memo.{memo_at, remembered, recalled};
+ghost use Rattle.scratch_index.specs.Memo.{memo_at, number_by, remembered, recalled, told_by};
 ghost use Rattle.scratch_index.specs.Held.{FindsName, names_held};
 ghost use Rattle.scratch_index.specs.Chains.{ByNames};
 ghost use Rattle.scratch_index.specs.Chains as chains;
 
 use expr_chains::{same_chain, same_text};
 use expr_rules::chains::{Read, StepRule, links_of};
-use lowering::NAMES_PER_NODE;
+use lowering::{NAMES_PER_NODE, SEPARATOR};
 use scratch::{Index, Layout, MEMO_PAIRS, get, put};
 use scratch_folds::{byte_step, fold_text, hash_text, more, spread_out};
-use scratch_keys::{is_marked, same_marked, text_of};
+use scratch_keys::joined::Joined;
+use scratch_keys::{is_marked, namespace_of, same_marked, text_of};
 use sheet::kinds::{STRING, THIS, VARIABLE};
-use sheet::{child, count, field_a, field_b, field_c, kind, position, start_of, text};
+use sheet::limits::MAX_TEXTS;
+use sheet::{child, count, field_a, field_b, field_c, kind, position, role, start_of, text};
 
 // A link has the entry before in its low 19 bits, and 13 bits of its own entry's hash above them.
-// Kept: a head and the entry in a link are the entry plus 1, and 0 is none, here and in `note` and `seek`; so is the text of a memo
+// Kept: a head and the entry in a link are the entry plus 1, and 0 is none, here and in `note` and `seek`; so is the number of a memo
 // (`remember`, `recalled`), and the local of a slot (scratch_locals). A word of the lent scratch has no Option: each becomes one where it
 // is read, or is only compared with 0 (`told_by` of expr_count).
 // Kept: a map in words, and the memos below too: the C interface lends one slice, and there is no heap.
@@ -80,14 +83,16 @@ fn number_hash(k: u32, a: u32, b: u32) -> u32
     more(more(more(more(0, a), b), k), 1)
 }
 
-// Where the memo of text `t` stands, of those from place `ms` on.
+// Where the memo of number `t` stands, of those from place `ms` on. A namespace moves it, so that one text in several of them has several.
 fn memo_at(ms: u32, t: u32) -> usize
     ensures { (result ≡ memo_at ms t) × (result < 10000000000) }
 {
-    (ms as usize) + 2 * ((t % MEMO_PAIRS) as usize)
+    let n = u64::from(t);
+    let at = (n + n / u64::from(MAX_TEXTS) * 37) % u64::from(MEMO_PAIRS);
+    (ms as usize) + 2 * (at as usize)
 }
 
-// What the memos from place `ms` on say of text `t`, if they know it.
+// What the memos from place `ms` on say of number `t`, if they know it.
 #[tactic(auto, unfolding(crate::specs::Memo::recalled))]
 pub fn recalled(scratch: &[u32], ms: u32, t: u32) -> Option<u32>
     ensures { result ≡ recalled ms t scratch.now }
@@ -100,7 +105,15 @@ pub fn recalled(scratch: &[u32], ms: u32, t: u32) -> Option<u32>
     None
 }
 
-// Text `t` has answer `p`.
+// The same of a name, by its number, if it has one.
+#[tactic(auto, unfolding(crate::specs::Memo::told_by))]
+fn told_by(scratch: &[u32], ms: u32, number: Option<u32>) -> Option<u32>
+    ensures { result ≡ told_by ms number scratch.now }
+{
+    recalled(scratch, ms, number?)
+}
+
+// Number `t` has answer `p`.
 pub fn remember(scratch: &mut [u32], ms: u32, t: u32, p: u32)
     ensures { scratch.new ≡ remembered ms t p scratch.old }
 {
@@ -216,21 +229,55 @@ impl<'a> Wanted for TokenOf<'a> {
     }
 }
 
-// The name with a text, and with `!` where it is marked.
+// The name with a text, with `!` where it is marked, in a namespace (its text plus 1, or 0 for none).
+// Kept: the namespace's word, as an image's name has it, and as keys tell it.
 #[derive(Clone, Copy)]
 pub struct NameWith<'a> {
     pub sheet: &'a [u8],
     pub text: u32,
     pub marked: bool,
+    pub namespace: u32,
 }
 
 impl<'a> NameWith<'a> {
-    // Its hash, by the kept folds: `!` is one byte more.
+    // Its number, by which a memo may know it: text and namespace, where it has no mark and the two have room in a word.
+    #[tactic(auto, unfolding(crate::specs::Memo::number_by))]
+    pub fn number(&self) -> Option<u32>
+        ensures { let it = self.now in result ≡ number_by it.text it.marked it.namespace }
+    {
+        if self.marked {
+            return None;
+        }
+        if MAX_TEXTS <= self.text {
+            return None;
+        }
+        if MAX_TEXTS <= self.namespace {
+            return None;
+        }
+        Some(self.text + MAX_TEXTS * self.namespace)
+    }
+
+    // The fold over what its namespace puts before it.
+    fn prefix_fold(&self, scratch: &[u32], layout: Layout) -> u32
+        ensures { let it = self.now in let sheet = it.sheet.now in
+            BySums sheet (places.sums_from layout) scratch.now (fold_hash 0 (pools.prefix sheet it.namespace)) result }
+    {
+        if self.namespace == 0 {
+            return 0;
+        }
+        let f = fold_text(self.sheet, scratch, layout.sums_at(), self.namespace - 1, 0);
+        let [a, b] = SEPARATOR;
+        byte_step(byte_step(f, a), b)
+    }
+
+    // Its hash, by the kept folds: the separator and `!` are bytes more.
     pub fn hash(&self, scratch: &[u32], layout: Layout) -> u32
         ensures { let it = self.now in let sheet = it.sheet.now in
-            BySums sheet (places.sums_from layout) scratch.now (name_hash_of sheet (name_with sheet it.text it.marked)) result }
+            BySums sheet (places.sums_from layout) scratch.now
+            (name_hash_of sheet (name_with sheet it.text it.marked it.namespace)) result }
     {
-        let f = fold_text(self.sheet, scratch, layout.sums_at(), self.text);
+        let p = self.prefix_fold(scratch, layout);
+        let f = fold_text(self.sheet, scratch, layout.sums_at(), self.text, p);
         if self.marked {
             return spread_out(byte_step(f, b'!'));
         }
@@ -241,18 +288,23 @@ impl<'a> NameWith<'a> {
 impl<'a> Wanted for NameWith<'a> {
     ghost told = { λ _. Unit {0} };
 
-    ghost same = { λ it k. is_name it.sheet.now (name_with it.sheet.now it.text it.marked) k };
+    ghost same = { λ it k. is_name it.sheet.now (name_with it.sheet.now it.text it.marked it.namespace) k };
 
     ghost slot = { name_slot };
 
-    // One text number needs no bytes.
+    // The same numbers need no bytes, and one namespace none of its own.
     fn same(&self, k: u32) -> bool {
         let d = text_of(self.sheet, k);
-        if self.text == d {
+        let w = namespace_of(self.sheet, k);
+        if (self.text == d) & (self.namespace == w) {
             return is_marked(self.sheet, k) == self.marked;
         }
-        let wanted = text(self.sheet, self.text);
-        same_marked(self.sheet, k, wanted, self.marked, text(self.sheet, d))
+        if self.namespace == w {
+            let wanted = text(self.sheet, self.text);
+            return same_marked(self.sheet, k, wanted, self.marked, text(self.sheet, d));
+        }
+        let wanted = Joined::new(self.sheet, self.namespace, self.text, self.marked);
+        wanted.same(&Joined::new(self.sheet, w, d, is_marked(self.sheet, k)))
     }
 
     fn link(&self, ix: Index, k: u32) -> usize {
@@ -338,18 +390,19 @@ pub struct Names<'a> {
 }
 
 impl<'a> Names<'a> {
-    // The place of the name with text `t` and no mark among them: the memo is asked first.
+    // The place of the name with text `t`, no mark and no namespace among them: the memo is asked first.
     pub fn place(&self, t: u32) -> u32
         ensures { let it = self.now in FindsName it.sheet.now it.layout it.count (name t 0) it.scratch.now result }
     {
-        if let Some(at) = recalled(self.scratch, self.layout.memos_at(), t) {
-            return at;
-        }
         let wanted = NameWith {
             sheet: self.sheet,
             text: t,
             marked: false,
+            namespace: 0,
         };
+        if let Some(at) = told_by(self.scratch, self.layout.memos_at(), wanted.number()) {
+            return at;
+        }
         let h = wanted.hash(self.scratch, self.layout);
         // Kept: `count` where it is not there, which is the place that the definition gives it then.
         seek(&wanted, self.scratch, self.layout.name_index(), h).unwrap_or(self.count)
@@ -417,7 +470,7 @@ impl<'a> Names<'a> {
         ensures { let it = self.now in let sheet = it.sheet.now in let words = it.scratch.now in (RootLocal sheet v local
             → ByNames sheet it.layout it.count words (chains.root_hash sheet (names_held sheet it.layout it.count words) h v) result) }
     {
-        let k = kind(self.sheet, v);
+        let k = role(self.sheet, v);
         if k == VARIABLE {
             let f = more(more(h, k), self.place(field_a(self.sheet, v)));
             if local {

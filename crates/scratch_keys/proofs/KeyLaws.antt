@@ -8,11 +8,12 @@ use native.Mathlib.Omega.{arith}
 use lib.Dec.{eqb}
 use borrow.Author.Tests.{ne_eqb, eqb-true, eqb-false}
 use Rattle.sheet.specs.Node.{field, kind, field_a, field_b, field_c}
+use Rattle.sheet.specs.Namespace.{namespace}
 use Rattle.lowering.specs.Limits.{names_per_node}
 use Rattle.lowering.specs.Pools.{name}
 use Rattle.lowering.specs.Call.{stores_token}
 use Rattle.lowering.specs.Flatten.{operand_of}
-use Rattle.scratch_keys.specs.Keys.{key_node, key_field, key_of, call_kind, field_of, is_marked, mark_by, mark_of, name_of}
+use Rattle.scratch_keys.specs.Keys.{key_node, key_field, key_of, call_kind, field_of, is_marked, mark_by, mark_of, namespace_of, name_of}
 
 off : (a c d : Bool) → (a && false && c && d) ≡ false
 off true c d = refl
@@ -43,13 +44,36 @@ module _ (s : List ℕ) where
       by true z = at 0 refl (eqb-true f 0 z)
       by false z = let a = eqb-false f 0 z in at 1 refl (omega arith)
 
+  -- only a node's own name has a namespace, in the shapes of the code
+  pub own-namespace : (j : ℕ) → namespace_of s j 0 ≡ namespace s j
+  unfolding namespace_of
+  own-namespace j = refl
+
+  pub no-namespace : (j f : ℕ) → (f ≡ 0 → ⊥) → namespace_of s j f ≡ 0
+  unfolding namespace_of
+  no-namespace j f n = rw (ne_eqb f 0 n, namespace_of)
+
+  pub namespace-own : (k : ℕ) {v : ℕ} → key_field k ≡ 0 → v ≡ namespace s (key_node k) → v ≡ (name_of s k).namespace
+  unfolding name_of
+  namespace-own k h e = e ∙ sym (ap (namespace_of s (key_node k)) h ∙ own-namespace (key_node k))
+
+  pub namespace-none : (k : ℕ) → (key_field k ≡ 0 → ⊥) → 0 ≡ (name_of s k).namespace
+  unfolding name_of
+  namespace-none k n = sym (no-namespace (key_node k) (key_field k) n)
+
   -- the name with key 3 · j + f
-  pub name-of : (j f : ℕ) → f < names_per_node → name_of s (key_of j f) ≡ name (field_of s f j) (mark_of s j f)
+  pub name-of :
+      (j f : ℕ) → f < names_per_node
+      → name_of s (key_of j f) ≡ record { text = field_of s f j; mark = mark_of s j f; namespace = namespace_of s j f }
   unfolding name_of
   name-of j f h =
       let node : key_node (key_of j f) ≡ j = omega arith in
       let place : key_field (key_of j f) ≡ f = omega arith in
       rw (node, place)
+
+  -- without a namespace
+  pub name-plain : (j f : ℕ) → f < names_per_node → namespace_of s j f ≡ 0 → name_of s (key_of j f) ≡ name (field_of s f j) (mark_of s j f)
+  name-plain j f h e = name-of j f h ∙ ap (λ (w : ℕ). record { text = field_of s f j; mark = mark_of s j f; namespace = w }) e
 
   -- no mark but at field a of a call
   pub no-mark : (j f : ℕ) → (kind s j ≡ call_kind → ⊥) → mark_of s j f ≡ 0

@@ -1,4 +1,5 @@
 pub mod BangLaws
 pub mod KeyLaws
+pub mod PiecesLaws
 pub mod SeekLaws
 mod NamedLaws

@@ -3,8 +3,9 @@
 -- Property that link c is taken with.
 use Rattle.std.specs.Prelude.{ℕ, ◌+◌, ◌*◌, ◌/◌, ◌%◌, Bool, true, false, ◌&&◌, not, List, ◌++◌, eqb, replicate}
 use Rattle.sheet.specs.Node.{kind, field_a, field_b, field_c}
+use Rattle.sheet.specs.Namespace.{namespace}
 use Rattle.lowering.specs.Limits.{names_per_node}
-use Rattle.lowering.specs.Pools.{Name, name, bang}
+use Rattle.lowering.specs.Pools.{Name, bang}
 use Rattle.lowering.specs.Call.{stores_token}
 use Rattle.lowering.specs.Flatten.{operand_of}
 
@@ -41,9 +42,18 @@ mark_by false = 0
 unfoldable pub mark_of : List ℕ → ℕ → ℕ → ℕ
 mark_of s j f = mark_by (is_marked s j f)
 
+-- only a node's own name has a namespace
+unfoldable pub namespace_of : List ℕ → ℕ → ℕ → ℕ
+namespace_of s j f = elim (eqb f 0) [ true ↦ namespace s j | false ↦ 0 ]
+
 -- the name with key k
 unfoldable pub name_of : List ℕ → ℕ → Name
-name_of s k = name (field_of s (key_field k) (key_node k)) (mark_of s (key_node k) (key_field k))
+name_of s k =
+    record {
+      text = field_of s (key_field k) (key_node k);
+      mark = mark_of s (key_node k) (key_field k);
+      namespace = namespace_of s (key_node k) (key_field k);
+    }
 
 -- bytes with `!` added or not
 unfoldable pub marked : List ℕ → Bool → List ℕ

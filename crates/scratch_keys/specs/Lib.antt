@@ -1,3 +1,4 @@
 pub mod Keys
 pub mod Used
 pub mod Bang
+pub mod Pieces

@@ -6,11 +6,13 @@ ghost use Rattle.text.specs.Same.{same};
 ghost use Rattle.scratch_keys.specs.Keys.{key_node, key_field, is_marked, name_of, marked};
 ghost use Rattle.scratch_keys.specs.Bang.{with_bang};
 
+pub mod joined;
+
 use expr_rules::calls::stores_token;
 use expr_rules::chains::operand_of;
 use lowering::NAMES_PER_NODE;
 use sheet::kinds::FN_CALL;
-use sheet::{A_AT, field, field_b, field_c, kind};
+use sheet::{A_AT, field, field_b, field_c, kind, namespace};
 use text::same_bytes;
 
 // Which name of its node a key stands for: 0 its own, in field a; 1 the getter, in field b; 2 the setter, in field c of what the link is
@@ -47,6 +49,17 @@ pub fn mark_of(sheet: &[u8], k: u32) -> u32
     ensures { result ≡ (name_of sheet.now k).mark }
 {
     u32::from(is_marked(sheet, k))
+}
+
+// The namespace of the name with key `k`, its text plus 1, or 0 for none: only a node's own name has one.
+// Kept: the word of an image's name, as `mark_of`.
+pub fn namespace_of(sheet: &[u8], k: u32) -> u32
+    ensures { result ≡ (name_of sheet.now k).namespace }
+{
+    if k % NAMES_PER_NODE == OWN {
+        return namespace(sheet, k / NAMES_PER_NODE);
+    }
+    0
 }
 
 // `y` is `x` with `!` added.

@@ -5,7 +5,8 @@ use mathlib.Core.Option.{none, some}
 use Rattle.std.specs.Prelude as Prelude
 use Rattle.std.specs.Prelude.{Option}
 use Rattle.scratch_index.proofs.ChainHashLaws.{root-variable}
-use Rattle.sheet.specs.Node.{kind, field_a, child}
+use Rattle.sheet.specs.Node.{field_a, child}
+use Rattle.sheet.specs.Namespace.{role}
 use Rattle.sheet.specs.Text.{text}
 use Rattle.lowering.specs.Kinds.{variable_kind}
 use Rattle.lowering.specs.Slots.{resolve}
@@ -26,7 +27,7 @@ module _ {s : List ℕ} (j : ℕ) {v : ℕ} (v-is : v ≡ child j) where
     tells = λ k. e ∙ ap Prelude.is_some h ∙ is-at (resolve s (text s (field_a s v))) ∙ ap (is_local s) v-is;
   }
 
-  pub root-other : {b : Bool} {k : ℕ} → k ≡ kind s v → (k ≡ variable_kind → ⊥) → RootLocal s (child j) b
+  pub root-other : {b : Bool} {k : ℕ} → k ≡ role s v → (k ≡ variable_kind → ⊥) → RootLocal s (child j) b
   root-other {b} {k} e ne = record {
-    tells = λ h. absurd (ne (e ∙ ap (kind s) v-is ∙ root-variable (kind s (child j)) h));
+    tells = λ h. absurd (ne (e ∙ ap (role s) v-is ∙ root-variable (role s (child j)) h));
   }

@@ -21,7 +21,7 @@ use scratch::{Index, Layout, get, put};
 use scratch_folds::{fill, hash_text};
 use scratch_index::{Wanted, link, note, seek};
 use sheet::kinds::VARIABLE;
-use sheet::{child, field_a, kind, local_count, local_text};
+use sheet::{child, field_a, kind, local_count, local_text, role};
 
 // So many locals or fewer are gone through at each use.
 pub const FEW: u32 = 32;
@@ -234,7 +234,7 @@ pub fn root_local(sheet: &[u8], scratch: &[u32], layout: Layout, j: u32) -> bool
     ensures { let sheet = sheet.now in (Slots sheet layout scratch.now → RootLocal sheet (nodes.child j) result) }
 {
     let v = child(j);
-    if kind(sheet, v) == VARIABLE {
+    if role(sheet, v) == VARIABLE {
         return local_of(sheet, scratch, layout, v).is_some();
     }
     false

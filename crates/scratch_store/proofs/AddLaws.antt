@@ -1,6 +1,7 @@
 -- An entry added to a pool: where it stands already nothing changes, and where not its key is written behind the others. There is always
 -- room for it, since the keys are different numbers below the count of nodes.
-use Rattle.std.proofs.Common.{◌≡◌, ℕ, ◌+◌, ◌*◌, ◌%◌, ◌<◌, ◌≤◌, Bool, true, false, eqb, List, [], ◌∷◌, ◌++◌, map, length, set, sym, refl, ap, ◌∙◌, subst, arith, length-append, length-set, eq-eqb, ne_eqb}
+use Rattle.std.proofs.Common.{◌≡◌, ℕ, ◌+◌, ◌*◌, ◌%◌, ◌<◌, ◌≤◌, Bool, true, false, eqb, List, [], ◌∷◌, ◌++◌, map, length, set, sym, refl, ap}
+use Rattle.std.proofs.Common.{◌∙◌, subst, arith, length-append, length-set, eq-eqb, ne_eqb}
 use mathlib.Core.List.{map-append}
 use lib.ListN.{length-map}
 use Rattle.expr_chains.proofs.NameLaws.{name-self}
@@ -10,7 +11,8 @@ use Rattle.laws.proofs.Bool.{lazy-of}
 use Rattle.sheet.specs.Limits.{max_depth}
 use Rattle.sheet.specs.Node.{field_c, child}
 use Rattle.lowering.specs.Limits.{op_width, names_per_node}
-use Rattle.lowering.specs.Pools.{Pools, Const, Name, first_where, added, const_of, same_const, const_at, push_const, pools, same_name, name_at}
+use Rattle.lowering.specs.Pools.{Pools, Const, Name, first_where, added, const_of, same_const, const_at, push_const, pools, same_name}
+use Rattle.lowering.specs.Pools.{name_at}
 use Rattle.lowering.specs.Pools.{push_name, token_at, push_token, chain_at, new_chain, push_chain}
 use Rattle.lowering.specs.Code.{code_words, positions, greatest}
 use Rattle.lowering.specs.Flatten.{links}

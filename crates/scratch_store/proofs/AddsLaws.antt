@@ -14,7 +14,8 @@ use Rattle.expr_model.specs.Construct.{add_chain, chain_place}
 use Rattle.scratch.specs.declared.Layout.{Layout}
 use Rattle.scratch_store.specs.declared.State.{State}
 use Rattle.scratch.specs.declared.Index.{Index}
-use Rattle.scratch.specs.Places.{consts_at, tokens_at, chains_at, names_at, sums_from, const_index, token_index, chain_index, name_index, region}
+use Rattle.scratch.specs.Places.{consts_at, tokens_at, chains_at, names_at, sums_from, const_index, token_index, chain_index, name_index}
+use Rattle.scratch.specs.Places.{region}
 use Rattle.scratch.proofs.PlaceLaws.{name-lies, const-lies, token-lies, chain-lies}
 use Rattle.scratch_folds.specs.Sums.{BySums}
 use Rattle.scratch_index.specs.Table.{head_at, link_at, tag_of, noted_by}
@@ -36,7 +37,8 @@ use Rattle.scratch_store.specs.Holds.{Holds}
 use Rattle.scratch_store.specs.States as states
 use Rattle.scratch_store.specs.Stands.{Stands}
 use Rattle.scratch_store.specs.Does.{Adds, AddsChain}
-use Rattle.scratch_store.proofs.AddLaws.{keys-few, small_of, const-place, const-old, const-new, token-place, token-old, token-new, name-place, name-old, name_new, chain-place, chain-old, chain-new}
+use Rattle.scratch_store.proofs.AddLaws.{keys-few, small_of, const-place, const-old, const-new, token-place, token-old, token-new}
+use Rattle.scratch_store.proofs.AddLaws.{name-place, name-old, name_new, chain-place, chain-old, chain-new}
 
 -- the words as the code leaves them: by the place of the keys, and by the hash
 words-by :
@@ -143,8 +145,8 @@ module _ (s : List ℕ) (l : Layout) (xs : List ℕ) (c : State) (v h : ℕ) (ha
   token-adds (inr w) = rw (w.words, w.count, w.place) (token-placed w.seeks)
 
 module _
-    (s : List ℕ) (l : Layout) (xs : List ℕ) (c : State) (v t h : ℕ) (m : Bool) (is : name_with s t m ≡ name_of s v)
-    (hashed : BySums s (sums_from l) xs (name_hash_of s (name_with s t m)) h)
+    (s : List ℕ) (l : Layout) (xs : List ℕ) (c : State) (v t h : ℕ) (m : Bool) (w : ℕ) (is : name_with s t m w ≡ name_of s v)
+    (hashed : BySums s (sums_from l) xs (name_hash_of s (name_with s t m w)) h)
   where
     abbrev name_keys : List ℕ
     name_keys = region (names_at l) c.names xs
@@ -153,20 +155,20 @@ module _
     name-hash-is a q = hashed.is q.index.sums ∙ ap (name_hash_of s) is
 
     name-fits :
-        (i : ℕ) → Finds (is_name s (name_with s t m)) (name_hash s) name_slot (name_index l) c.names h xs i → (a : Made)
+        (i : ℕ) → Finds (is_name s (name_with s t m w)) (name_hash s) name_slot (name_index l) c.names h xs i → (a : Made)
         → Holds s l xs c a → i ≡ first_where (same_name s (name_of s v)) (map (name_of s) name_keys)
     name-fits i f a q =
-        name-found q.index v i (name-same s l c.names xs is (name-searched s l c.names xs (name_with s t m) h i hashed f))
+        name-found q.index v i (name-same s l c.names xs is (name-searched s l c.names xs (name_with s t m w) h i hashed f))
         ∙ sym (first-map (same_name s (name_of s v)) (name_of s) name_keys)
 
-    name-sought : (a : Made) → Holds s l xs c a → Sought (is_name s (name_with s t m)) (name_hash s) name_slot (name_index l) c.names h xs
+    name-sought : (a : Made) → Holds s l xs c a → Sought (is_name s (name_with s t m w)) (name_hash s) name_slot (name_index l) c.names h xs
     name-sought a q =
-        let nm = name_with s t m in
+        let nm = name_with s t m w in
         sought-by (hashed.is q.index.sums)
         (pool-asked q.index.names (is_name s nm) (name_hash_of s nm) (name-one s nm) (λ k b. name-hashed s nm (name_of s k) b))
 
     name-stood :
-        {i : ℕ} → Seeks (is_name s (name_with s t m)) (name_hash s) name_slot (name_index l) c.names h xs (Some i)
+        {i : ℕ} → Seeks (is_name s (name_with s t m w)) (name_hash s) name_slot (name_index l) c.names h xs (Some i)
         → Adds s l xs c xs c i (NameKey s v) (add_name s (name_of s v)) (λ a. name_at s (name_of s v) a.pools)
     name-stood {i} f = record {
       does = λ g. record {
@@ -179,7 +181,7 @@ module _
     }
 
     name-placed :
-        Seeks (is_name s (name_with s t m)) (name_hash s) name_slot (name_index l) c.names h xs None
+        Seeks (is_name s (name_with s t m w)) (name_hash s) name_slot (name_index l) c.names h xs None
         → Adds s l xs c
         (noted_by (head_at (name_index l) h) (link_at (name_index l) (name_slot v)) (tag_of h) c.names
         (set xs ((name_index l).at + c.names) v)) (states.with_name c) c.names (NameKey s v) (add_name s (name_of s v))
@@ -195,10 +197,10 @@ module _
     }
 
     pub name-adds :
-        {ys : List ℕ} {k i : ℕ} → Stands (is_name s (name_with s t m)) (name_hash s) name_slot (name_index l) v h xs c.names ys k i
+        {ys : List ℕ} {k i : ℕ} → Stands (is_name s (name_with s t m w)) (name_hash s) name_slot (name_index l) v h xs c.names ys k i
         → Adds s l xs c ys (record c { names = k }) i (NameKey s v) (add_name s (name_of s v)) (λ a. name_at s (name_of s v) a.pools)
     name-adds (inl o) = rw (o.words, o.count) (name-stood o.seeks)
-    name-adds (inr w) = rw (w.words, w.count, w.place) (name-placed w.seeks)
+    name-adds (inr o) = rw (o.words, o.count, o.place) (name-placed o.seeks)
 
 -- a chain; the code counts its steps where the count of chains has gone up
 module _

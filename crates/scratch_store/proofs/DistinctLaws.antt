@@ -1,5 +1,6 @@
 -- There are no more numbers below n that differ from each other than n.
-use Rattle.std.proofs.Common.{◌≡◌, ℕ, zero, suc, ◌<◌, ◌≤◌, Bool, true, false, eqb, List, [], ◌∷◌, ◌++◌, length, sym, refl, ap, ◌∙◌, true≢false, arith, length-append, eqb-true}
+use Rattle.std.proofs.Common.{◌≡◌, ℕ, zero, suc, ◌<◌, ◌≤◌, Bool, true, false, eqb, List, [], ◌∷◌, ◌++◌, length, sym, refl, ap, ◌∙◌}
+use Rattle.std.proofs.Common.{true≢false, arith, length-append, eqb-true}
 use borrow.Author.Tests.{eqb-false}
 use Rattle.lowering.proofs.FirstLaws.{first-here, first-later}
 use Rattle.lowering.specs.Pools.{first_where}

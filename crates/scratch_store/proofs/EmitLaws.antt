@@ -1,5 +1,6 @@
 -- An instruction written behind the code, and counted.
-use Rattle.std.proofs.Common.{◌≡◌, ℕ, ◌+◌, ◌*◌, ◌%◌, ◌≤◌, max, List, [], ◌∷◌, ◌++◌, length, set, sym, refl, ap, ◌∙◌, ap₂, append_assoc, append-nil, arith, length-append, length-set}
+use Rattle.std.proofs.Common.{◌≡◌, ℕ, ◌+◌, ◌*◌, ◌%◌, ◌≤◌, max, List, [], ◌∷◌, ◌++◌, length, set, sym, refl, ap, ◌∙◌, ap₂, append_assoc}
+use Rattle.std.proofs.Common.{append-nil, arith, length-append, length-set}
 use lib.Seq.{sets, length-sets}
 use Rattle.lowering.proofs.Widths.{op-width}
 use Rattle.bytecode.specs.declared.Op.{Op}

@@ -1,19 +1,19 @@
 -- Memos of names: a name that a memo knows stands already, and one that has been found or added may be remembered.
-use Rattle.std.proofs.Common.{◌≡◌, ℕ, ◌+◌, ◌<◌, ◌≤◌, Bool, true, false, eqb, List, map, length, get_or, sym, refl, ap, ◌∙◌, subst, arith, length-set, eqb-true}
+use Rattle.std.proofs.Common.{◌≡◌, ℕ, ◌+◌, ◌<◌, ◌≤◌, Bool, true, false, eqb, List, map, length, get_or, sym, refl, ap, ◌∙◌, subst, arith}
+use Rattle.std.proofs.Common.{length-set, eqb-true}
 use Rattle.std.specs.Prelude.{Option, Some, None}
 use Rattle.expr_chains.proofs.NameLaws.{name-self}
 use Rattle.lowering.specs.Pools.{Name, first_where, same_name, name_at, push_name}
 use Rattle.expr_chains.proofs.FindLaws.{added-same, added-within}
-use Rattle.scratch_keys.specs.Keys.{key_node, key_field, is_marked, name_of}
+use Rattle.scratch_keys.specs.Keys.{name_of}
 use Rattle.scratch_keys.specs.Used.{NameKey}
 use Rattle.scratch_keys.proofs.SeekLaws.{first-map}
 use Rattle.scratch.specs.declared.Layout.{Layout}
 use Rattle.scratch.specs.Places.{links_at, memos_at, memos_from, names_at, region}
 use Rattle.scratch.proofs.PlaceLaws.{memos-lie}
 use Rattle.scratch.proofs.RegionLaws.{region-behind}
-use Rattle.scratch_index.specs.Memo.{memo_at, recalled, remembered, NameAt}
+use Rattle.scratch_index.specs.Memo.{numbered, memo_at, recalled, remembered, NameAt}
 use Rattle.scratch_index.specs.Held.{names_held}
-use Rattle.scratch_index.proofs.NameLaws.{name-read-off}
 use Rattle.scratch_index.proofs.MemoLaws.{told-hit, recalled-known, recalled-unknown}
 use Rattle.scratch_index.proofs.HeldLaws.{name-told, name-same, held-length}
 use Rattle.scratch_index.proofs.IndexesLaws.{name-found, indexes-names, indexes-remember}
@@ -37,8 +37,8 @@ module _ (ms t p : ℕ) (xs : List ℕ) (o : Option ℕ) (asked : o ≡ recalled
 
 -- a memo knows it
 module _
-    (s : List ℕ) (l : Layout) (xs : List ℕ) (st : State) (v t r ms : ℕ) (o : Option ℕ) (m : Bool) (text : t ≡ (name_of s v).text)
-    (mark : m ≡ is_marked s (key_node v) (key_field v)) (plain : m ≡ false) (at : ms ≡ memos_from l)
+    (s : List ℕ) (l : Layout) (xs : List ℕ) (st : State) (v t r ms : ℕ) (o : Option ℕ) (is : numbered t ≡ name_of s v)
+    (at : ms ≡ memos_from l)
     (asked : o ≡ recalled ms t xs) (told : o ≡ Some r)
   where
     told-fits :
@@ -46,18 +46,18 @@ module _
         → r ≡ first_where (same_name s (name_of s v)) (map (name_of s) (region (names_at l) st.names xs))
     told-fits a q =
         name-found q.index v r
-        (name-same s l st.names xs (name-read-off s v text mark plain) (name-told s l st.names xs t r ms o at asked told))
+        (name-same s l st.names xs is (name-told s l st.names xs t r ms o at asked told))
         ∙ sym (first-map (same_name s (name_of s v)) (name_of s) (region (names_at l) st.names xs))
 
     -- it stands
     told-low : (a : Made) → Holds s l xs st a → r < st.names
     told-low a q =
         let held = indexes-names q.index in
-        let is = at ∙ memos-lie held.small in
+        let lies = at ∙ memos-lie held.small in
         let known = recalled-hit ms t r xs o asked told in
-        let hit = ap (λ (i : ℕ). get_or xs (memo_at i t) 0) (sym is) ∙ known.0 in
+        let hit = ap (λ (i : ℕ). get_or xs (memo_at i t) 0) (sym lies) ∙ known.0 in
         let stands = (told-hit held.memos t hit).found in
-        let e = known.1 ∙ ap (λ (i : ℕ). get_or xs (memo_at i t + 1) 0) is in
+        let e = known.1 ∙ ap (λ (i : ℕ). get_or xs (memo_at i t + 1) 0) lies in
         let n = held-length held in
         omega arith
 
@@ -91,8 +91,7 @@ remember-holds {s} {l} {xs} {st} {a} t p few right q =
 
 -- the name that has been found or added, with nothing more, or remembered
 module _
-    {s : List ℕ} {l : Layout} {xs ys : List ℕ} {st r : State} (v t p : ℕ) (m : Bool) (text : t ≡ (name_of s v).text)
-    (mark : m ≡ is_marked s (key_node v) (key_field v)) (plain : m ≡ false)
+    {s : List ℕ} {l : Layout} {xs ys : List ℕ} {st r : State} (v t p : ℕ) (is : numbered t ≡ name_of s v)
     (adds : Adds s l xs st ys r p (NameKey s v) (add_name s (name_of s v)) (λ a. name_at s (name_of s v) a.pools))
   where
     stands : NameKey s v → (a : Made) → Holds s l xs st a → Holds s l ys r (add_name s (name_of s v) a)
@@ -100,7 +99,6 @@ module _
     unfolding names_held add_name push_name name_at
     stands u a before after =
         let nm = name_of s v in
-        let is = name-read-off s v text mark plain in
         let names = after.pooled.names in
         let self = name-self s nm in
         record {

@@ -1,5 +1,6 @@
 -- A residual: the instruction, and the node kept behind the others. The depth where a jump comes in, the code taken back, and the start.
-use Rattle.std.proofs.Common.{◌≡◌, ℕ, ◌+◌, ◌*◌, ◌%◌, ◌<◌, ◌≤◌, List, [], ◌∷◌, ◌++◌, length, set, sym, refl, ap, ◌∙◌, subst, append_assoc, arith, length-append, length-set}
+use Rattle.std.proofs.Common.{◌≡◌, ℕ, ◌+◌, ◌*◌, ◌%◌, ◌<◌, ◌≤◌, List, [], ◌∷◌, ◌++◌, length, set, sym, refl, ap, ◌∙◌, subst, append_assoc}
+use Rattle.std.proofs.Common.{arith, length-append, length-set}
 use Rattle.lowering.proofs.Decode.{code-length, positions-length}
 use Rattle.bytecode.specs.declared.Op.TheVariants.{EvalAst}
 use Rattle.bytecode.specs.Op.{op_words}

@@ -13,6 +13,7 @@ ghost use Rattle.bytecode.specs.Op.{op_words};
 ghost use Rattle.scratch_keys.specs.Keys.{key_node, key_field, is_marked, name_of};
 ghost use Rattle.scratch_keys.specs.Used.{ConstKey, NameKey, TokenKey};
 ghost use Rattle.scratch.specs.declared.Layout.{Layout};
+ghost use Rattle.scratch_index.specs.Memo.{numbered};
 ghost use Rattle.expr_model.specs.Made as made;
 ghost use Rattle.scratch_store.specs.Effects.{Narrow};
 ghost use Rattle.scratch_store.specs.Stands.{Stands};
@@ -27,7 +28,7 @@ use scratch::{Index, Layout, put};
 use scratch_index::{
     ChainOf, ConstOf, NameWith, Names, TokenOf, Wanted, note, recalled, remember, seek,
 };
-use scratch_keys::{is_marked, text_of};
+use scratch_keys::{is_marked, namespace_of, text_of};
 use scratch_locals::root_local;
 
 mod ops;
@@ -194,6 +195,7 @@ impl<'a> Store<'a> {
     fn push_name(&mut self, name: NameWith, k: u32) -> u32
         ensures { let it = name.entry in let sheet = it.sheet.now in ((l : Layout)
             → it.text ≡ (name_of sheet k).text → it.marked ≡ is_marked sheet (key_node k) (key_field k)
+            → it.namespace ≡ (name_of sheet k).namespace
             → Added sheet l self.old self.new result (NameKey sheet k) (made.add_name sheet (name_of sheet k))
             (λ a. pools.name_at sheet (name_of sheet k) a.pools)) }
     {
@@ -209,22 +211,15 @@ impl<'a> Store<'a> {
         )
     }
 
-    // The name with key `k` (3 · node + field), and its place. What is known of its text number is asked first; a memo has that number
-    // plus 1, so the last one has none.
-    pub fn add_name(&mut self, sheet: &[u8], k: u32) -> u32
-        ensures { let sheet = sheet.now in ((l : Layout)
+    // The same, where number `t` is that of the name: what a memo knows of it is asked first. A memo has the number plus 1, so the last one
+    // has none.
+    fn known_name(&mut self, name: NameWith, k: u32, t: u32) -> u32
+        ensures { let it = name.entry in let sheet = it.sheet.now in ((l : Layout)
+            → it.text ≡ (name_of sheet k).text → it.marked ≡ is_marked sheet (key_node k) (key_field k)
+            → it.namespace ≡ (name_of sheet k).namespace → numbered t ≡ name_of sheet k
             → Added sheet l self.old self.new result (NameKey sheet k) (made.add_name sheet (name_of sheet k))
             (λ a. pools.name_at sheet (name_of sheet k) a.pools)) }
     {
-        let t = text_of(sheet, k);
-        let name = NameWith {
-            sheet,
-            text: t,
-            marked: is_marked(sheet, k),
-        };
-        if name.marked {
-            return self.push_name(name, k);
-        }
         let ms = self.state.layout.memos_at();
         if let Some(at) = recalled(self.words(), ms, t) {
             return at;
@@ -234,6 +229,24 @@ impl<'a> Store<'a> {
             remember(self.scratch, ms, t, at);
         }
         at
+    }
+
+    // The name with key `k` (3 · node + field), and its place.
+    pub fn add_name(&mut self, sheet: &[u8], k: u32) -> u32
+        ensures { let sheet = sheet.now in ((l : Layout)
+            → Added sheet l self.old self.new result (NameKey sheet k) (made.add_name sheet (name_of sheet k))
+            (λ a. pools.name_at sheet (name_of sheet k) a.pools)) }
+    {
+        let name = NameWith {
+            sheet,
+            text: text_of(sheet, k),
+            marked: is_marked(sheet, k),
+            namespace: namespace_of(sheet, k),
+        };
+        match name.number() {
+            Some(t) => self.known_name(name, k, t),
+            None => self.push_name(name, k),
+        }
     }
 
     // The chain of node `j`, whose names are pooled, and its place.

@@ -1,3 +1,4 @@
+pub mod NamespaceLaws
 pub mod RangeWalkLaws
 pub mod SiblingLaws
 mod StartLaws

@@ -4,5 +4,6 @@ pub mod Rest
 pub mod Sections
 pub mod Node
 pub mod Text
+pub mod Namespace
 pub mod Start
 pub mod Walk

@@ -5,9 +5,9 @@ use Rattle.std.specs.Prelude.{ℕ, ◌^◌}
 abbrev pub header_words : ℕ
 header_words = 4
 
--- words of a node: kind, span, count, a, b, c
+-- words of a node: kind, span, count, a, b, c, namespace, the namespace's position
 abbrev pub node_words : ℕ
-node_words = 6
+node_words = 8
 
 -- greatest sizes: nodes (at least 1), texts, text bytes, locals
 abbrev pub max_nodes : ℕ

@@ -1,4 +1,5 @@
--- The nodes of a sheet. A node is kind, span (the nodes of its subtree), count (its children), a, b, c; its children follow it in order.
+-- The nodes of a sheet. A node is kind, span (the nodes of its subtree), count (its children), a, b, c, namespace (its text plus 1, or 0)
+-- and the namespace's position; its children follow it in order.
 -- Node numbers are 32-bit words, so the next sibling's number is taken modulo 2 ^ 32; in a sheet of the right shape nothing wraps.
 use Rattle.std.specs.Prelude.{ℕ, ◌+◌, ◌*◌, ◌%◌, List}
 use Rattle.words.specs.Word.{word}
@@ -28,6 +29,12 @@ b_at = 4
 abbrev pub c_at : ℕ
 c_at = 5
 
+abbrev pub namespace_at : ℕ
+namespace_at = 6
+
+abbrev pub namespace_pos_at : ℕ
+namespace_pos_at = 7
+
 -- word f of node n
 unfoldable pub field : List ℕ → ℕ → ℕ → ℕ
 field s n f = word s (header_words + node_words * n + f)
@@ -49,6 +56,13 @@ field_b s n = field s n b_at
 
 abbrev pub field_c : List ℕ → ℕ → ℕ
 field_c s n = field s n c_at
+
+-- the namespace's text plus 1, or 0; `namespace` (Namespace) says which of them count
+abbrev pub namespace_word : List ℕ → ℕ → ℕ
+namespace_word s n = field s n namespace_at
+
+abbrev pub namespace_pos : List ℕ → ℕ → ℕ
+namespace_pos s n = field s n namespace_pos_at
 
 -- the position of node n: line times 65,536, plus column
 unfoldable pub position : List ℕ → ℕ → ℕ

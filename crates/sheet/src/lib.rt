@@ -7,6 +7,7 @@ ghost use Rattle.sheet.specs.Sections.{node_count, text_count, byte_count, local
 ghost use Rattle.sheet.specs.Sections.{locals_at};
 ghost use Rattle.sheet.specs.Node as nodes;
 ghost use Rattle.sheet.specs.Text as texts;
+ghost use Rattle.sheet.specs.Namespace as spaces;
 ghost use Rattle.sheet.specs.Start as starts;
 ghost use Rattle.sheet.specs.Walk as walks;
 ghost use Rattle.sheet.specs.Rest.{rest};
@@ -15,7 +16,7 @@ ghost use Rattle.std.specs.Iterator.{YieldsFirst, at_most};
 pub mod kinds;
 pub mod limits;
 
-use kinds::{COALESCE, DOT};
+use kinds::{COALESCE, DOT, FN_CALL, VARIABLE};
 use limits::{HEADER_WORDS, NODE_WORDS};
 use words::{part, word_at};
 
@@ -50,32 +51,32 @@ pub fn local_count(sheet: &[u8]) -> u32
 // Kept: a function for each. It is one sum under the name that its definition has; a struct of all the places would be summed whole where
 // one of them is asked for.
 fn positions_at(sheet: &[u8]) -> usize
-    ensures { (result ≡ positions_at sheet.now) × (result < 30000000000) }
+    ensures { (result ≡ positions_at sheet.now) × (result < 40000000000) }
 {
     HEADER_WORDS + NODE_WORDS * (node_count(sheet) as usize)
 }
 
 fn starts_at(sheet: &[u8]) -> usize
-    ensures { (result ≡ starts_at sheet.now) × (result < 40000000000) }
+    ensures { (result ≡ starts_at sheet.now) × (result < 50000000000) }
 {
     positions_at(sheet) + (node_count(sheet) as usize)
 }
 
 pub fn lengths_at(sheet: &[u8]) -> usize
-    ensures { (result ≡ lengths_at sheet.now) × (result < 50000000000) }
+    ensures { (result ≡ lengths_at sheet.now) × (result < 60000000000) }
 {
     starts_at(sheet) + (text_count(sheet) as usize)
 }
 
 pub fn bytes_at(sheet: &[u8]) -> usize
-    ensures { (result ≡ bytes_at sheet.now) × (result < 60000000000) }
+    ensures { (result ≡ bytes_at sheet.now) × (result < 70000000000) }
 {
     lengths_at(sheet) + (text_count(sheet) as usize)
 }
 
 // Kept: rounded up by hand, as the definition has it; `pad_ok` of check_sizes has the times with `div_ceil`.
 pub fn locals_at(sheet: &[u8]) -> usize
-    ensures { (result ≡ locals_at sheet.now) × (result < 70000000000) }
+    ensures { (result ≡ locals_at sheet.now) × (result < 80000000000) }
 {
     bytes_at(sheet) + ((byte_count(sheet) as usize) + 3) / 4
 }
@@ -94,6 +95,10 @@ pub const A_AT: u32 = 3;
 const B_AT: u32 = 4;
 
 const C_AT: u32 = 5;
+
+const NAMESPACE_AT: u32 = 6;
+
+const NAMESPACE_POS_AT: u32 = 7;
 
 // Word `f` of node `n`.
 // Kept: `word_at` of crate words, and no reader over a slice of words: a sheet is bytes at any address, and need not end with a word.
@@ -144,7 +149,20 @@ pub fn field_c(sheet: &[u8], n: u32) -> u32
     field(sheet, n, C_AT)
 }
 
-// The six words of a node.
+// The namespace's text plus 1, or 0: the word that `namespace` goes by.
+fn namespace_word(sheet: &[u8], n: u32) -> u32
+    ensures { result ≡ nodes.namespace_word sheet.now n }
+{
+    field(sheet, n, NAMESPACE_AT)
+}
+
+pub fn namespace_pos(sheet: &[u8], n: u32) -> u32
+    ensures { result ≡ nodes.namespace_pos sheet.now n }
+{
+    field(sheet, n, NAMESPACE_POS_AT)
+}
+
+// The words of a node.
 #[derive(Clone, Copy)]
 pub struct Node {
     pub kind: u32,
@@ -153,6 +171,8 @@ pub struct Node {
     pub a: u32,
     pub b: u32,
     pub c: u32,
+    pub namespace: u32,
+    pub namespace_pos: u32,
 }
 
 impl Node {
@@ -164,6 +184,8 @@ impl Node {
         ensures a { result.a ≡ nodes.field_a sheet.now n }
         ensures b { result.b ≡ nodes.field_b sheet.now n }
         ensures c { result.c ≡ nodes.field_c sheet.now n }
+        ensures namespace { result.namespace ≡ nodes.namespace_word sheet.now n }
+        ensures namespace_pos { result.namespace_pos ≡ nodes.namespace_pos sheet.now n }
     {
         Node {
             kind: kind(sheet, n),
@@ -172,6 +194,8 @@ impl Node {
             a: field_a(sheet, n),
             b: field_b(sheet, n),
             c: field_c(sheet, n),
+            namespace: namespace_word(sheet, n),
+            namespace_pos: namespace_pos(sheet, n),
         }
     }
 }
@@ -221,18 +245,75 @@ pub fn text_length(sheet: &[u8], t: u32) -> u32
     word_at(sheet, lengths_at(sheet) + (t as usize))
 }
 
+// A kind that may have a namespace.
+pub fn may_have(k: u32) -> bool
+    ensures { result ≡ spaces.may_have k }
+{
+    (k == VARIABLE) | (k == FN_CALL)
+}
+
+// The namespace of node `n`: its text plus 1, or 0 for none; a text without bytes is none. Few nodes have one, so the word is asked first.
+// Kept: the word, text plus 1 or 0: it is what an image's name has.
+#[tactic(auto, unfolding(crate::specs::Namespace::namespace, crate::specs::Namespace::namespace_by))]
+pub fn namespace(sheet: &[u8], n: u32) -> u32
+    ensures { result ≡ spaces.namespace sheet.now n }
+{
+    let w = namespace_word(sheet, n);
+    if w == 0 {
+        return 0;
+    }
+    if may_have(kind(sheet, n)) {
+        if text_length(sheet, w - 1) == 0 {
+            return 0;
+        }
+        return w;
+    }
+    0
+}
+
+// Node `n` is a Variable with a namespace.
+#[tactic(auto, unfolding(crate::specs::Namespace::qualified_variable))]
+pub fn qualified_variable(sheet: &[u8], n: u32) -> bool
+    ensures { result ≡ spaces.qualified_variable sheet.now n }
+{
+    (kind(sheet, n) == VARIABLE) & (namespace(sheet, n) != 0)
+}
+
+// The kind of node `n` as a call's receiver or a chain's root: 0 for a Variable with a namespace, which is a value there.
+// Kept: 0 is no node's kind, so that a match on the kinds has no arm for it.
+#[tactic(auto, unfolding(crate::specs::Namespace::role))]
+pub fn role(sheet: &[u8], n: u32) -> u32
+    ensures { result ≡ spaces.role sheet.now n }
+{
+    if qualified_variable(sheet, n) {
+        return 0;
+    }
+    kind(sheet, n)
+}
+
+// Where node `n` starts, if it starts with itself.
+#[tactic(auto, unfolding(crate::specs::Start::own_start))]
+fn own_start(sheet: &[u8], n: u32) -> u32
+    ensures { result ≡ starts.own_start sheet.now n }
+{
+    if qualified_variable(sheet, n) {
+        return namespace_pos(sheet, n);
+    }
+    position(sheet, n)
+}
+
 // The start position of node `n`, going down through at most `left` first children.
 fn start_within(left: u32, sheet: &[u8], n: u32) -> u32
     ensures { result ≡ starts.start_within left sheet.now n }
 {
     let k = kind(sheet, n);
     if left == 0 {
-        return position(sheet, n);
+        return own_start(sheet, n);
     }
     if (DOT <= k) & (k <= COALESCE) {
         return start_within(left - 1, sheet, child(n));
     }
-    position(sheet, n)
+    own_start(sheet, n)
 }
 
 // The start position of node `n`.

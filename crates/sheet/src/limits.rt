@@ -3,8 +3,8 @@
 // words of the header: the four sizes
 pub const HEADER_WORDS: usize = 4;
 
-// words of a node: kind, span, count, a, b, c
-pub const NODE_WORDS: usize = 6;
+// words of a node: kind, span, count, a, b, c, namespace, the namespace's position
+pub const NODE_WORDS: usize = 8;
 
 // greatest sizes
 pub const MAX_NODES: u32 = 131072;

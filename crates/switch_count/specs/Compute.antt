@@ -17,7 +17,7 @@ unfoldable pub node_tally : ℕ → List ℕ → ℕ → Tally
 unfolding checked_number expression_out CountingTally.instructions CountingTally.nothing CountingTally.evaluation CountingTally.plus
     CountingTally.taken_back CountingTally.capped CountingLocals.is_local CountingLocals.variable_by CountingLocals.first_by
     CountingLocals.receiver_by CountingPlan.array CountingPlan.interpolated CountingPlan.short_circuit CountingPlan.make_fn_ptr
-    CountingPlan.all_args CountingPlan.other_args CountingPlan.rotates CountingPlan.call_by CountingPlan.fn_call_by CountingPlan.fn_call
+    CountingPlan.all_args CountingPlan.other_args CountingPlan.rotates CountingPlan.moves CountingPlan.call_by CountingPlan.fn_call_by CountingPlan.fn_call
     CountingPlan.plan_by CountingPlan.plan CountingLink.link_by CountingLink.link CountingLink.grade CountingLink.least CountingLink.temporary
     CountingCount.siblings CountingCount.coalesce CountingCount.walk_on CountingCount.walk CountingCount.chain_by CountingCount.chain
     CountingCount.follow CountingCount.tally_by

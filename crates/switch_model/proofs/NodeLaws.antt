@@ -8,7 +8,7 @@ use native.Mathlib.Omega.{arith}
 use lib.ListN.{length, get_or}
 use Rattle.lowering.proofs.SwitchChecked.{child-kind, switch-case, switch-range, case-ref, ref-exists, range-exists, number_at, switch-kind}
 use Rattle.sheet.specs.Sections.{text_count}
-use Rattle.sheet.specs.Node.{kind, count, field_a, field_b, field_c, child, next}
+use Rattle.sheet.specs.Node.{kind, count, field_a, field_b, field_c, child, next, namespace_word}
 use Rattle.sheet.specs.Walk.{skip}
 use Rattle.sheet.proofs.WalkLaws.{skip-add}
 use Rattle.check_numbers.specs.Numbers.{numbers_ok}
@@ -49,10 +49,12 @@ module _ (s : List ℕ) (C : Right s) (N : numbers_ok s ≡ true) (e : kind s 0 
 
   -- a Ref and a Range name a block
   ref-block : (j : ℕ) → Valid s j → kind s j ≡ 22 → Block (field_a s j)
-  ref-block j v h = ref-exists (text_count s) (block_count s) (kind s j) (field_a s j) (field_b s j) (field_c s j) h (number_at s C N e j v)
+  ref-block j v h = ref-exists (text_count s) (block_count s) (kind s j) (field_a s j) (field_b s j) (field_c s j) (namespace_word s j) h
+      (number_at s C N e j v)
 
   range-block : (j : ℕ) → Valid s j → kind s j ≡ 21 → Block (field_b s j)
-  range-block j v h = range-exists (text_count s) (block_count s) (kind s j) (field_a s j) (field_b s j) (field_c s j) h (number_at s C N e j v)
+  range-block j v h = range-exists (text_count s) (block_count s) (kind s j) (field_a s j) (field_b s j) (field_c s j) (namespace_word s j) h
+      (number_at s C N e j v)
 
   -- the blocks of a Case
   case-blocks : (c : ℕ) → Valid s c → kind s c ≡ 20 → All Block (case_blocks s c)

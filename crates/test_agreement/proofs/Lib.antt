@@ -7,6 +7,10 @@ mod Table1Right
 mod Table10Right
 mod Table11Right
 mod Table12Right
+mod Table13Right
+mod Table14Right
+mod Table15Right
+mod Table16Right
 mod Table2Right
 mod Table3Right
 mod Table4Right

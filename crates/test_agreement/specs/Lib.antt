@@ -13,6 +13,10 @@ pub mod Table9
 pub mod Table10
 pub mod Table11
 pub mod Table12
+pub mod Table13
+pub mod Table14
+pub mod Table15
+pub mod Table16
 pub mod Ranges
 pub mod Edge
 pub mod Refused10

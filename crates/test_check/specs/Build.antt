@@ -5,9 +5,13 @@ use Rattle.std.specs.Prelude.{ℕ, zero, suc, ◌+◌, ◌*◌, ◌-◌, ◌/◌
 abbrev pub NodeWords : Type 0
 NodeWords = List ℕ
 
--- kind, span, count, a, b, c
+-- kind, span, count, a, b, c, the namespace's text plus 1 and its position
+abbrev pub spaced_of : ℕ → ℕ → ℕ → ℕ → ℕ → ℕ → ℕ → ℕ → NodeWords
+spaced_of k span count a b c x y = k ∷ span ∷ count ∷ a ∷ b ∷ c ∷ x ∷ y ∷ []
+
+-- without a namespace
 abbrev pub node_of : ℕ → ℕ → ℕ → ℕ → ℕ → ℕ → NodeWords
-node_of k span count a b c = k ∷ span ∷ count ∷ a ∷ b ∷ c ∷ []
+node_of k span count a b c = spaced_of k span count a b c 0 0
 
 -- a node without children
 abbrev pub leaf : ℕ → ℕ → ℕ → ℕ → List NodeWords
@@ -17,9 +21,13 @@ abbrev pub concat : List (List NodeWords) → List NodeWords
 concat [] = []
 concat (t ∷ ts) = t ++ concat ts
 
--- a node over its children
+-- a node over its children, with namespace and position
+abbrev pub spaced : ℕ → ℕ → ℕ → ℕ → ℕ → ℕ → List (List NodeWords) → List NodeWords
+spaced k a b c x y ts = let below = concat ts in spaced_of k (suc (length below)) (length ts) a b c x y ∷ below
+
+-- without them
 abbrev pub node : ℕ → ℕ → ℕ → ℕ → List (List NodeWords) → List NodeWords
-node k a b c ts = let below = concat ts in node_of k (suc (length below)) (length ts) a b c ∷ below
+node k a b c ts = spaced k a b c 0 0 ts
 
 -- n copies of a tree
 abbrev pub copies : ℕ → List NodeWords → List (List NodeWords)

@@ -3,7 +3,7 @@
 use Rattle.std.specs.Prelude.{ℕ, ◌*◌, Bool, true, false, List, [], ◌∷◌, ◌++◌, eqb, take, set}
 use Rattle.checks.specs.Checked.{verdict_number, checked}
 use Rattle.check_quick.specs.Quick.{quick_number}
-use Rattle.test_check.specs.Build.{NodeWords, node_of, leaf, node, copies, nest, sheet_with, sheet_of}
+use Rattle.test_check.specs.Build.{NodeWords, node_of, leaf, spaced, node, copies, nest, sheet_with, sheet_of}
 
 pub record Row : Type 0 where
   pub sheet : List ℕ
@@ -54,6 +54,104 @@ one_text t = sheet_of unit (t ∷ []) []
 abbrev placed : ℕ → ℕ → List ℕ
 placed start len = sheet_with unit (start ∷ []) (len ∷ []) (97 ∷ 98 ∷ []) (0 ∷ 0 ∷ []) []
 
+-- a node without children whose fields are 0, with namespace and position, in a sheet with the one text `curr`
+abbrev alone : ℕ → ℕ → ℕ → List ℕ
+alone x y k = sheet_of (spaced k 0 0 0 x y []) (curr ∷ []) []
+
+-- a node with these children
+abbrev over : ℕ → ℕ → ℕ → List (List NodeWords) → List ℕ
+over x y k ts = sheet_of (spaced k 0 0 0 x y ts) (curr ∷ []) []
+
+-- under a node of kind Array
+abbrev below : ℕ → ℕ → ℕ → List ℕ
+below x y k = sheet_of (node 8 0 0 0 (spaced k 0 0 0 x y [] ∷ [])) (curr ∷ []) []
+
+-- a switch of one block, with a Case, its Ref and a Range of these namespaces and positions
+abbrev arms : ℕ → ℕ → ℕ → ℕ → ℕ → ℕ → List ℕ
+arms cx cy fx fy rx ry =
+    let c = spaced 20 0 0 0 cx cy (int 1 0 ∷ spaced 22 0 0 0 fx fy [] ∷ []) in
+    let r = spaced 21 1 0 0 rx ry (int 1 0 ∷ int 2 0 ∷ []) in
+    sheet_of (switch 1 1 1 (c ∷ r ∷ [])) (curr ∷ []) []
+
+-- kinds without children that name nothing or one text, and may have no namespace
+abbrev leaf_kinds : List ℕ
+leaf_kinds = 1 ∷ 2 ∷ 3 ∷ 4 ∷ 5 ∷ 6 ∷ 7 ∷ 8 ∷ 10 ∷ 11 ∷ 12 ∷ []
+
+abbrev refused_kinds : List ℕ
+refused_kinds = 23 ∷ 24 ∷ 25 ∷ []
+
+-- a row for each kind
+abbrev each : ℕ → (ℕ → List ℕ) → List ℕ → List Row
+each n sheet [] = []
+each n sheet (k ∷ ks) = row n (sheet k) ∷ each n sheet ks
+
+-- namespaces
+abbrev spaces : List Row
+spaces =
+    -- 1: nodes of six words
+    row 1 (plain ((2 ∷ 1 ∷ 0 ∷ 0 ∷ 0 ∷ 0 ∷ []) ∷ []))
+    -- 2: a namespace, and a position of one, on kinds that have none
+    ∷ (each 0 (alone 0 0) leaf_kinds
+    ++ each 2 (alone 1 0) leaf_kinds
+    ++ each 2 (alone 0 1) leaf_kinds
+    ++ each 2 (below 1 0) leaf_kinds
+    ++ each 8 (alone 0 0) refused_kinds
+    ++ each 2 (alone 1 0) refused_kinds
+    ++ each 2 (alone 0 1) refused_kinds)
+    ++ (row 0 (over 0 0 14 (copies 2 unit))
+    ∷ row 2 (over 1 0 14 (copies 2 unit))
+    ∷ row 2 (over 0 1 14 (copies 2 unit))
+    ∷ row 0 (over 0 0 15 (copies 2 unit))
+    ∷ row 2 (over 1 0 15 (copies 2 unit))
+    ∷ row 0 (over 0 0 16 (copies 1 unit))
+    ∷ row 2 (over 1 0 16 (copies 1 unit))
+    ∷ row 0 (over 0 0 17 (copies 1 unit))
+    ∷ row 2 (over 1 0 17 (copies 1 unit))
+    ∷ row 0 (over 0 0 18 (copies 1 unit))
+    ∷ row 2 (over 1 0 18 (copies 1 unit))
+    ∷ row 0 (over 0 0 19 (copies 1 unit))
+    ∷ row 2 (over 1 0 19 (copies 1 unit))
+    ∷ row 2 (over 0 1 19 (copies 1 unit))
+    ∷ row 0 (arms 0 0 0 0 0 0)
+    ∷ row 2 (arms 1 0 0 0 0 0)
+    ∷ row 2 (arms 0 1 0 0 0 0)
+    ∷ row 2 (arms 0 0 1 0 0 0)
+    ∷ row 2 (arms 0 0 0 1 0 0)
+    ∷ row 2 (arms 0 0 0 0 1 0)
+    ∷ row 2 (arms 0 0 0 0 0 1)
+    -- on a Variable and an FnCall; a position stands beside a namespace only, any word there, also where the text has no bytes
+    ∷ row 0 (alone 1 0 9)
+    ∷ row 0 (alone 1 0 13)
+    ∷ row 0 (below 1 0 9)
+    ∷ row 0 (below 1 0 13)
+    ∷ row 0 (alone 1 0xffff_ffff 9)
+    ∷ row 0 (alone 1 0xffff_ffff 13)
+    ∷ row 2 (alone 0 1 9)
+    ∷ row 2 (alone 0 1 13)
+    ∷ row 2 (below 0 1 9)
+    ∷ row 2 (below 0 0xffff_ffff 13)
+    ∷ row 0 (sheet_of (spaced 9 0 0 0 2 0xffff_ffff []) (curr ∷ [] ∷ []) [])
+    ∷ row 0 (sheet_of (spaced 13 0 0 0 2 0xffff_ffff []) (curr ∷ [] ∷ []) [])
+    -- 3: a namespace's text is a text like others, and 3 goes before 4
+    ∷ row 3 (sheet_of (spaced 9 0 0 0 2 0 []) (curr ∷ (0xff ∷ []) ∷ []) [])
+    ∷ row 3 (sheet_of (spaced 9 0 0 0 3 0 []) (curr ∷ (0xff ∷ []) ∷ []) [])
+    -- 4: the last text, and one more
+    ∷ row 4 (alone 2 0 9)
+    ∷ row 4 (alone 2 0 13)
+    ∷ row 4 (alone 0xffff_ffff 0 9)
+    ∷ row 4 (below 2 0 9)
+    ∷ row 4 (below 2 1 13)
+    ∷ row 0 (sheet_of (spaced 9 0 0 0 2 0 []) (curr ∷ curry ∷ []) [])
+    ∷ row 4 (sheet_of (spaced 9 0 0 0 3 0 []) (curr ∷ curry ∷ []) [])
+    -- 2 goes before it, of the same node and of a later one
+    ∷ row 2 (alone 2 0 2)
+    ∷ row 2 (sheet_of (node 8 0 0 0 (spaced 9 0 0 0 2 0 [] ∷ spaced 2 0 0 0 1 0 [] ∷ [])) (curr ∷ []) [])
+    -- 8: a call's own name alone tells
+    ∷ row 8 (sheet_of (spaced 13 1 0 0 1 0 (copies 2 unit)) (curr ∷ curry ∷ []) [])
+    ∷ row 0 (sheet_of (spaced 13 1 0 0 1 0 (copies 1 unit)) (curr ∷ curry ∷ []) [])
+    ∷ row 0 (sheet_of (spaced 13 0 0 0 2 0 (copies 2 unit)) (curr ∷ curry ∷ []) [])
+    ∷ [])
+
 -- the check of a row's sheet gives the row's number
 unfoldable pub agrees : List Row → Bool
 agrees [] = true
@@ -70,7 +168,7 @@ rows =
     -- 1: the length to the byte, no node, and each padding byte
     row 0 (plain unit)
     ∷ row 1 []
-    ∷ row 1 (take 43 (plain unit))
+    ∷ row 1 (take 51 (plain unit))
     ∷ row 1 (plain unit ++ (0 ∷ []))
     ∷ row 1 (plain unit ++ (0 ∷ 0 ∷ 0 ∷ 0 ∷ []))
     ∷ row 1 (set (plain unit) 0 0)
@@ -171,4 +269,4 @@ rows =
     ∷ row 8 (call_of 2 curry)
     ∷ row 0 (call_of 2 curr)
     ∷ row 0 (sheet_of (node 12 0 0 0 (copies 2 unit)) (curry ∷ []) [])
-    ∷ []
+    ∷ spaces

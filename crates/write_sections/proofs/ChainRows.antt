@@ -9,7 +9,8 @@ use borrow.Author.Tests.{ne_eqb}
 use Rattle.lowering.proofs.Parts.{section-length}
 use Rattle.lowering.proofs.Widths.{chain-width}
 use Rattle.sheet.specs.Limits.{max_depth}
-use Rattle.sheet.specs.Node.{kind, field_a, child}
+use Rattle.sheet.specs.Node.{field_a, child}
+use Rattle.sheet.specs.Namespace.{role}
 use Rattle.bytecode.specs.declared.Root.{Root}
 use Rattle.bytecode.specs.declared.Chain.{Chain}
 use Rattle.bytecode.specs.Chain.{chain_words}
@@ -42,9 +43,9 @@ module _ (s : List ℕ) (ns : List Name) where
   unfolding root_in
   root-named v f e = ap (root_with s v) (e ∙ ap (name_in s ns) f)
 
-  pub root-plain : (v i : ℕ) → (kind s v ≡ variable_kind → ⊥) → root_with s v i ≡ root_in s ns v
+  pub root-plain : (v i : ℕ) → (role s v ≡ variable_kind → ⊥) → root_with s v i ≡ root_in s ns v
   unfolding root_in
-  root-plain v i n = root-nameless s v i (name_in s ns (field_a s v)) (ne_eqb (kind s v) variable_kind n)
+  root-plain v i n = root-nameless s v i (name_in s ns (field_a s v)) (ne_eqb (role s v) variable_kind n)
 
   pub chain-rooted :
       (j first : ℕ) {v : ℕ} {r : Root} → v ≡ child j → r ≡ root_in s ns v → chain_by s j first r ≡ chain_in s ns first j

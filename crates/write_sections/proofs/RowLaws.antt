@@ -109,12 +109,13 @@ name_rows s ks i = section name_words (map (name_of s) (take i ks))
 
 module _ {x₀ x : List ℕ} (s ks : List ℕ) (i : ℕ) (e : length x₀ ≡ name_width * length ks) where
   pub name-next :
-      {y : List ℕ} (t m : ℕ) → i < length ks → t ≡ (name_of s (get_or ks i 0)).text → m ≡ (name_of s (get_or ks i 0)).mark
-      → y ≡ put_part x (name_width * i) name_width (t ∷ m ∷ []) → Written x₀ x (name_rows s ks i) → Written x₀ y (name_rows s ks (i + 1))
+      {y : List ℕ} (t m v : ℕ) → i < length ks → t ≡ (name_of s (get_or ks i 0)).text → m ≡ (name_of s (get_or ks i 0)).mark
+      → v ≡ (name_of s (get_or ks i 0)).namespace → y ≡ put_part x (name_width * i) name_width (t ∷ m ∷ v ∷ [])
+      → Written x₀ x (name_rows s ks i) → Written x₀ y (name_rows s ks (i + 1))
   unfolding name_words
-  name-next t m h p q r w =
-      let row : (t ∷ m ∷ []) ≡ name_words (name_of s (get_or ks i 0)) = rw (p, q) in
-      rows_next name_words (name_of s) name_width name-width ks i (name_width * i) (t ∷ m ∷ []) h refl (omega arith) row r w
+  name-next t m v h p q n r w =
+      let row : (t ∷ m ∷ v ∷ []) ≡ name_words (name_of s (get_or ks i 0)) = rw (p, q, n) in
+      rows_next name_words (name_of s) name_width name-width ks i (name_width * i) (t ∷ m ∷ v ∷ []) h refl (omega arith) row r w
 
   pub name-end : length ks ≤ i → Written x₀ x (name_rows s ks i) → x ≡ section name_words (map (name_of s) ks)
   name-end h w = rows_end name_words (name_of s) name_width name-width ks i e h w

@@ -20,10 +20,10 @@ use expr_chains::{chain_of, chain_words, link_count, root_of, step_of, step_word
 use expr_rules::chains::{Read, StepRule, links_of};
 use lowering::{CHAIN_WIDTH, CONST_WIDTH, NAME_WIDTH, SIZES, STEP_WIDTH};
 use scratch_index::Names;
-use scratch_keys::{mark_of, text_of};
+use scratch_keys::{mark_of, namespace_of, text_of};
 use scratch_locals::local_of;
 use sheet::kinds::VARIABLE;
-use sheet::{child, field_a, field_b, field_c, kind};
+use sheet::{child, field_a, field_b, field_c, kind, role};
 
 // The words `w` in the place of as many.
 // Kept: by index, one line as `zip` would be, whose invariant would have the iterator and not the words that are put; and no
@@ -75,7 +75,11 @@ pub fn names(sheet: &[u8], out: &mut [u32], ks: &[u32])
     ensures { out.new ≡ section name_words (map (name_of sheet.now) ks.now) }
 {
     for (i, k) in ks.iter().enumerate() {
-        let row = [text_of(sheet, *k), mark_of(sheet, *k)];
+        let row = [
+            text_of(sheet, *k),
+            mark_of(sheet, *k),
+            namespace_of(sheet, *k),
+        ];
         put(out, NAME_WIDTH * i, row);
     }
 }
@@ -99,7 +103,7 @@ fn root_at(names: &Names, v: u32) -> Root
         → result ≡ chains.root_in sheet (names_held sheet it.layout it.count words) v) }
 {
     let sheet = names.sheet;
-    if kind(sheet, v) == VARIABLE {
+    if role(sheet, v) == VARIABLE {
         let name = names.place(field_a(sheet, v));
         let local = local_of(sheet, names.scratch, names.layout, v);
         return root_of(sheet, v, name, local);

@@ -2,7 +2,7 @@
 // What differs from that file, and why, stands in docs/DIFFERENCES.md.
 
 use crate::format::{BREAK, NEGATED};
-use crate::grain::stand_in::{ImmutableString, Position, Token, INT};
+use crate::grain::stand_in::{ImmutableString, Namespace, Position, Token, INT};
 
 /// The flags of Dot and Index, in the sheet's bits.
 #[derive(Debug, Clone, Copy, PartialEq, Eq)]
@@ -29,6 +29,8 @@ pub struct BinaryExpr<'a> {
 /// _(internals)_ A function call.
 #[derive(Debug, Clone)]
 pub struct FnCallExpr<'a> {
+    /// Namespace of the function, if any.
+    pub namespace: Namespace<'a>,
     /// Function name.
     pub name: ImmutableString<'a>,
     /// List of function call argument expressions.
@@ -65,8 +67,11 @@ pub enum Expr<'a> {
     Array(Vec<Self>, Position),
     /// ()
     Unit(Position),
-    /// Variable access - (optional long index, variable name), position
-    Variable((Option<()>, ImmutableString<'a>), Position),
+    /// Variable access - (optional long index, variable name, namespace), position
+    Variable(
+        Box<(Option<()>, ImmutableString<'a>, Namespace<'a>)>,
+        Position,
+    ),
     /// `this`.
     ThisPtr(Position),
     /// Property access - (getter, setter, prop)
@@ -135,6 +140,14 @@ impl Expr<'_> {
     #[must_use]
     pub fn start_position(&self) -> Position {
         match self {
+            Self::Variable(x, ..) => {
+                if x.2.is_empty() {
+                    self.position()
+                } else {
+                    x.2.position()
+                }
+            }
+
             Self::And(x, ..) | Self::Or(x, ..) | Self::Coalesce(x, ..) => x[0].start_position(),
 
             Self::Index(x, ..) | Self::Dot(x, ..) => x.lhs.start_position(),

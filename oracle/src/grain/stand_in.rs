@@ -4,6 +4,7 @@ use std::hash::{Hash, Hasher};
 
 use crate::format;
 use crate::grain::ast::BinaryExpr;
+use crate::grain::bytecode::names::SEPARATOR;
 use crate::grain::eval::RangeCase;
 
 pub type INT = i64;
@@ -37,8 +38,41 @@ impl Hash for Position {
     }
 }
 
-/// A name: a text of the sheet, and whether `!` is added to it. Equal by
-/// whole bytes, `!` included.
+/// The namespace of a name: a text of the sheet, and its position.
+#[derive(Debug, Clone, Copy)]
+pub struct Namespace<'a> {
+    /// The text's number plus 1; 0 where there is none.
+    text: u32,
+    part: &'a [u8],
+    pos: Position,
+}
+
+impl<'a> Namespace<'a> {
+    pub const NONE: Self = Namespace {
+        text: 0,
+        part: b"",
+        pos: Position::NONE,
+    };
+
+    pub fn new(text: u32, part: &'a [u8], pos: Position) -> Self {
+        Namespace {
+            text: text + 1,
+            part,
+            pos,
+        }
+    }
+
+    pub const fn is_empty(&self) -> bool {
+        self.part.is_empty()
+    }
+
+    pub const fn position(&self) -> Position {
+        self.pos
+    }
+}
+
+/// A text of the sheet, and whether `!` is added to it. Equal by whole bytes,
+/// `!` included.
 #[derive(Debug, Clone, Copy)]
 pub struct ImmutableString<'a> {
     pub text: u32,
@@ -55,12 +89,12 @@ impl<'a> ImmutableString<'a> {
         }
     }
 
-    /// The name with `!` added.
+    /// The text with `!` added.
     pub fn marked(self) -> Self {
         ImmutableString { mark: true, ..self }
     }
 
-    /// The bytes of a name without a mark.
+    /// The bytes of a text without a mark.
     pub fn as_bytes(&self) -> &'a [u8] {
         debug_assert!(!self.mark);
         self.part
@@ -88,29 +122,149 @@ impl PartialEq for ImmutableString<'_> {
 impl Eq for ImmutableString<'_> {}
 
 impl Hash for ImmutableString<'_> {
-    /// All bytes of a short name; of a long one the length and some bytes at
-    /// the front, in the middle and at the end. Equal names have them equal.
     fn hash<H: Hasher>(&self, state: &mut H) {
-        const SOME: usize = 64;
-        let length = self.len();
         let byte = |index: usize| self.part.get(index).copied().unwrap_or(b'!');
-        let mut bytes = [0; 3 * SOME];
-        let mut used = 0;
-        let mut take = |from: usize, to: usize| {
-            for index in from..to {
-                bytes[used] = byte(index);
-                used += 1;
+        hash_bytes(self.len(), byte, state);
+    }
+}
+
+/// All bytes of a short text; of a long one the length and some bytes at the
+/// front, in the middle and at the end. Equal texts have them equal.
+fn hash_bytes<H: Hasher>(length: usize, byte: impl Fn(usize) -> u8, state: &mut H) {
+    const SOME: usize = 64;
+    let mut bytes = [0; 3 * SOME];
+    let mut used = 0;
+    let mut take = |from: usize, to: usize| {
+        for index in from..to {
+            bytes[used] = byte(index);
+            used += 1;
+        }
+    };
+    if length <= 3 * SOME {
+        take(0, length);
+    } else {
+        take(0, SOME);
+        take(length / 2, length / 2 + SOME);
+        take(length - SOME, length);
+    }
+    state.write_usize(length);
+    state.write(&bytes[..used]);
+}
+
+/// A name of the pool: a text, and the text of the namespace that qualifies
+/// it. Equal by the bytes of namespace, separator, text and `!`, joined; they
+/// are compared piece by piece.
+#[derive(Debug, Clone, Copy)]
+pub struct Name<'a> {
+    pub own: ImmutableString<'a>,
+    /// The number of the namespace's text plus 1; 0 where there is none.
+    pub namespace: u32,
+    /// The namespace's bytes: none exactly where `namespace` is 0.
+    space: &'a [u8],
+}
+
+impl<'a> From<ImmutableString<'a>> for Name<'a> {
+    fn from(own: ImmutableString<'a>) -> Self {
+        Name {
+            own,
+            namespace: 0,
+            space: b"",
+        }
+    }
+}
+
+impl<'a> Name<'a> {
+    pub fn qualified(namespace: &Namespace<'a>, own: ImmutableString<'a>) -> Self {
+        debug_assert!(!namespace.is_empty());
+        Name {
+            own,
+            namespace: namespace.text,
+            space: namespace.part,
+        }
+    }
+
+    /// The name with `!` added.
+    pub fn marked(self) -> Self {
+        Name {
+            own: self.own.marked(),
+            ..self
+        }
+    }
+
+    /// The bytes in front of the own name.
+    fn front(&self) -> usize {
+        match self.namespace {
+            0 => 0,
+            _ => self.space.len() + SEPARATOR.len(),
+        }
+    }
+
+    /// Namespace, separator, text and `!`.
+    fn pieces(&self) -> [&'a [u8]; 4] {
+        let separator = match self.namespace {
+            0 => "",
+            _ => SEPARATOR,
+        };
+        let mark = if self.own.mark { "!" } else { "" };
+        [
+            self.space,
+            separator.as_bytes(),
+            self.own.part,
+            mark.as_bytes(),
+        ]
+    }
+}
+
+impl PartialEq for Name<'_> {
+    fn eq(&self, other: &Self) -> bool {
+        if self.namespace == other.namespace {
+            return self.own == other.own;
+        }
+        if self.front() + self.own.len() != other.front() + other.own.len() {
+            return false;
+        }
+        // The two are as long, so they end together.
+        let (mine, theirs) = (self.pieces(), other.pieces());
+        let (mut mine, mut theirs) = (mine.into_iter(), theirs.into_iter());
+        let (mut left, mut right): (&[u8], &[u8]) = (b"", b"");
+        loop {
+            while left.is_empty() {
+                match mine.next() {
+                    Some(piece) => left = piece,
+                    None => return true,
+                }
+            }
+            while right.is_empty() {
+                right = theirs.next().expect("as many bytes on both sides");
+            }
+            let common = left.len().min(right.len());
+            if left[..common] != right[..common] {
+                return false;
+            }
+            (left, right) = (&left[common..], &right[common..]);
+        }
+    }
+}
+
+impl Eq for Name<'_> {}
+
+impl Hash for Name<'_> {
+    fn hash<H: Hasher>(&self, state: &mut H) {
+        let front = self.front();
+        if front == 0 {
+            return self.own.hash(state);
+        }
+        let byte = |index: usize| {
+            if index >= front {
+                let own = self.own.part.get(index - front);
+                own.copied().unwrap_or(b'!')
+            } else {
+                let separator = index.wrapping_sub(self.space.len());
+                let space = self.space.get(index).copied();
+                space.unwrap_or_else(|| SEPARATOR.as_bytes()[separator])
             }
         };
-        if length <= 3 * SOME {
-            take(0, length);
-        } else {
-            take(0, SOME);
-            take(length / 2, length / 2 + SOME);
-            take(length - SOME, length);
-        }
-        state.write_usize(length);
-        state.write(&bytes[..used]);
+        hash_bytes(front + self.own.len(), byte, state);
     }
 }
 
@@ -229,4 +383,66 @@ pub struct Marks {
     pub bodies: Vec<(usize, u32)>,
     /// The Unit emitted in place of a missing default.
     pub missing_default: Option<u32>,
+}
+
+#[cfg(test)]
+mod tests {
+    use super::*;
+    use std::collections::hash_map::DefaultHasher;
+
+    /// Every way to cut a line into namespace, own name and `!`, with numbers of their own.
+    fn cuts<'a>(line: &'a [u8], number: &mut u32, names: &mut Vec<Name<'a>>) {
+        // The last one is for the namespace.
+        let mut own = |part: &'a [u8]| {
+            *number += 3;
+            let whole = ImmutableString::new(*number, part);
+            match part.split_last() {
+                Some((b'!', rest)) => {
+                    vec![whole, ImmutableString::new(*number + 1, rest).marked()]
+                }
+                _ => vec![whole],
+            }
+        };
+        names.extend(own(line).into_iter().map(Name::from));
+        for at in 1..line.len() - 1 {
+            if &line[at..at + 2] == SEPARATOR.as_bytes() {
+                let parts = own(&line[at + 2..]);
+                let space = Namespace::new(parts[0].text + 2, &line[..at], Position::NONE);
+                names.extend(parts.into_iter().map(|own| Name::qualified(&space, own)));
+            }
+        }
+    }
+
+    fn hash(name: &Name) -> u64 {
+        let mut state = DefaultHasher::new();
+        name.hash(&mut state);
+        state.finish()
+    }
+
+    #[test]
+    fn names_are_one_exactly_if_their_joined_bytes_are() {
+        let line: Vec<u8> = b"ab::c:::!d".iter().copied().cycle().take(249).collect();
+        let mut lines = vec![line.clone(), [&line[..], b"!"].concat()];
+        for at in [0, 80, 128, 248] {
+            let mut other = line.clone();
+            other[at] ^= 1;
+            lines.push(other);
+        }
+        let (mut number, mut names) = (0, Vec::new());
+        for line in &lines {
+            cuts(line, &mut number, &mut names);
+        }
+        let mut equal = 0;
+        for a in &names {
+            for b in &names {
+                let same = a.pieces().concat() == b.pieces().concat();
+                assert_eq!(a == b, same);
+                if same {
+                    assert_eq!(hash(a), hash(b));
+                    equal += 1;
+                }
+            }
+        }
+        assert!(equal > 10 * names.len() && equal < names.len() * names.len() / 2);
+    }
 }

@@ -6,6 +6,23 @@ use oracle::format::NODE_WORDS;
 /// A sheet: nodes by their first six words, the rest of them 0, their
 /// positions, texts one after the other, locals.
 pub fn sheet(nodes: &[[u32; 6]], positions: &[u32], texts: &[&str], locals: &[u32]) -> Vec<u8> {
+    let nodes: Vec<[u32; NODE_WORDS]> = nodes.iter().map(|node| full(*node, 0, 0)).collect();
+    sheet_of(&nodes, positions, texts, locals)
+}
+
+/// A node with its namespace: the number of the text plus 1, and a position.
+pub fn full(node: [u32; 6], space: u32, position: u32) -> [u32; NODE_WORDS] {
+    let [kind, span, count, a, b, c] = node;
+    [kind, span, count, a, b, c, space, position]
+}
+
+/// The same with all words of the nodes.
+pub fn sheet_of(
+    nodes: &[[u32; NODE_WORDS]],
+    positions: &[u32],
+    texts: &[&str],
+    locals: &[u32],
+) -> Vec<u8> {
     assert_eq!(nodes.len(), positions.len());
     let bytes: Vec<u8> = texts.concat().into_bytes();
     let mut words = vec![
@@ -16,7 +33,6 @@ pub fn sheet(nodes: &[[u32; 6]], positions: &[u32], texts: &[&str], locals: &[u3
     ];
     for node in nodes {
         words.extend(node);
-        words.resize(words.len() + NODE_WORDS - node.len(), 0);
     }
     words.extend(positions);
     let mut start = 0;

@@ -6,4 +6,4 @@ pub returns : goal.returns
 returns c =
     let a = c.args in
     let v = a.v in
-    exist-read a.x a.blocks v.kind v.a v.b v.c c.names_text-named.ensures
+    exist-read a.x a.blocks v.kind v.a v.b v.c v.namespace c.names_text-named.ensures

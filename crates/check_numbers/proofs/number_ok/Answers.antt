@@ -6,4 +6,4 @@ pub returns : goal.returns
 returns c =
     let a = c.args in
     let v = c.read.ensures in
-    among-read a.sheet.now a.x a.blocks a.n v.kind v.a v.b v.c c.exist.ensures
+    among-read a.sheet.now a.x a.blocks a.n v.kind v.a v.b v.c v.namespace c.exist.ensures

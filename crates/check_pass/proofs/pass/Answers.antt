@@ -16,7 +16,8 @@ pub walk-requires-clause-root : goal.walk-requires-clause-root
 walk-requires-clause-root c =
     let r = c.node-r.result in
     let sizes : Sizes c.args.sheet.now c.node_count-total.result r.a r.b (numbers c.limits-table.result) = search rules in
-    root-right sizes c.node-r.ensures c.if-total-eq0.false c.row_ok-row.ensures c.own_rule.ensures c.call_ok.ensures c.if-r-total.true
+    root-right sizes c.node-r.ensures c.if-total-eq0.false c.row_ok-row.ensures c.own_rule.ensures c.call_ok.ensures
+    c.space_ok.ensures c.if-r-total.true
 
 pub returns : goal.returns
 returns c h = absurd (false≢true h)

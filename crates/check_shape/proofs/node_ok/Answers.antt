@@ -10,7 +10,7 @@ own : (c : After-self_ok) → c.self_ok.result ≡ shape.self_ok c.args.sheet.no
 own c =
     let a = c.args in
     let v = c.read-v.ensures in
-    self-read a.sheet.now a.n a.total v.kind v.span v.count v.a v.b v.c c.self_ok.ensures
+    self-read a.sheet.now a.n a.total v.kind v.span v.count v.a v.b v.c v.namespace v.namespace_pos c.self_ok.ensures
 
 pub overflow_add-n : goal.overflow_add-n
 overflow_add-n c =

@@ -6,4 +6,5 @@ pub returns : goal.returns
 returns c =
     let a = c.args in
     let v = a.v in
-    own_read a.n v.kind v.span v.count v.a v.b v.c a.total c.within_bounds.ensures c.own_rule.ensures c.fits.ensures
+    own_read a.n v.kind v.span v.count v.a v.b v.c v.namespace v.namespace_pos a.total c.within_bounds.ensures c.own_rule.ensures
+    c.space_rule.ensures c.fits.ensures

@@ -6,4 +6,5 @@ use Rattle.check_shape.specs.Shape as shape
 use Rattle.check_shape.proofs.tiles.Given as goal
 
 abbrev pub invariant-loop-i : goal.invariant-loop-i
-invariant-loop-i l = (l.j ≤ l.e) × (shape.tiles (l.v.count - l.i) l.sheet l.n l.e l.i l.j ≡ shape.tiles (count l.sheet l.n) l.sheet l.n l.e 0 (l.n + 1))
+invariant-loop-i l =
+    (l.j ≤ l.e) × (shape.tiles (l.v.count - l.i) l.sheet l.n l.e l.i l.j ≡ shape.tiles (count l.sheet l.n) l.sheet l.n l.e 0 (l.n + 1))

@@ -9,10 +9,10 @@ use Rattle.expr_chains.proofs.root_of.Goals as goal
 
 pub returns-in-9 : goal.returns-in-9
 returns-in-9 c =
-    let kind_is = c.kind.ensures in
+    let role_is = c.role.ensures in
     let a = c.args in
     let s = a.sheet.now in
-    let is = sym kind_is ∙ c.in-9.is in
+    let is = sym role_is ∙ c.in-9.is in
     λ told.
     c.variable_root.ensures
     ∙ ap₂ (λ f p. variable_by f a.name p) (told is) c.position.ensures
@@ -24,7 +24,7 @@ returns-in-10 c =
     let s = a.sheet.now in
     λ _.
     ap This c.position-in-10.ensures
-    ∙ sym (root-this s a.v a.name (sym c.kind.ensures ∙ c.in-10.is))
+    ∙ sym (root-this s a.v a.name (sym c.role.ensures ∙ c.in-10.is))
 
 pub returns-in_default : goal.returns-in_default
 returns-in_default c =

@@ -2,9 +2,9 @@
 use Rattle.scratch_locals.proofs.RootLaws.{root_told, root-other}
 use Rattle.scratch_locals.proofs.root_local.Goals as goal
 
-pub returns-then-kind-eq-VARIABLE : goal.returns-then-kind-eq-VARIABLE
-returns-then-kind-eq-VARIABLE c = λ h.
+pub returns-then-role-eq-VARIABLE : goal.returns-then-role-eq-VARIABLE
+returns-then-role-eq-VARIABLE c = λ h.
     root_told _ c.child-v.ensures c.is_some.ensures (c.local_of.ensures h)
 
 pub returns : goal.returns
-returns c = λ _. root-other _ c.child-v.ensures c.kind.ensures c.if-kind-eq-VARIABLE.false
+returns c = λ _. root-other _ c.child-v.ensures c.role.ensures c.if-role-eq-VARIABLE.false

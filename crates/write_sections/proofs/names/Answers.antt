@@ -15,9 +15,9 @@ loop-i-preserved c =
     let a = c.args in
     let w =
     name-next a.sheet.now a.ks.now c.loop-i.i
-    c.requires _ _
+    c.requires _ _ _
     (omega arith) c.text_of.ensures
-    c.mark_of.ensures c.put.ensures
+    c.mark_of.ensures c.namespace_of.ensures c.put.ensures
     c.loop-i.invariant.1 in
     (c.put.auto.out ∙ c.loop-i.invariant.0, w)
 

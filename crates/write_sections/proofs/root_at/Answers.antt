@@ -4,8 +4,8 @@ use Rattle.scratch_index.specs.Held.{names_held}
 use Rattle.write_sections.proofs.ChainRows.{placed, root-named, root-plain}
 use Rattle.write_sections.proofs.root_at.Goals as goal
 
-pub returns-then-kind-eq-VARIABLE : goal.returns-then-kind-eq-VARIABLE
-returns-then-kind-eq-VARIABLE c =
+pub returns-then-role-eq-VARIABLE : goal.returns-then-role-eq-VARIABLE
+returns-then-role-eq-VARIABLE c =
     let a = c.args in
     let it = a.names.now in
     λ h.
@@ -18,6 +18,6 @@ returns c =
     let a = c.args in
     let it = a.names.now in
     λ _.
-    c.root_of-2.ensures (λ e. absurd (c.if-kind-eq-VARIABLE.false (c.kind.ensures ∙ e)))
-    ∙ root-plain it.sheet.now (names_held it.sheet.now it.layout it.count it.scratch.now) a.v 0 (λ e. c.if-kind-eq-VARIABLE.false
-    (c.kind.ensures ∙ e))
+    c.root_of-2.ensures (λ e. absurd (c.if-role-eq-VARIABLE.false (c.role.ensures ∙ e)))
+    ∙ root-plain it.sheet.now (names_held it.sheet.now it.layout it.count it.scratch.now) a.v 0 (λ e. c.if-role-eq-VARIABLE.false
+    (c.role.ensures ∙ e))

@@ -1,6 +1,7 @@
 //! The records that lowering writes.
 
 mod chain;
+pub(crate) mod names;
 mod op;
 mod switch;
 

@@ -13,17 +13,16 @@ use crate::grain::bytecode::{
 };
 use crate::grain::compile::slots::Slots;
 use crate::grain::stand_in::{
-    Dynamic, GuardMark, ImmutableString, Marks, Position, SwitchCasesCollection, Token,
+    Dynamic, GuardMark, Marks, Name, Position, SwitchCasesCollection, Token,
 };
 
 pub use cases::split;
 
 /// Whether a variable reference is module-qualified, as in `foo::bar`.
 macro_rules! has_namespace {
-    ($payload:expr) => {{
-        let _ = $payload;
-        false
-    }};
+    ($payload:expr) => {
+        !$payload.2.is_empty()
+    };
 }
 
 /// Where a `switch` table entry sends control, before the arms have
@@ -49,8 +48,8 @@ pub struct Lowering<'a> {
     /// Index into `consts` by the constant, to find a duplicate
     /// without comparing with every constant already pooled.
     const_index: HashMap<Dynamic<'a>, u32>,
-    pub names: Vec<ImmutableString<'a>>,
-    name_index: HashMap<ImmutableString<'a>, u32>,
+    pub names: Vec<Name<'a>>,
+    name_index: HashMap<Name<'a>, u32>,
     pub tokens: Vec<Token>,
     pub chains: Vec<Chain>,
     chain_index: HashMap<Chain, u32>,
@@ -535,7 +534,12 @@ impl<'a> Lowering<'a> {
                         let name = self.push_name(payload.1);
                         self.emit_at(Op::LoadNamed(name), expr.position());
                     }
-                    _ => unreachable!("qualified variable access cannot exist under `no_module`"),
+                    _ => {
+                        let name = self.push_name(crate::grain::bytecode::names::qualify(
+                            &payload.2, &payload.1,
+                        ));
+                        self.emit_at(Op::LoadNamed(name), payload.2.position());
+                    }
                 }
             }
 
@@ -663,6 +667,53 @@ impl<'a> Lowering<'a> {
         let capture_parent_scope = call.capture_parent_scope;
         let argc = u8::try_from(call.args.len()).expect("checked by is_lowerable_call");
 
+        // Namespace-qualified?
+        if !call.namespace.is_empty() {
+            let mut name = crate::grain::bytecode::names::qualify(&call.namespace, &call.name);
+            if capture_parent_scope {
+                name = name.marked();
+            }
+            let name = self.push_name(name);
+
+            // `ns::f(x, ..)` -> `ns::f(&mut x, ..)`
+            if let Some(receiver) = self.receiver(call) {
+                match receiver {
+                    Receiver::This => self.emit_at(Op::LoadThis, call.args[0].position()),
+                    Receiver::Named(var) => {
+                        self.emit_at(Op::LoadNamed(var), call.args[0].position())
+                    }
+                    _ => (),
+                }
+                for arg in call.args.iter().skip(1) {
+                    self.expression(arg);
+                }
+
+                self.emit_at(
+                    Op::CallRef {
+                        name,
+                        argc,
+                        receiver,
+                        capture_parent_scope,
+                    },
+                    pos,
+                );
+            } else {
+                for arg in call.args.iter() {
+                    self.expression(arg);
+                }
+                self.emit_at(
+                    Op::Call {
+                        name,
+                        argc,
+                        op: None,
+                        capture_parent_scope,
+                    },
+                    pos,
+                );
+            }
+            return;
+        }
+
         // `f(x, ..)` is `x.f(..)`, so the variable is read after the other
         // arguments and by reference. See [`Op::CallRef`].
         if let Some(receiver) = self.receiver(call) {
@@ -751,6 +802,9 @@ impl<'a> Lowering<'a> {
     /// Matching those arities exactly is what keeps the two agreeing on
     /// the failures as well as the successes.
     fn fn_ptr_call(&mut self, call: &FnCallExpr<'a>, pos: Position) -> bool {
+        if !call.namespace.is_empty() {
+            return false;
+        }
         let argc = call.args.len();
 
         match (call.name.as_bytes(), argc) {
@@ -947,7 +1001,8 @@ impl<'a> Lowering<'a> {
         index
     }
 
-    fn push_name(&mut self, name: ImmutableString<'a>) -> u32 {
+    fn push_name(&mut self, name: impl Into<Name<'a>>) -> u32 {
+        let name = name.into();
         let next = self.names.len() as u32;
         let index = *self.name_index.entry(name).or_insert(next);
         if index == next {

@@ -1,4 +1,4 @@
--- `expr_count::links::temporary` meets its contract: by the kind.
+-- `expr_count::links::temporary` meets its contract: by the role.
 use mathlib.Core.Path.{ap, ◌∙◌}
 use mathlib.Core.Bool.{◌&&◌, not}
 use lib.Dec.{eqb}
@@ -10,5 +10,5 @@ pub returns : goal.returns
 returns c =
     let a = c.args in
     c.from.ensures
-    ∙ ap (λ k. bool_byte (not (eqb k 9) && not (eqb k 10))) c.kind-k.ensures
+    ∙ ap (λ k. bool_byte (not (eqb k 9) && not (eqb k 10))) c.role-k.ensures
     ∙ root-lowered a.sheet.now a.v

@@ -1,5 +1,5 @@
 -- The call's name, then CallRef of its place.
-use Rattle.std.proofs.Common.{ℕ, ◌<◌, sym, subst, lit<}
+use Rattle.std.proofs.Common.{lit<}
 use Rattle.expr_emit.proofs.CallDoes.{call-ref-does}
 use Rattle.expr_emit.proofs.calls.call_ref.Goals as goal
 
@@ -8,7 +8,4 @@ returns c =
     λ l.
     λ p n v.
     let named = c.add_name-name.ensures l in
-    let few = subst (λ (m : ℕ). m < 256) (sym c.count.ensures) n in
-    call-ref-does _ _ _ _ p c.count.ensures c.position.ensures (λ a h. named.1 a (lit< tt) v h)
-    (named.0 (lit< tt) v)
-    (c.emit.ensures l _ few)
+    call-ref-does _ _ p (λ a h. named.1 a (lit< tt) v h) (named.0 (lit< tt) v) (c.ref_at.ensures l n)

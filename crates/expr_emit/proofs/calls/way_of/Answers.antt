@@ -11,7 +11,7 @@ returns-in-FnPtrCall c = λ _. way-pointer _ _ _ c.call_rule.ensures c.in-FnPtrC
 
 pub returns-in-Lowerable : goal.returns-in-Lowerable
 returns-in-Lowerable c = λ h.
-    c.way_first.ensures h
+    c.way_lowered.ensures h
     ∙ way-lowerable _ _ _ c.call_rule.ensures c.in-Lowerable.is
 
 pub returns-in-Eval : goal.returns-in-Eval

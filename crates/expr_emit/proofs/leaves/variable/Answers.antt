@@ -1,15 +1,26 @@
--- A variable: a local, or a name.
-use Rattle.std.proofs.Common.{refl}
+-- A variable: with a namespace a name; else a local, or a name.
+use Rattle.std.proofs.Common.{refl, sym, ◌∙◌}
+use Rattle.sheet.proofs.NamespaceLaws.{plain-here, qualified-here}
 use Rattle.scratch_store.proofs.DoesLaws.{held-slots, does-held}
-use Rattle.expr_emit.proofs.LeafDoes.{variable-local, variable-named}
+use Rattle.expr_emit.proofs.LeafDoes.{unmarked-plain, variable-qualified, variable-local, variable-named}
 use Rattle.expr_emit.proofs.leaves.variable.Goals as goal
+
+pub returns-then-namespace-ne0 : goal.returns-then-namespace-ne0
+returns-then-namespace-ne0 c =
+    λ l.
+    λ p v.
+    let a = c.args in
+    let q = qualified-here a.sheet.now a.j (λ e. c.if-namespace-ne0.true (c.namespace.ensures ∙ e)) in
+    variable-qualified _ q (c.load_qualified.ensures l p v)
 
 pub returns-in-Some : goal.returns-in-Some
 returns-in-Some c =
     λ l.
     λ p v.
+    let args = c.args in
+    let q = plain-here args.sheet.now args.j (sym c.namespace.ensures ∙ c.if-namespace-ne0.false) in
     does-held (λ a h.
-    variable-local _ _ _ (c.local_of.ensures (rw c.words.ensures (held-slots refl h)))
+    variable-local _ _ _ q (c.local_of.ensures (rw c.words.ensures (held-slots refl h)))
     c.in-Some.is
     (c.emit.ensures l _ tt))
 
@@ -17,7 +28,10 @@ pub returns-in-None : goal.returns-in-None
 returns-in-None c =
     λ l.
     λ p v.
+    let args = c.args in
+    let none = sym c.namespace.ensures ∙ c.if-namespace-ne0.false in
+    let q = plain-here args.sheet.now args.j none in
     does-held (λ a h.
-    variable-named _ _ (c.local_of.ensures (rw c.words.ensures (held-slots refl h)))
+    variable-named _ _ q (c.local_of.ensures (rw c.words.ensures (held-slots refl h)))
     c.in-None.is
-    (c.load_named.ensures l p v))
+    (c.load_named.ensures l (unmarked-plain args.sheet.now args.j none p) v))

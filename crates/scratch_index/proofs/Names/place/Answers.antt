@@ -1,14 +1,17 @@
--- `scratch_index::Names::place` meets its contract: by a memo that knows the text, else by a search.
+-- `scratch_index::Names::place` meets its contract: by a memo that knows it, else by a search.
+use Rattle.std.proofs.Common.{false}
 use Rattle.scratch_index.specs.Names.{name_hash}
 use Rattle.scratch_index.proofs.NameLaws.{with-plain}
 use Rattle.scratch_index.proofs.LookupLaws.{finds-at, finds-as}
-use Rattle.scratch_index.proofs.HeldLaws.{name-told, name-searched, name-same}
+use Rattle.scratch_index.proofs.HeldLaws.{name-by-number, name-searched, name-same}
 use Rattle.scratch_index.proofs.Names.place.Goals as goal
 
 pub returns-in-Some : goal.returns-in-Some
 returns-in-Some c =
     let it = c.args.self.now in
-    name-told it.sheet.now it.layout it.count it.scratch.now c.args.t _ _ _ c.memos_at.ensures c.recalled.ensures c.in-Some.is
+    name-same it.sheet.now it.layout it.count it.scratch.now (with-plain it.sheet.now c.args.t)
+    (name-by-number it.sheet.now it.layout it.count it.scratch.now c.args.t false 0 _ _ _ _ c.memos_at.ensures c.number.ensures
+    c.told_by.ensures c.in-Some.is)
 
 pub returns : goal.returns
 returns c =

@@ -1,30 +1,17 @@
--- `scratch_store::Store::add_name` meets its contract: a name with `!` is sought, one that a memo knows stands, any other is sought and
--- remembered.
-use Rattle.std.proofs.Common.{refl}
-use Rattle.scratch_store.proofs.MemoLaws.{name-adds-told, name-adds-kept}
-use Rattle.scratch_store.proofs.DoesLaws.{adds-any}
+-- `scratch_store::Store::add_name` meets its contract: by its number where it has one.
+use Rattle.std.proofs.Common.{sym, ◌∙◌}
+use Rattle.scratch_index.proofs.MemoLaws.{number-name}
+use Rattle.scratch_index.proofs.NameLaws.{name-read}
 use Rattle.scratch_store.proofs.Store.add_name.Goals as goal
 
-pub returns-then-name : goal.returns-then-name
-returns-then-name c = λ l.
-    c.push_name.ensures l c.text_of-t.ensures c.is_marked.ensures
-
 pub returns-in-Some : goal.returns-in-Some
-returns-in-Some c =
-    let it = c.args.self.now in
-    adds-any refl
-    (name-adds-told c.args.sheet.now it.state.layout it.scratch.now _ c.args.k c.text_of-t.result _ c.memos_at-ms.result
-    c.recalled.result c.is_marked.result c.text_of-t.ensures c.is_marked.ensures c.if-name.false c.memos_at-ms.ensures
-    (rw (← c.words.ensures) c.recalled.ensures) c.in-Some.is)
+returns-in-Some c = λ l.
+    let s = c.args.sheet.now in
+    let text = c.text_of.ensures in
+    let mark = c.is_marked.ensures in
+    let space = c.namespace_of.ensures in
+    let is = number-name s _ _ _ (sym c.number.ensures ∙ c.in-Some.is) in
+    c.known_name.ensures l text mark space (is ∙ name-read s c.args.k text mark space)
 
-pub returns-then-t-lt4294967295 : goal.returns-then-t-lt4294967295
-returns-then-t-lt4294967295 c =
-    let it = c.args.self.now in
-    adds-any refl
-    (name-adds-kept c.args.k c.text_of-t.result _ c.is_marked.result c.text_of-t.ensures c.is_marked.ensures c.if-name.false
-    (c.push_name-at.ensures it.state.layout c.text_of-t.ensures c.is_marked.ensures)
-    c.memos_at-ms.result _ c.if-t-lt4294967295.true c.memos_at-ms.ensures c.remember.ensures)
-
-pub returns-else-t-lt4294967295 : goal.returns-else-t-lt4294967295
-returns-else-t-lt4294967295 c = λ l.
-    c.push_name-at.ensures l c.text_of-t.ensures c.is_marked.ensures
+pub returns-in-None : goal.returns-in-None
+returns-in-None c = λ l. c.push_name.ensures l c.text_of.ensures c.is_marked.ensures c.namespace_of.ensures

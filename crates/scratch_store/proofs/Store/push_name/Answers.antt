@@ -8,10 +8,11 @@ use Rattle.scratch_store.proofs.Store.push_name.Goals as goal
 
 pub returns : goal.returns
 returns c =
-    λ l text mark.
+    λ l text mark space.
     let it = c.args.self.now in
     let name = c.args.name in
     let s = name.sheet.now in
     adds-any refl
-    (name-adds s it.state.layout it.scratch.now it.state c.args.k name.text c.hash-h.result name.marked (name-read s c.args.k text mark)
+    (name-adds s it.state.layout it.scratch.now it.state c.args.k name.text c.hash-h.result name.marked name.namespace
+    (name-read s c.args.k text mark space)
     (rw (← c.words.ensures) c.hash-h.ensures) (rw (← c.name_index.ensures) (c.stand.ensures (name_hash s) tt))) l

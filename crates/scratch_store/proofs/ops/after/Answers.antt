@@ -7,7 +7,8 @@ use Rattle.scratch_store.proofs.ops.after.Goals as goal
 
 pub overflow_add-pops : goal.overflow_add-pops
 overflow_add-pops c =
-    pops-fit (count_of c.effect_of-e.result.top) _ _ c.from-2.result c.popped.ensures (omega (arith, c.from.ensures, c.effect_of-e.type_inv))
+    pops-fit (count_of c.effect_of-e.result.top) _ _ c.from-2.result c.popped.ensures
+    (omega (arith, c.from.ensures, c.effect_of-e.type_inv))
     (search rules) (search rules) (omega (arith, c.from-2.ensures, c.ranges.n.fits))
 
 pub returns : goal.returns

@@ -1,15 +1,15 @@
 -- `expr_count::locals::Count::call` meets its contract, receiver by receiver.
 use mathlib.Core.Path.{sym, ap, ◌∙◌}
 use native.Mathlib.Omega.{arith}
-use Prim.Native.Nat.{◌+◌, ◌-◌}
+use Prim.Native.Nat.{◌+◌}
 use Rattle.expr_rules.proofs.InverseLaws.{first_from}
-use Rattle.expr_count.proofs.PlanLaws.{call_at, rotates-least}
+use Rattle.expr_count.proofs.PlanLaws.{call_at, moves-least}
 use Rattle.expr_count.specs.Locals.{answer}
-use Rattle.expr_count.specs.Plan.{all_args, other_args, rotates, call_by}
+use Rattle.expr_count.specs.Plan.{all_args, other_args, call_by}
 use Rattle.expr_count.proofs.locals.Count.call.Goals as goal
 
-pub overflow_add-rotates : goal.overflow_add-rotates
-overflow_add-rotates c = omega (arith, c.rotates.ensures, rotates-least c.saturating_sub.result)
+pub overflow_add-moves : goal.overflow_add-moves
+overflow_add-moves c = let it = c.args.self.now in omega (arith, c.moves.ensures, moves-least it.sheet.now c.args.j)
 
 pub returns-in-Local : goal.returns-in-Local
 unfolding call_by first_from
@@ -25,9 +25,8 @@ returns-in-Named c =
     let a = c.args in
     let it = a.self.now in
     let s = it.sheet.now in
-    let others-is = c.saturating_sub.ensures ∙ ap (λ n. n - 1) c.count.ensures in
     c.others-in-Named.ensures
-    ∙ ap (λ n. other_args s a.j (2 + n)) (c.rotates.ensures ∙ ap rotates others-is)
+    ∙ ap (λ n. other_args s a.j (2 + n)) c.moves.ensures
     ∙ call_at s a.j (answer it.told s) _
     (sym c.receiver.ensures
     ∙ c.in-Named.is)

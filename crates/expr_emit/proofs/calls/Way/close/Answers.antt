@@ -2,6 +2,7 @@
 use Rattle.std.proofs.Common.{ap, ◌∙◌}
 use Rattle.sheet.specs.Node.{position}
 use Rattle.expr_emit.proofs.CallDoes.{close-make, close-pointer, close-local, close-name, close-this, close-value, close-kept}
+use Rattle.expr_emit.proofs.CallDoes.{close-in-local, close-in-named, close-in-this, close-in-value}
 use Rattle.expr_emit.proofs.calls.Way.close.Goals as goal
 
 pub returns-in-FnPtr : goal.returns-in-FnPtr
@@ -39,3 +40,23 @@ pub returns-in-Eval : goal.returns-in-Eval
 returns-in-Eval c =
     λ l.
     close-kept _ _ _ c.in-Eval.is (c.residual.ensures l _)
+
+pub returns-in-InLocal : goal.returns-in-InLocal
+returns-in-InLocal c =
+    λ l.
+    close-in-local _ _ _ _ c.in-InLocal.is (c.ref_at.ensures l)
+
+pub returns-in-InNamed : goal.returns-in-InNamed
+returns-in-InNamed c =
+    λ l.
+    close-in-named _ _ _ c.in-InNamed.is (c.ref_at-in-InNamed.ensures l)
+
+pub returns-in-InThis : goal.returns-in-InThis
+returns-in-InThis c =
+    λ l.
+    close-in-this _ _ _ c.in-InThis.is (c.ref_at-in-InThis.ensures l)
+
+pub returns-in-InValue : goal.returns-in-InValue
+returns-in-InValue c =
+    λ l.
+    close-in-value _ _ _ c.in-InValue.is (c.values_at.ensures l)

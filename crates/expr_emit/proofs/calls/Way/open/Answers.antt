@@ -1,13 +1,14 @@
 -- One law for each way with something before the arguments, and one for the others.
 use Rattle.std.proofs.Common.{ap, ◌∙◌, lit<}
 use Rattle.sheet.specs.Node.{position}
-use Rattle.expr_emit.proofs.CallDoes.{open-named, open-this, open-none}
+use Rattle.expr_emit.specs.declared.calls.Way.TheVariants.{InNamed, InThis}
+use Rattle.expr_emit.proofs.CallDoes.{open-named, open-this, open-own, open-by, open-none}
 use Rattle.expr_emit.proofs.calls.Way.open.Goals as goal
 
 pub returns-in-Named : goal.returns-in-Named
 returns-in-Named c =
     λ l.
-    let named = c.add_name.ensures l in
+    let named = c.add_name-first.ensures l in
     open-named _ _ _ _ c.in-Named.is c.child.ensures (named.0 (lit< tt))
     (λ a u h. named.1 a (lit< tt) u h)
 
@@ -16,6 +17,21 @@ returns-in-This c =
     λ l.
     let at-pos = c.position.ensures ∙ ap (position c.args.sheet.now) c.child-in-This.ensures in
     open-this _ _ _ c.in-This.is at-pos (c.emit.ensures l _ tt)
+
+pub returns-in-InLocal : goal.returns-in-InLocal
+returns-in-InLocal c =
+    λ l.
+    let named = c.add_name-name.ensures l in
+    open-own _ _ c.in-InLocal.is
+    (record { does = named.0 (lit< tt); found = λ a v h. named.1 a (lit< tt) v h })
+
+pub returns-in-InNamed : goal.returns-in-InNamed
+returns-in-InNamed c = λ l.
+    open-by _ _ InNamed c.in-InNamed.is (c.open_named.ensures l)
+
+pub returns-in-InThis : goal.returns-in-InThis
+returns-in-InThis c = λ l.
+    open-by _ _ InThis c.in-InThis.is (c.open_this.ensures l)
 
 pub returns-in-FnPtr : goal.returns-in-FnPtr
 returns-in-FnPtr c = λ l. open-none _ _ c.in-FnPtr.is
