@@ -33,13 +33,13 @@ extern "C" {
     ) -> u32;
 }
 
-/// The proved check: 0, or which of the numbers 1 to 8 turns the sheet down.
+/// The proved check: 0, or which of the numbers 1 to 8 or 14 refuses the sheet.
 pub fn check(sheet: &[u8]) -> u32 {
     // The pointer and the length are those of a slice, and the function only reads.
     unsafe { sheet_check(sheet.as_ptr(), sheet.len()) }
 }
 
-/// What a sheet needs: 0 and the scratch words that its lowering asks for, or one of the numbers 1 to 10 and 0.
+/// What a sheet needs: 0 and the scratch words that its lowering asks for, or one of the numbers 1 to 10 or 14, and 0.
 // Kept: a pair and no Result, here and in `lower`: `compare` holds both against the oracle's, whatever the number is.
 pub fn needs(sheet: &[u8]) -> (u32, u64) {
     let mut words = u64::MAX;
@@ -48,7 +48,7 @@ pub fn needs(sheet: &[u8]) -> (u32, u64) {
     (number, words)
 }
 
-/// The proved lowering: 0 or a number from 1 to 12, and the image's word count.
+/// The proved lowering: 0, or a number from 1 to 12 or 14, and the image's word count.
 pub fn lower(sheet: &[u8], image: &mut [u32], scratch: &mut [u32]) -> (u32, u64) {
     let mut words = u64::MAX;
     // Pointers and lengths are those of slices; the two that are written to are lent alone.
@@ -66,7 +66,7 @@ pub fn lower(sheet: &[u8], image: &mut [u32], scratch: &mut [u32]) -> (u32, u64)
     (number, words)
 }
 
-/// The proved check of an image beside its sheet: 0, or the first of the numbers 1 to 8, 11 and 13 that fits.
+/// The proved check of an image beside its sheet: 0, or the first of the numbers 1 to 4, 14, 5 to 8, 11 and 13 that fits.
 pub fn check_image(sheet: &[u8], image: &[u32], scratch: &mut [u32]) -> u32 {
     // Pointers and lengths are those of slices; the one that is written to is lent alone.
     unsafe {

@@ -27,6 +27,7 @@ impl Workload {
 }
 
 const NODES: usize = MAX_NODES as usize;
+const LOCALS: usize = MAX_LOCALS as usize;
 const TEXTS: usize = MAX_TEXTS as usize;
 const BYTES: usize = MAX_TEXT_BYTES as usize;
 
@@ -48,6 +49,8 @@ pub const NAMES: &[&str] = &[
     "hostile overlap ends",
     "hostile cases",
     "hostile counts",
+    "hostile names",
+    "hostile last name",
 ];
 
 /// The workload of a name.
@@ -86,6 +89,10 @@ pub fn workload(name: &'static str) -> Workload {
         "hostile overlap ends" => Workload::new(name, overlap_ends(), 0),
         "hostile cases" => Workload::new(name, long_cases(), 0),
         "hostile counts" => Workload::new(name, counts(), REFUSED_NODE),
+        "hostile names" => Workload::new(name, own_names(NODES, LOCALS, TEXTS, false), 0),
+        "hostile last name" => {
+            Workload::new(name, own_names(NODES, LOCALS, TEXTS, true), REFUSED_NAME)
+        }
         _ => panic!("no workload {name}"),
     }
 }
@@ -419,5 +426,33 @@ fn counts() -> Vec<u8> {
     }
     draft.close();
     draft.nodes[0][2] = u32::MAX;
+    draft.to_bytes()
+}
+
+/// An Array of leaves, of so many nodes in all, each leaf with an own name, and so many locals. Of so many texts all but the last have one
+/// byte, and nodes and locals name them in turn. The last has no bytes, so that all texts are looked at, and then all names: nothing names it,
+/// or the last local does.
+pub fn own_names(nodes: usize, locals: usize, texts: usize, last: bool) -> Vec<u8> {
+    let mut draft = Draft::new();
+    let named = texts - 1;
+    for _ in 0..named {
+        draft.text(b"x");
+    }
+    let none = draft.text(b"");
+    draft.locals = (0..locals).map(|local| (local % named) as u32).collect();
+    if last {
+        draft.locals[locals - 1] = none;
+    }
+    draft.open(ARRAY, [0; 3], 1);
+    for node in 1..nodes {
+        let name = (node % named) as u32;
+        match node % 4 {
+            0 => draft.leaf(VARIABLE, [name, 0, 0], 2),
+            1 => draft.leaf(PROPERTY, [name; 3], 2),
+            2 => draft.leaf(METHOD_CALL, [name, 0, 0], 2),
+            _ => draft.leaf(FN_CALL, [name, 0, 0], 2),
+        }
+    }
+    draft.close();
     draft.to_bytes()
 }

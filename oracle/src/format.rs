@@ -67,11 +67,15 @@ pub const KEYWORD_FN_PTR_CALL: &[u8] = b"call";
 pub const KEYWORD_FN_PTR_CURRY: &[u8] = b"curry";
 
 // ---- the refusals ----
+//
+// The first that fits in the order 1 to 4, 14, 5 to 13 is the answer. "1 to 8",
+// "1 to 10" and the like take 14 in.
 
 pub const REFUSED_SIZE: u32 = 1;
 pub const REFUSED_NODE: u32 = 2;
 pub const REFUSED_TEXT: u32 = 3;
 pub const REFUSED_NUMBER: u32 = 4;
+pub const REFUSED_NAME: u32 = 14;
 pub const REFUSED_DEPTH: u32 = 5;
 pub const REFUSED_ARMS: u32 = 6;
 pub const REFUSED_EQUAL_CASES: u32 = 7;
@@ -81,6 +85,13 @@ pub const REFUSED_EMITTED: u32 = 10;
 pub const REFUSED_SCRATCH: u32 = 11;
 pub const REFUSED_IMAGE: u32 = 12;
 pub const NOT_WELL_MADE: u32 = 13;
+
+/// 0 and all refusals, in their order.
+pub const ANSWERS: [u32; 15] = [0, 1, 2, 3, 4, 14, 5, 6, 7, 8, 9, 10, 11, 12, 13];
+/// The sheet's own refusals, in their order.
+pub const SHEET_REFUSALS: [u32; 9] = [1, 2, 3, 4, 14, 5, 6, 7, 8];
+/// Counts by answer have so many places.
+pub const COUNTS: usize = ANSWERS.len();
 
 // ---- lowering ----
 

@@ -12,9 +12,13 @@ pub const PROFILES: &[&str] = &[
     "switches",
     "texts",
     "modules",
+    "names",
     "damaged",
     "limits",
 ];
+
+/// The profiles whose sheets are random and mostly accepted.
+pub const ACCEPTED: &[&str] = PROFILES.split_at(7).0;
 
 /// How large the random sheets become.
 #[derive(Clone, Copy)]
@@ -51,6 +55,7 @@ pub fn sheet(profile: &str, seed: u64, index: u64, size: Size) -> Vec<u8> {
             sheet(name, seed ^ 0x5EED, index, size)
         }
         "texts" => texts(random, size).to_bytes(),
+        "names" => names(random, size),
         "damaged" => damaged(random, size),
         "limits" => crate::limits::sheet(index, random),
         _ => {
@@ -79,7 +84,7 @@ pub struct Gen {
     wishes: Wishes,
     /// Nodes left.
     left: isize,
-    /// Texts that are not `eval`.
+    /// Texts that are not `eval` and have bytes.
     names: Vec<u32>,
     /// Texts with special meaning, by keyword.
     eval: u32,
@@ -141,7 +146,6 @@ const NAMES: &[&str] = &[
     "f",
     "g!",
     "x!",
-    "",
     "get$x",
     "set$x",
     "ü",
@@ -290,10 +294,8 @@ impl Gen {
         } else {
             self.eval = u32::MAX;
         }
-        if self.random.chance(1, 4) {
-            let at = self.draft.bytes.len() as u32;
-            self.draft.texts.push((at, 0));
-            self.names.push((self.draft.texts.len() - 1) as u32);
+        if self.random.chance(1, 3) {
+            self.draft.text(b"");
         }
         if self.qualified > 0 {
             self.make_spaces();
@@ -304,8 +306,23 @@ impl Gen {
             _ => self.random.below(if self.size.small { 3 } else { 6 }),
         };
         for _ in 0..locals {
-            let text = self.random.below(self.draft.texts.len()) as u32;
+            let text = self.named();
             self.draft.locals.push(text);
+        }
+    }
+
+    /// Any text.
+    fn any(&mut self) -> u32 {
+        self.random.below(self.draft.texts.len()) as u32
+    }
+
+    /// Any text that has bytes.
+    fn named(&mut self) -> u32 {
+        loop {
+            let text = self.any();
+            if self.draft.texts[text as usize].1 > 0 {
+                return text;
+            }
         }
     }
 
@@ -386,11 +403,14 @@ impl Gen {
             all.push((Some(space), cut + 2));
         }
         for (space, from) in all {
+            if from == length {
+                continue;
+            }
             let name = part(self, from, length);
             self.names.push(name);
             let mark = self.random.chance(1, 4);
             self.splits.push(Split { space, name, mark });
-            if marked && from < length {
+            if marked && from + 1 < length {
                 let name = part(self, from, length - 1);
                 for mark in [true, true, false] {
                     self.splits.push(Split { space, name, mark });
@@ -407,7 +427,7 @@ impl Gen {
         }
         let index = self.random.below(self.spaces.len());
         let text = if self.random.chance(1, 20) {
-            self.random.below(self.draft.texts.len()) as u32
+            self.any()
         } else {
             self.spaces[index]
         };
@@ -485,7 +505,7 @@ impl Gen {
 
     fn name(&mut self) -> u32 {
         if self.random.chance(1, 12) {
-            self.random.below(self.draft.texts.len()) as u32
+            self.named()
         } else {
             let index = self.random.below(self.names.len());
             self.names[index]
@@ -547,7 +567,7 @@ impl Gen {
                 self.draft.leaf(CHAR, [value, 0, 0], position)
             }
             11..=13 => {
-                let text = self.random.below(self.draft.texts.len()) as u32;
+                let text = self.any();
                 self.draft.leaf(STRING, [text, 0, 0], position)
             }
             14..=17 => self.variable_leaf(),
@@ -563,15 +583,24 @@ impl Gen {
                 self.draft.close();
             }
             _ => {
-                let name = self.random.below(self.draft.texts.len()) as u32;
+                let name = self.named();
                 self.draft.leaf(METHOD_CALL, [name, 0, 0], position)
             }
         }
     }
 
     fn property(&mut self, position: u32) {
-        let fields = [self.name(), self.name(), self.name()];
+        let fields = [self.name(), self.accessor(), self.accessor()];
         self.draft.leaf(PROPERTY, fields, position)
+    }
+
+    /// A text for a getter or setter, which may have no bytes.
+    fn accessor(&mut self) -> u32 {
+        if self.random.chance(1, 6) {
+            self.any()
+        } else {
+            self.name()
+        }
     }
 
     fn operator(&mut self) -> u32 {
@@ -1157,27 +1186,247 @@ fn texts(mut random: Random, size: Size) -> Draft {
     }
     draft.open(ARRAY, [0, 0, 0], 65_537);
     if count > 0 {
+        let named: Vec<u32> = (0..count as u32)
+            .filter(|text| draft.texts[*text as usize].1 > 0)
+            .collect();
         let modules = random.chance(2, 5);
         for _ in 0..random.between(0, if size.small { 4 } else { 10 }) {
             let kind = *random.pick(&[STRING, VARIABLE, FN_CALL, METHOD_CALL]);
-            let text = random.below(count) as u32;
+            let (kind, text) = match kind {
+                STRING => (kind, random.below(count) as u32),
+                _ if named.is_empty() => (STRING, random.below(count) as u32),
+                _ => (kind, *random.pick(&named)),
+            };
             draft.leaf(kind, [text, 0, 0], 65_538);
             if modules && matches!(kind, VARIABLE | FN_CALL) && random.chance(1, 2) {
                 draft.qualify(random.below(count) as u32, 65_539);
             }
         }
-        for _ in 0..random.below(3) {
-            let text = random.below(count) as u32;
-            draft.locals.push(text);
+        if !named.is_empty() {
+            for _ in 0..random.below(3) {
+                draft.locals.push(*random.pick(&named));
+            }
         }
     }
     draft.close();
     draft
 }
 
+// ---- names ----
+
+/// Where a text is named.
+#[derive(Clone, Copy)]
+enum Site {
+    /// A node and its field.
+    Node(usize, usize),
+    Local(usize),
+}
+
+/// What a text is for.
+#[derive(Clone, Copy, PartialEq, Eq)]
+enum Use {
+    /// Own names, of nodes by their kind and whether they have a namespace.
+    Own(u32, bool),
+    Local,
+    /// What may have no bytes.
+    Getter,
+    Setter,
+    String,
+    Case,
+    Space(u32),
+    Unused,
+}
+
+/// Own names of each sort.
+const OWN: &[Use] = &[
+    Use::Own(VARIABLE, false),
+    Use::Own(VARIABLE, true),
+    Use::Own(PROPERTY, false),
+    Use::Own(METHOD_CALL, false),
+    Use::Own(FN_CALL, false),
+    Use::Own(FN_CALL, true),
+    Use::Local,
+];
+
+/// Texts that may have no bytes, of each sort.
+const FREE: &[Use] = &[
+    Use::Getter,
+    Use::Setter,
+    Use::String,
+    Use::Case,
+    Use::Space(VARIABLE),
+    Use::Space(FN_CALL),
+    Use::Unused,
+];
+
+/// Where the texts of a use are named.
+fn sites(draft: &Draft, use_: Use) -> Vec<Site> {
+    let nodes = |field: usize, fits: &dyn Fn(usize, &[u32; NODE_WORDS]) -> bool| {
+        let all = draft.nodes.iter().enumerate();
+        all.filter(|(index, node)| fits(*index, node))
+            .map(|(index, _)| Site::Node(index, field))
+            .collect()
+    };
+    let is_value = |index: usize| index > 0 && draft.nodes[index - 1][0] == CASE;
+    match use_ {
+        Use::Own(kind, space) => nodes(3, &|_, node| node[0] == kind && (node[6] != 0) == space),
+        Use::Local => (0..draft.locals.len()).map(Site::Local).collect(),
+        Use::Getter => nodes(4, &|_, node| node[0] == PROPERTY),
+        Use::Setter => nodes(5, &|_, node| node[0] == PROPERTY),
+        Use::String => nodes(3, &|index, node| node[0] == STRING && !is_value(index)),
+        Use::Case => nodes(3, &|index, _| is_value(index)),
+        Use::Space(kind) => nodes(6, &|_, node| node[0] == kind && node[6] != 0),
+        Use::Unused => Vec::new(),
+    }
+}
+
+/// The number of a text of no bytes: one that is there, or a new one.
+fn empty_text(draft: &mut Draft, random: &mut Random) -> u32 {
+    let known = draft.texts.iter().position(|text| text.1 == 0);
+    match known {
+        Some(text) if random.chance(1, 2) => text as u32,
+        _ => {
+            // It may stand anywhere, also inside a character.
+            let start = random.below(draft.bytes.len() + 1) as u32;
+            draft.texts.push((start, 0));
+            draft.texts.len() as u32 - 1
+        }
+    }
+}
+
+/// Lets a site name a text of no bytes. With `whole` the text that it names loses
+/// its bytes, and with it all its sites.
+fn empty_at(draft: &mut Draft, random: &mut Random, site: Site, whole: bool) {
+    // A namespace's word is the number plus 1.
+    let plus = u32::from(matches!(site, Site::Node(_, 6)));
+    let named = match site {
+        Site::Node(node, field) => draft.nodes[node][field],
+        Site::Local(local) => draft.locals[local],
+    };
+    let known = named.wrapping_sub(plus) as usize;
+    if whole && known < draft.texts.len() {
+        draft.texts[known].1 = 0;
+        return;
+    }
+    let text = empty_text(draft, random) + plus;
+    match site {
+        Site::Node(node, field) => draft.nodes[node][field] = text,
+        Site::Local(local) => draft.locals[local] = text,
+    }
+}
+
+/// The first place, the last one or any.
+fn some_site(random: &mut Random, sites: &[Site]) -> Site {
+    match random.below(4) {
+        0 => sites[0],
+        1 => sites[sites.len() - 1],
+        _ => *random.pick(sites),
+    }
+}
+
+/// An own name without bytes, of any sort that is there.
+fn damage_name(draft: &mut Draft, random: &mut Random) {
+    let mut all: Vec<Vec<Site>> = OWN.iter().map(|use_| sites(draft, *use_)).collect();
+    all.retain(|sites| !sites.is_empty());
+    if all.is_empty() {
+        let text = empty_text(draft, random);
+        draft.locals.push(text);
+        return;
+    }
+    let sites = &all[random.below(all.len())];
+    let (site, whole) = (some_site(random, sites), random.chance(1, 4));
+    empty_at(draft, random, site, whole);
+}
+
+/// A sheet in which a text of some use has no bytes: half of them an own name.
+/// One in four has another cause beside it.
+fn names(mut random: Random, size: Size) -> Vec<u8> {
+    let own = random.chance(1, 2);
+    let use_ = *random.pick(if own { OWN } else { FREE });
+    let cause = if random.chance(1, 4) {
+        random.between(2, 9) as u32
+    } else {
+        0
+    };
+    let mut draft = with_use(&mut random, size, use_, cause);
+    let all = sites(&draft, use_);
+    if all.is_empty() {
+        empty_text(&mut draft, &mut random);
+    } else {
+        let site = some_site(&mut random, &all);
+        if let (Use::Case, Site::Node(value, _)) = (use_, site) {
+            draft.nodes[value] = [STRING, 1, 0, 0, 0, 0, 0, 0];
+        }
+        let whole = own && random.chance(1, 4);
+        empty_at(&mut draft, &mut random, site, whole);
+    }
+    match cause {
+        REFUSED_NODE => damage_node(&mut draft, &mut random),
+        REFUSED_TEXT => damage_text(&mut draft, &mut random),
+        REFUSED_NUMBER => damage_number(&mut draft, &mut random),
+        _ => (),
+    }
+    draft.to_bytes()
+}
+
+/// A sheet that mostly has the use, and the cause if that is one of 5 to 9.
+fn with_use(random: &mut Random, size: Size, use_: Use, cause: u32) -> Draft {
+    let wishes = Wishes {
+        too_deep: cause == REFUSED_DEPTH,
+        too_many: cause == REFUSED_ARMS,
+        equal_cases: cause == REFUSED_EQUAL_CASES,
+        refused_kind: cause == REFUSED_KIND,
+        eval: cause == REFUSED_EVAL,
+    };
+    let profile = match use_ {
+        _ if wishes.too_many || wishes.equal_cases => "switches",
+        Use::Case => "switches",
+        Use::Own(_, true) | Use::Space(_) => "modules",
+        Use::Own(FN_CALL, _) => "calls",
+        Use::Own(..) | Use::Getter | Use::Setter => "chains",
+        Use::String => "expressions",
+        Use::Local | Use::Unused => *random.pick(&["expressions", "calls", "switches", "modules"]),
+    };
+    if cause == 0 && random.chance(1, 8) {
+        return alone(random, use_);
+    }
+    for _ in 0..20 {
+        let mut gen = Gen::new(profile, Random::new(random.next()), size, wishes);
+        gen.whole();
+        if use_ == Use::Unused || !sites(&gen.draft, use_).is_empty() {
+            return gen.draft;
+        }
+    }
+    alone(random, use_)
+}
+
+/// One node, which has the use if a node without children can have it, and
+/// sometimes a local: always where the use is a local's.
+fn alone(random: &mut Random, use_: Use) -> Draft {
+    let mut draft = Draft::new();
+    let name = *random.pick(&["x", "g", "call", "ü"]);
+    draft.text(name.as_bytes());
+    draft.text(b"m");
+    let (kind, space) = match use_ {
+        Use::Own(kind, space) => (kind, space),
+        Use::Space(kind) => (kind, true),
+        Use::Getter | Use::Setter => (PROPERTY, false),
+        Use::String | Use::Case => (STRING, false),
+        Use::Local | Use::Unused => (UNIT, false),
+    };
+    draft.leaf(kind, [0, 0, 0], random.word());
+    if space {
+        draft.qualify(1, random.word());
+    }
+    if use_ == Use::Local || random.chance(1, 2) {
+        draft.locals.push(0);
+    }
+    draft
+}
+
 // ---- damaged sheets ----
 
-/// A sheet with one to four causes to turn it down.
+/// A sheet with one to four causes to refuse it.
 fn damaged(mut random: Random, size: Size) -> Vec<u8> {
     let causes = match random.below(10) {
         0..=3 => 1,
@@ -1188,16 +1437,17 @@ fn damaged(mut random: Random, size: Size) -> Vec<u8> {
     let mut wishes = Wishes::default();
     let mut later = Vec::new();
     for _ in 0..causes {
-        // Low numbers hide the others, so they come less often.
-        match random.below(20) {
-            0 => later.push(1),
-            1 | 2 => later.push(2),
-            3 | 4 => later.push(3),
-            5..=7 => later.push(4),
-            8 | 9 => wishes.too_deep = true,
-            10 | 11 => wishes.too_many = true,
-            12..=14 => wishes.equal_cases = true,
-            15 | 16 => wishes.refused_kind = true,
+        // The first numbers hide the others, so they come less often.
+        match random.below(23) {
+            0 => later.push(REFUSED_SIZE),
+            1 | 2 => later.push(REFUSED_NODE),
+            3 | 4 => later.push(REFUSED_TEXT),
+            5..=7 => later.push(REFUSED_NUMBER),
+            8..=10 => later.push(REFUSED_NAME),
+            11 | 12 => wishes.too_deep = true,
+            13 | 14 => wishes.too_many = true,
+            15..=17 => wishes.equal_cases = true,
+            18 | 19 => wishes.refused_kind = true,
             _ => wishes.eval = true,
         }
     }
@@ -1219,11 +1469,12 @@ fn damaged(mut random: Random, size: Size) -> Vec<u8> {
     let mut narrow = false;
     for cause in later {
         match cause {
-            1 if random.chance(1, 4) => narrow = true,
-            1 => raw += 1,
-            2 => damage_node(&mut draft, &mut random),
-            3 => damage_text(&mut draft, &mut random),
-            _ => damage_number(&mut draft, &mut random),
+            REFUSED_SIZE if random.chance(1, 4) => narrow = true,
+            REFUSED_SIZE => raw += 1,
+            REFUSED_NODE => damage_node(&mut draft, &mut random),
+            REFUSED_TEXT => damage_text(&mut draft, &mut random),
+            REFUSED_NUMBER => damage_number(&mut draft, &mut random),
+            _ => damage_name(&mut draft, &mut random),
         }
     }
     let mut bytes = draft.to_bytes();

@@ -1,6 +1,6 @@
-//! Whether an image is well made beside its sheet: request A1 of document 02.
-//! A1.3 and the like are the readings of that request. Each clause is a
-//! function of its own.
+//! Whether an image is well made beside its sheet: request A1 of document 02,
+//! as docs/DECISIONS.md reads it. Each clause is a function of its own, and
+//! says which of `Clause` it finds.
 
 use std::collections::BTreeSet;
 
@@ -12,43 +12,43 @@ use crate::sheet::{self, Sheet};
 /// The clauses, in the order of 02.
 #[derive(Clone, Copy, Debug, PartialEq, Eq, PartialOrd, Ord, Hash)]
 pub enum Clause {
-    /// Sizes agree with the length (A1.3). If not, nothing else is asked.
+    /// Sizes agree with the length. If not, nothing else is asked.
     Sizes,
-    /// Kinds are 01's (A1.5).
+    /// Kinds are 01's.
     Kind,
-    /// Flags are 0 or 1, a receiver 0 to 2 (A1.6).
+    /// Flags are 0 or 1, a receiver 0 to 2.
     Flag,
-    /// Operators are 1 to 65,535 (A1.7).
+    /// Operators are 1 to 65,535.
     Operator,
-    /// A Char is a Unicode scalar value (A1.7).
+    /// A Char is a Unicode scalar value.
     Constant,
-    /// Counts fit the Rust's widths (A1.8).
+    /// Counts fit the Rust's widths.
     Width,
-    /// A CallRef has an argument (A1.9).
+    /// A CallRef has an argument.
     Argument,
-    /// Unused words are 0 (A1.10).
+    /// Unused words are 0.
     Unused,
-    /// Every index lies in its pool (A1.11).
+    /// Every index lies in its pool.
     PoolIndex,
-    /// Every text, node and slot lies in the sheet (A1.12).
+    /// Every text, node and slot lies in the sheet.
     SheetIndex,
-    /// Every run of steps or rows lies in its pool (A1.13).
+    /// Every run of steps or rows lies in its pool.
     Run,
-    /// The operands of a chain's steps lie in the chain (A1.14).
+    /// The operands of a chain's steps lie in the chain.
     Operand,
-    /// A jump goes forward (A1.15).
+    /// A jump goes forward.
     Forward,
-    /// A table's targets go forward from each Switch naming it (A1.16).
+    /// A table's targets go forward from each Switch naming it.
     TableForward,
-    /// Targets are at most the code's length (A1.15, A1.16).
+    /// Targets are at most the code's length.
     End,
-    /// All runs agree on the depth at each instruction (A1.17, A1.18).
+    /// All runs agree on the depth at each instruction.
     Agree,
-    /// Each step finds what it pops or needs (A1.17, A1.18).
+    /// Each step finds what it pops or needs.
     Needs,
-    /// One value remains at the end (A1.19).
+    /// One value remains at the end.
     Remains,
-    /// The reported depth is the greatest (A1.19).
+    /// The reported depth is the greatest.
     Depth,
 }
 
@@ -94,7 +94,7 @@ impl Faults {
 }
 
 /// The number for a sheet, an image and a lent scratch, and what becomes of
-/// the scratch (A1.1, A1.2).
+/// the scratch.
 pub fn check_image(sheet: &[u8], image: &[u32], scratch: &mut [u32]) -> u32 {
     let sheet = match sheet::read(sheet) {
         Ok(sheet) => sheet,
@@ -166,7 +166,7 @@ pub fn depths(sheet: &Sheet<'_>, image: &[u32]) -> Vec<Option<i64>> {
     Parts::of(sheet, image).depths()
 }
 
-/// A1.3.
+/// `Sizes`.
 fn sizes_agree(image: &[u32]) -> bool {
     const WIDTHS: [usize; 10] = [
         CODE_WORDS + 1,
@@ -280,7 +280,7 @@ impl<'i> Parts<'i> {
         self.records(self.at.ranges_at, RANGE_WORDS, self.at.ranges)
     }
 
-    /// A1.5.
+    /// `Kind`.
     fn kinds(&self, found: &mut Faults) {
         for (at, op) in self.code() {
             found.unless((CONST..=EVAL_AST).contains(&op[0]), Clause::Kind, at);
@@ -299,7 +299,7 @@ impl<'i> Parts<'i> {
         }
     }
 
-    /// A1.6.
+    /// `Flag`.
     fn flags(&self, found: &mut Faults) {
         for (at, op) in self.code() {
             match op[0] {
@@ -325,7 +325,7 @@ impl<'i> Parts<'i> {
         }
     }
 
-    /// A1.7, the tokens.
+    /// `Operator`.
     fn operators(&self, found: &mut Faults) {
         for (at, token) in self.records(self.at.tokens_at, 1, self.at.tokens) {
             let good = (1..=MAX_OPERATOR).contains(&token[0]);
@@ -333,7 +333,7 @@ impl<'i> Parts<'i> {
         }
     }
 
-    /// A1.7, the Chars.
+    /// `Constant`.
     fn characters(&self, found: &mut Faults) {
         for (at, constant) in self.constants() {
             if constant[0] == CHAR {
@@ -343,7 +343,7 @@ impl<'i> Parts<'i> {
         }
     }
 
-    /// A1.8.
+    /// `Width`.
     fn widths(&self, found: &mut Faults) {
         for (at, op) in self.code() {
             match op[0] {
@@ -362,7 +362,7 @@ impl<'i> Parts<'i> {
         }
     }
 
-    /// A1.9.
+    /// `Argument`.
     fn arguments(&self, found: &mut Faults) {
         for (at, op) in self.code() {
             if op[0] == CALL_REF {
@@ -371,7 +371,7 @@ impl<'i> Parts<'i> {
         }
     }
 
-    /// A1.10.
+    /// `Unused`.
     fn unused(&self, found: &mut Faults) {
         let mut zero = |at: usize, record: &[u32], words: &[usize]| {
             for word in words {
@@ -400,7 +400,7 @@ impl<'i> Parts<'i> {
         }
     }
 
-    /// A1.11.
+    /// `PoolIndex`.
     fn pool_indexes(&self, found: &mut Faults) {
         let mut below = |at: usize, index: u32, size: usize| {
             found.unless((index as usize) < size, Clause::PoolIndex, at);
@@ -443,7 +443,7 @@ impl<'i> Parts<'i> {
         }
     }
 
-    /// A1.12.
+    /// `SheetIndex`.
     fn sheet_indexes(&self, found: &mut Faults) {
         let mut below = |at: usize, index: u32, size: u64| {
             found.unless(u64::from(index) < size, Clause::SheetIndex, at);
@@ -492,7 +492,7 @@ impl<'i> Parts<'i> {
         }
     }
 
-    /// A1.13.
+    /// `Run`.
     fn runs(&self, found: &mut Faults) {
         for (at, chain) in self.chains() {
             found.unless(self.steps_inside(chain), Clause::Run, at + 3);
@@ -504,7 +504,7 @@ impl<'i> Parts<'i> {
         }
     }
 
-    /// A1.14: the most operands that a step of the chain asks for.
+    /// `Operand`: the most operands that a step of the chain asks for.
     fn operands(&self, found: &mut Faults) {
         let asked = self.steps().map(|(_, step)| {
             let word = |index: usize| i64::from(step[index]);
@@ -523,7 +523,7 @@ impl<'i> Parts<'i> {
         }
     }
 
-    /// A1.15, the lower limit.
+    /// `Forward`.
     fn forward(&self, found: &mut Faults) {
         for (place, (at, op)) in self.code().enumerate() {
             if jumps(op[0]) {
@@ -532,7 +532,7 @@ impl<'i> Parts<'i> {
         }
     }
 
-    /// A1.16, the lower limit: from the last Switch that names a table.
+    /// `TableForward`: from the last Switch that names a table.
     fn table_forward(&self, found: &mut Faults) {
         let mut last: Vec<Option<usize>> = vec![None; self.at.switches];
         for (place, (_, op)) in self.code().enumerate() {
@@ -567,7 +567,7 @@ impl<'i> Parts<'i> {
         ]
     }
 
-    /// The upper limits of A1.15 and A1.16.
+    /// `End`.
     fn end(&self, found: &mut Faults) {
         let mut within = |at: usize, target: u32| {
             let good = target as usize <= self.at.instructions;
@@ -598,7 +598,7 @@ impl<'i> Parts<'i> {
     }
 
     /// For each place the depth that the first way found there has, or none
-    /// where no run comes (A1.18). The end is the last place. A row has one
+    /// where no run comes. The end is the last place. A row has one
     /// target, so each row is followed once, for its first Switch.
     fn depths(&self) -> Vec<Option<i64>> {
         let count = self.at.instructions;
@@ -685,7 +685,7 @@ impl<'i> Parts<'i> {
         }
     }
 
-    /// Every way to the end arrives with depth 1 (A1.19).
+    /// Every way to the end arrives with depth 1 (`Remains`).
     fn remains(&self, depths: &[Option<i64>], found: &mut Faults) {
         let end = self.at.instructions;
         found.unless(end > 0, Clause::Remains, 0);
@@ -712,7 +712,7 @@ impl<'i> Parts<'i> {
     }
 
     /// The reported depth is the greatest at the start and after every step
-    /// (A1.19).
+    /// (`Depth`).
     fn reported(&self, depths: &[Option<i64>], found: &mut Faults) {
         let mut greatest = 0;
         for (place, (_, op)) in self.code().enumerate() {

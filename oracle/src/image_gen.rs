@@ -135,14 +135,7 @@ fn accepted(random: &mut Random, size: ImageSize) -> Vec<u8> {
         return plain(random);
     }
     loop {
-        let profile = *random.pick(&[
-            "expressions",
-            "chains",
-            "calls",
-            "switches",
-            "texts",
-            "modules",
-        ]);
+        let profile = *random.pick(gen::ACCEPTED);
         let sheet = gen::sheet(profile, random.next(), 0, sheet_size(random, size));
         if sheet::check(&sheet) == 0 {
             return sheet;
@@ -171,10 +164,12 @@ fn plain(random: &mut Random) -> Vec<u8> {
         let bytes = *random.pick(&["a", "", "xy"]);
         draft.text(bytes.as_bytes());
     }
-    if !draft.texts.is_empty() {
+    let named: Vec<u32> = (0..draft.texts.len() as u32)
+        .filter(|text| draft.texts[*text as usize].1 > 0)
+        .collect();
+    if !named.is_empty() {
         for _ in 0..random.below(4) {
-            let text = random.below(draft.texts.len()) as u32;
-            draft.locals.push(text);
+            draft.locals.push(*random.pick(&named));
         }
     }
     draft.to_bytes()
@@ -1510,7 +1505,7 @@ fn words(random: &mut Random) -> Vec<u32> {
         draft.names.push([word(random), word(random), word(random)]);
     }
     for _ in 0..few(random) {
-        draft.tokens.push(word(random) + 1);
+        draft.tokens.push(word(random).wrapping_add(1));
     }
     for _ in 0..few(random) {
         draft.residuals.push(word(random));

@@ -910,6 +910,8 @@ fn not_asked(rows: &mut Rows) {
     rows.right("equal names", NAMED, beside(twice));
     let empty = names(&[[0, 0, 2], [1, 1, 2]]);
     rows.right("a namespace of no bytes", EMPTY, beside(empty));
+    let name = names(&[[1, 0, 0], [1, 1, 0]]);
+    rows.right("a name of no bytes", EMPTY, beside(name));
     let float = ImageDraft {
         constants: vec![[4, 0, 0]],
         cases: vec![[2, 0]],

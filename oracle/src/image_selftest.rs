@@ -19,7 +19,7 @@ pub struct ImageFigures {
     /// Decided by brute force too.
     pub decided: u64,
     pub families: BTreeMap<&'static str, [u64; 2]>,
-    pub numbers: [u64; 14],
+    pub numbers: [u64; COUNTS],
     /// By the first clause that fails.
     pub clauses: BTreeMap<Clause, u64>,
     /// Images in which only one clause fails, by that clause and the kind of
@@ -57,12 +57,13 @@ impl ImageFigures {
                     .collect()
             )
         );
-        let numbers = self.numbers.iter().enumerate();
+        let numbers = ANSWERS.map(|number| (number, self.numbers[number as usize]));
         out += &format!(
             "answers: {}\n",
             list(
                 numbers
-                    .filter(|(_, count)| **count > 0)
+                    .into_iter()
+                    .filter(|(_, count)| *count > 0)
                     .map(|(number, count)| format!("{number}: {count}"))
                     .collect()
             )

@@ -44,8 +44,8 @@ impl Image {
     }
 }
 
-/// Lower a sheet without buffers, or say which of the numbers 1 to 10 turns it
-/// down.
+/// Lower a sheet without buffers, or say which of the numbers 1 to 10 or 14
+/// refuses the sheet.
 pub fn lower_sheet(sheet: &[u8]) -> Result<Image, u32> {
     lower_within(sheet, u64::MAX)
 }

@@ -9,7 +9,7 @@ use crate::random::Random;
 /// The edges, in the order in which the indices take them.
 pub const EDGES: &[&str] = &[
     "depth",
-    "deepest tree, alone and with a lower cause",
+    "deepest tree, alone and with a cause that goes before it",
     "ranges",
     "cases",
     "blocks",
@@ -32,9 +32,14 @@ pub const EDGES: &[&str] = &[
     "many names, constants, chains and locals",
     "arguments of a qualified call",
     "many names with namespaces, equal and not",
+    "name of the last of 65,535 locals",
+    "name of the last of 131,072 nodes",
+    "the last of 65,536 texts, without bytes",
+    "far too many emitted, beside an empty String and an empty name",
 ];
 
-/// The sheet for an index; there are two for each edge.
+/// The sheet for an index; there are two for each edge. An own name without bytes
+/// is past an edge, a text without bytes that is none is at it.
 pub fn sheet(index: u64, mut random: Random) -> Vec<u8> {
     let edge = (index / 2) as usize % EDGES.len();
     let over = index % 2 == 1;
@@ -127,7 +132,18 @@ pub fn sheet(index: u64, mut random: Random) -> Vec<u8> {
             let space = draft.text(b"m");
             (draft.nodes[0][6], draft.nodes[0][7]) = (space + 1, 9);
         }
-        _ => spaces(&mut draft, &mut random, over),
+        23 => spaces(&mut draft, &mut random, over),
+        24 => last_local(&mut draft, &mut random, over),
+        25 => last_node(&mut draft, &mut random, over),
+        26 => last_text(&mut draft, &mut random, over),
+        _ => {
+            far_too_many(&mut draft, &mut random, false);
+            let name = draft.text(b"");
+            let last = draft.nodes.iter().rposition(|node| node[0] == THIS);
+            let guard = last.expect("a guard");
+            let kind = if over { VARIABLE } else { STRING };
+            draft.nodes[guard] = [kind, 1, 0, name, 0, 0, 0, 0];
+        }
     }
     draft.to_bytes()
 }
@@ -184,7 +200,7 @@ fn deep(draft: &mut Draft, random: &mut Random, levels: usize) {
     }
 }
 
-/// As many levels as nodes, so 5; with a cause of 1 to 4 added, that one.
+/// As many levels as nodes, so 5; with a cause of 2 to 4 or of 14 added, that one.
 fn deepest(random: &mut Random, over: bool) -> Vec<u8> {
     let mut draft = Draft::new();
     let levels = MAX_NODES as usize;
@@ -199,10 +215,11 @@ fn deepest(random: &mut Random, over: bool) -> Vec<u8> {
     }
     if over {
         let last = levels - 1;
-        match random.below(4) {
+        match random.below(5) {
             0 => draft.nodes[last][2] = 1,
             1 => draft.texts[0] = (1, 1),
             2 => draft.nodes[last][3] = 1,
+            3 => draft.texts[0].1 = 0,
             _ => draft.nodes[last][0] = 26,
         }
     }
@@ -420,7 +437,7 @@ fn spaces(draft: &mut Draft, random: &mut Random, over: bool) {
         let start = if over { random.below(400) } else { 0 };
         let cut = *random.pick(&cuts);
         let cut = cut.max(start + 1);
-        let end = (cut + 2 + 16 * (index % 40)).min(draft.bytes.len());
+        let end = (cut + 2 + 16 * (1 + index % 40)).min(draft.bytes.len());
         draft.texts.push((start as u32, (cut - start) as u32));
         draft
             .texts
@@ -438,6 +455,61 @@ fn spaces(draft: &mut Draft, random: &mut Random, over: bool) {
         } else {
             draft.leaf_in(VARIABLE, [name, 0, 0], 3, (space, index));
         }
+    }
+    draft.close();
+}
+
+/// All locals there may be; past the edge the last one has a name without bytes.
+fn last_local(draft: &mut Draft, random: &mut Random, over: bool) {
+    let [name, none] = [&b"x"[..], b""].map(|text| draft.text(text));
+    draft.locals = vec![name; MAX_LOCALS as usize];
+    if over {
+        draft.locals[MAX_LOCALS as usize - 1] = none;
+    }
+    match random.below(3) {
+        0 => unit(draft),
+        1 => draft.leaf(VARIABLE, [name, 0, 0], 1),
+        _ => draft.leaf(STRING, [none, 0, 0], 1),
+    }
+}
+
+/// A node of a kind that has an own name, qualified or not.
+fn named_leaf(draft: &mut Draft, random: &mut Random, name: u32, other: u32) {
+    match random.below(6) {
+        0 => draft.leaf(VARIABLE, [name, 0, 0], 2),
+        1 => draft.leaf_in(VARIABLE, [name, 0, 0], 2, (other, 3)),
+        2 => draft.leaf(PROPERTY, [name, other, other], 2),
+        3 => draft.leaf(METHOD_CALL, [name, 0, 0], 2),
+        4 => draft.leaf(FN_CALL, [name, 0, 0], 2),
+        _ => draft.leaf_in(FN_CALL, [name, 0, 0], 2, (other, 3)),
+    }
+}
+
+/// All nodes there may be, each but the first with an own name, in an Array that is
+/// too long to be lowered; past the edge the last name has no bytes.
+fn last_node(draft: &mut Draft, random: &mut Random, over: bool) {
+    let [name, none] = [&b"x"[..], b""].map(|text| draft.text(text));
+    draft.open(ARRAY, [0, 0, 0], 1);
+    for _ in 2..MAX_NODES {
+        named_leaf(draft, random, name, none);
+    }
+    named_leaf(draft, random, if over { none } else { name }, name);
+    draft.close();
+}
+
+/// All texts there may be, of which only the last has no bytes; past the edge it is
+/// an own name.
+fn last_text(draft: &mut Draft, random: &mut Random, over: bool) {
+    for index in 1..MAX_TEXTS {
+        draft.text(index.to_string().as_bytes());
+    }
+    let none = draft.text(b"");
+    let name = random.below(none as usize) as u32;
+    draft.open(ARRAY, [0, 0, 0], 1);
+    draft.leaf(STRING, [none, 0, 0], 2);
+    named_leaf(draft, random, name, none);
+    if over {
+        named_leaf(draft, random, none, name);
     }
     draft.close();
 }

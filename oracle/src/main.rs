@@ -21,10 +21,10 @@ oracle lower [--image W] [--scratch W] [--program] [FILE|-]
     the buffers have 16384 words each where nothing else is given;
     with --program an input of over 65536 bytes is refused with 1
 oracle check FILE...
-    print the number (0, or 1 to 8) of each file
+    print the number (0, or 1 to 8 or 14) of each file
 oracle needs FILE...
     print what each file needs: the words of scratch that its lowering asks
-    for, or `refused` and the number (1 to 10)
+    for, or `refused` and the number (1 to 10 or 14)
 oracle gen --seed S --count N --profile P --out DIR [SIZE]
     write sheets as DIR/PROFILE-SEED-INDEX.sheet
 oracle gen --list-profiles
@@ -335,7 +335,7 @@ fn joined<T: ToString>(numbers: &[T]) -> String {
 
 fn run_table(arguments: &Arguments) -> Result<(), String> {
     let mut out = String::new();
-    let mut numbers = [0u64; 16];
+    let mut numbers = [0u64; COUNTS];
     let mut random = Random::new(arguments.number("--seed", 1)? ^ 0xB0F);
     arguments.series(|_, sheet| {
         let (image, scratch) = buffers(&mut random, &sheet);
@@ -363,7 +363,7 @@ fn run_vectors(arguments: &Arguments) -> Result<(), String> {
     let lower = arguments.flag("--lower");
     let mut random = Random::new(arguments.number("--seed", 1)? ^ 0xB0F);
     let mut out = Vec::new();
-    let mut numbers = [0u64; 16];
+    let mut numbers = [0u64; COUNTS];
     let count = arguments.number("--count", 100)?;
     put(&mut out, count as u32);
     arguments.series(|_, sheet| {
@@ -452,7 +452,7 @@ fn scratch_words(random: &mut Random, image: usize) -> usize {
 /// A sheet and its images, each with the words of a scratch.
 type Group = (Vec<u8>, Vec<(Vec<u32>, usize)>);
 
-/// A few sheets for each of the numbers 1 to 8, beside a right and a wrong
+/// A few sheets for each of the sheet's own refusals, beside a right and a wrong
 /// image, with enough scratch and without.
 fn refused_groups(seed: u64, groups: &mut Vec<Group>) {
     const SHEETS: usize = 5;
@@ -460,8 +460,10 @@ fn refused_groups(seed: u64, groups: &mut Vec<Group>) {
     let right = oracle::image_rows::rows().swap_remove(0).image;
     let mut wrong = right.clone();
     wrong.pop();
-    let mut left = [SHEETS; 9];
-    left[0] = 0;
+    let mut left = [0; COUNTS];
+    for number in SHEET_REFUSALS {
+        left[number as usize] = SHEETS;
+    }
     let mut index = 0;
     while left.iter().any(|left| *left > 0) {
         let sheet = gen::sheet("damaged", seed, index, Size::SMALL);
@@ -511,7 +513,7 @@ fn run_image_vectors(arguments: &Arguments) -> Result<(), String> {
         groups.push((sheet, kept));
     }
     let mut out = Vec::new();
-    let mut numbers = [0u64; 16];
+    let mut numbers = [0u64; COUNTS];
     put(&mut out, groups.len() as u32);
     for (sheet, records) in &groups {
         put(&mut out, sheet.len() as u32);
@@ -610,7 +612,7 @@ fn run_compare(arguments: &Arguments) -> Result<bool, String> {
         .collect();
     paths.sort();
     let (mut same, mut different) = (0u64, 0u64);
-    let mut numbers = [0u64; 16];
+    let mut numbers = [0u64; COUNTS];
     for path in &paths {
         let sheet = fs::read(path).map_err(|error| format!("{}: {error}", path.display()))?;
         let expected = printed(&sheet, image, scratch, !arguments.flag("--any-size"));
@@ -662,11 +664,11 @@ fn fed(program: &str, arguments: &[String], input: &[u8]) -> Result<Vec<u8>, Str
     Ok(output.stdout)
 }
 
-fn report(numbers: &[u64]) {
-    let parts: Vec<String> = numbers
+fn report(numbers: &[u64; COUNTS]) {
+    let parts: Vec<String> = ANSWERS
         .iter()
-        .enumerate()
-        .filter(|(_, count)| **count > 0)
+        .map(|number| (number, numbers[*number as usize]))
+        .filter(|(_, count)| *count > 0)
         .map(|(number, count)| format!("{number}: {count}"))
         .collect();
     eprintln!("answers {}", parts.join(", "));

@@ -160,8 +160,8 @@ pub fn series(
     count: u64,
     size: Size,
     figures: &mut Figures,
-) -> Result<[u64; 16], String> {
-    let mut numbers = [0u64; 16];
+) -> Result<[u64; COUNTS], String> {
+    let mut numbers = [0u64; COUNTS];
     for index in 0..count {
         let bytes = gen::sheet(profile, seed, index, size);
         let mut random = Random::for_index(seed ^ 0x5E1F, index);

@@ -1,4 +1,5 @@
-//! The sheet reader, with the refusals 1 to 8. Written from documents 01 and 02.
+//! The sheet reader, with the refusals 1 to 8, of which 14 is one. Written from
+//! documents 01 and 02.
 //!
 //! Each number is one predicate over the whole sheet. None of them recurses.
 
@@ -298,6 +299,21 @@ impl<'a> Sheet<'a> {
         }) && (0..self.locals).all(|index| self.local(index) < texts)
     }
 
+    // ---- number 14 ----
+
+    /// Whether all own names have bytes: those of Variables, Properties,
+    /// MethodCalls, FnCalls and locals. Only after number 4.
+    pub fn names_ok(&self) -> bool {
+        let has_bytes = |text: u32| self.text_bounds(text as usize).1 > 0;
+        (0..self.nodes).all(|index| {
+            let node = self.node(index);
+            match node.kind {
+                VARIABLE | PROPERTY | METHOD_CALL | FN_CALL => has_bytes(node.a),
+                _ => true,
+            }
+        }) && (0..self.locals).all(|index| has_bytes(self.local(index)))
+    }
+
     // ---- number 5 ----
 
     /// Whether the tree is at most 64 deep.
@@ -467,7 +483,8 @@ fn character_length(bytes: &[u8]) -> usize {
     }
 }
 
-/// Read a sheet, or say which of the numbers 1 to 8 refuses it.
+/// Read a sheet, or say which of the numbers 1 to 8 refuses it: the first that
+/// fits in the order 1 to 4, 14, 5 to 8.
 pub fn read(sheet: &[u8]) -> Result<Sheet<'_>, u32> {
     let sheet = Sheet::sized(sheet).ok_or(REFUSED_SIZE)?;
     if !sheet.shape_ok() {
@@ -478,6 +495,9 @@ pub fn read(sheet: &[u8]) -> Result<Sheet<'_>, u32> {
     }
     if !sheet.numbers_ok() {
         return Err(REFUSED_NUMBER);
+    }
+    if !sheet.names_ok() {
+        return Err(REFUSED_NAME);
     }
     if !sheet.depth_ok() {
         return Err(REFUSED_DEPTH);
@@ -494,7 +514,7 @@ pub fn read(sheet: &[u8]) -> Result<Sheet<'_>, u32> {
     Ok(sheet)
 }
 
-/// 0, or which of the numbers 1 to 8 turns the sheet down.
+/// 0, or which of the numbers 1 to 8 or 14 refuses the sheet.
 pub fn check(sheet: &[u8]) -> u32 {
     match read(sheet) {
         Ok(_) => 0,

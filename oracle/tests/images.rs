@@ -61,16 +61,94 @@ fn numbers_and_scratch() {
 }
 
 #[test]
+fn an_empty_name_goes_before_the_image() {
+    // One Unit beside the texts `a` and one without bytes, and a local of the name
+    // `a` (number 0) or the empty one (1). The image is one Unit.
+    let sheet = |local: u8| {
+        let words = [
+            1,
+            2,
+            1,
+            1,
+            2,
+            1,
+            0,
+            0,
+            0,
+            0,
+            0,
+            0,
+            0,
+            0,
+            1,
+            1,
+            0,
+            97,
+            local as u32,
+        ];
+        words
+            .iter()
+            .flat_map(|word: &u32| word.to_le_bytes())
+            .collect::<Vec<u8>>()
+    };
+    let right = vec![1, 0, 0, 0, 0, 0, 0, 0, 0, 0, 1, 1, 2, 0, 0, 0, 0];
+    let mut wrong = right.clone();
+    wrong[11] = 2;
+    for (image, words, expected) in [
+        (&right, 17, 0),
+        (&right, 16, 11),
+        (&right, 0, 11),
+        (&wrong, 17, 13),
+        (&wrong, 16, 11),
+    ] {
+        let mut scratch = vec![5; words];
+        assert_eq!(check_image(&sheet(0), image, &mut scratch), expected);
+        let mut scratch = vec![5; words];
+        assert_eq!(check_image(&sheet(1), image, &mut scratch), 14);
+        assert!(scratch.iter().all(|word| *word == 5));
+    }
+    // The image's own names are not asked for bytes: text 1 in the pool, without
+    // a mark, with one, and with itself as namespace.
+    let mut image = vec![1, 0, 3, 0, 0, 0, 0, 0, 0, 0, 1, 1, 2, 0, 0, 0, 0];
+    image.extend([1, 0, 0, 1, 1, 0, 1, 0, 2]);
+    let mut scratch = vec![5; image.len()];
+    assert_eq!(check_image(&sheet(0), &image, &mut scratch), 0);
+    assert!(scratch.iter().all(|word| *word == 0));
+    assert_eq!(check_image(&sheet(1), &image, &mut scratch), 14);
+    // Used by a LoadNamed, which no sheet that is accepted lowers to.
+    image[12] = 5;
+    assert_eq!(check_image(&sheet(0), &image, &mut scratch), 0);
+}
+
+/// Pairs with names without bytes in the pool are accepted, and there are sheets
+/// that get 14.
+#[test]
+fn empty_names_come_up() {
+    let (mut accepted, mut refused) = (0, 0);
+    for index in 0..20_000 {
+        let pair = image_gen::pair(5, index, ImageSize::SMALL);
+        let mut scratch = vec![0; pair.image.len()];
+        match check_image(&pair.sheet, &pair.image, &mut scratch) {
+            0 => {
+                let sheet = sheet::read(&pair.sheet).unwrap();
+                let sections = oracle::depth::Sections::of(&pair.image);
+                accepted += usize::from((0..sections.names).any(|name| {
+                    let text = pair.image[sections.names_at + 3 * name];
+                    sheet.text(text).is_empty()
+                }));
+            }
+            14 => refused += 1,
+            _ => (),
+        }
+    }
+    assert!(accepted > 300, "{accepted} accepted");
+    assert!(refused > 30, "{refused} refused");
+}
+
+#[test]
 fn what_lowering_makes_is_well_made() {
     let mut images = 0;
-    for profile in [
-        "expressions",
-        "chains",
-        "calls",
-        "switches",
-        "texts",
-        "modules",
-    ] {
+    for profile in gen::ACCEPTED {
         for (size, count) in [(Size::SMALL, 1_000), (Size::NORMAL, 200)] {
             for index in 0..count {
                 let bytes = gen::sheet(profile, 41, index, size);

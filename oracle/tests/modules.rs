@@ -194,7 +194,7 @@ fn number_4_namespaces() {
 }
 
 #[test]
-fn the_lowest_number_wins_with_namespaces() {
+fn the_first_number_wins_with_namespaces() {
     // 1 before 2: a namespace on a Unit, and a byte more.
     let mut sheet = sheet_of(&[[UNIT, 1, 0, 0, 0, 0, 1, 0]], &[1], &["x"], &[]);
     assert_eq!(number(&sheet), 2);
@@ -429,19 +429,21 @@ fn the_first_met_triple_is_kept() {
     ];
     // `a:::b`, `a::b`, `a::::b` in three ways, `b:::a`, and `a::b` again.
     assert_eq!(pooled(&near), [0, 1, 2, 5]);
-    // No own name: `m::`, also as the plain text; `m::!` in three ways.
-    let empty = [
-        ("m", "", false),
+    // Own names of signs: `m::`, `m::!` in three ways, `m::!!` in three ways,
+    // `::`, and `::!` in two ways.
+    let signs = [
         ("", "m::", false),
-        ("m", "", true),
         ("m", "!", false),
         ("", "m::!", false),
+        ("", "m::", true),
         ("m", "!", true),
         ("", "m::!!", false),
-        ("", "", false),
+        ("", "m::!", true),
         ("", "::", false),
+        ("", "::!", false),
+        ("", "::", true),
     ];
-    assert_eq!(pooled(&empty), [0, 2, 5, 7, 8]);
+    assert_eq!(pooled(&signs), [0, 1, 4, 7, 8]);
     // A namespace of no bytes has no separator.
     assert_eq!(pooled(&[("", "x", false), ("", "::x", false)]), [0, 1]);
     // A prefix: shorter names are not equal to longer ones.
@@ -450,7 +452,7 @@ fn the_first_met_triple_is_kept() {
         ("a", "bb", false),
         ("aa", "b", false),
         ("a", "b", true),
-        ("a", "", false),
+        ("", "a::", false),
     ];
     assert_eq!(pooled(&prefixes), [0, 1, 2, 3, 4]);
     // As long, split elsewhere, and with one byte that differs.

@@ -589,6 +589,279 @@ fn number_4_blocks() {
     }
 }
 
+// ---- 14 ----
+
+/// The texts x, with number 0, and the empty one, with number 1.
+fn named(nodes: &[[u32; 8]], locals: &[u32]) -> Vec<u8> {
+    sheet_of(nodes, &vec![1; nodes.len()], &["x", ""], locals)
+}
+
+/// The kinds with an own name, and the namespaces that each may have: none, x,
+/// and the empty text, which counts as none.
+const OWN: [(u32, &[u32]); 4] = [
+    (VARIABLE, &[0, 1, 2]),
+    (PROPERTY, &[0]),
+    (METHOD, &[0]),
+    (CALL, &[0, 1, 2]),
+];
+
+/// Each node with an own name, once with this text.
+fn own_names(text: u32) -> Vec<[u32; 8]> {
+    let all = OWN.iter();
+    all.flat_map(|(kind, spaces)| {
+        spaces
+            .iter()
+            .map(|space| [*kind, 1, 0, text, 0, 0, *space, 0])
+    })
+    .collect()
+}
+
+const W: [u32; 8] = [UNIT, 1, 0, 0, 0, 0, 0, 0];
+
+/// An Array of these nodes, each without children.
+fn array_of(leaves: &[[u32; 8]]) -> Vec<[u32; 8]> {
+    let count = leaves.len() as u32;
+    let mut nodes = vec![[ARRAY, count + 1, count, 0, 0, 0, 0, 0]];
+    nodes.extend_from_slice(leaves);
+    nodes
+}
+
+#[test]
+fn number_14_in_nodes() {
+    for (text, expected) in [(0, 0), (1, 14)] {
+        for node in own_names(text) {
+            // Node 0, the first node below it, the last one, one between.
+            assert_eq!(number(&named(&[node], &[])), expected, "{node:?}");
+            for leaves in [[node, W, W], [W, W, node], [W, node, W]] {
+                assert_eq!(number(&named(&array_of(&leaves), &[])), expected);
+            }
+            // Beside locals with names.
+            assert_eq!(number(&named(&[node], &[0, 0])), expected);
+        }
+        // Calls and methods with arguments, capture and operator.
+        for call in [
+            [METHOD, 3, 2, text, 0, 0, 0, 0],
+            [CALL, 3, 2, text, 1, 0, 0, 0],
+            [CALL, 3, 2, text, 0, 40, 1, 7],
+        ] {
+            assert_eq!(number(&named(&[call, W, W], &[])), expected);
+        }
+        // As root and steps of a chain: v.p and v.m().
+        for step in [PROPERTY, METHOD] {
+            let step = [step, 1, 0, text, 0, 0, 0, 0];
+            let root = [VARIABLE, 1, 0, 0, 0, 0, 0, 0];
+            let nodes = [[DOT, 3, 2, 0, 0, 0, 0, 0], root, step];
+            assert_eq!(number(&named(&nodes, &[])), expected);
+        }
+    }
+}
+
+#[test]
+fn number_14_in_locals() {
+    for (text, expected) in [(0, 0), (1, 14)] {
+        for locals in [vec![text], vec![text, 0], vec![0, text], vec![0, text, 0]] {
+            assert_eq!(number(&named(&[W], &locals)), expected);
+            // Beside a variable of the name x.
+            let variable = [VARIABLE, 1, 0, 0, 0, 0, 0, 0];
+            assert_eq!(number(&named(&[variable], &locals)), expected);
+        }
+        let mut locals = vec![0; 65_535];
+        locals[65_534] = text;
+        assert_eq!(number(&named(&[W], &locals)), expected);
+    }
+    // A local and a variable that has its name, which both are empty.
+    let variable = [VARIABLE, 1, 0, 1, 0, 0, 0, 0];
+    assert_eq!(number(&named(&[variable], &[1])), 14);
+}
+
+#[test]
+fn number_14_in_nodes_not_reached() {
+    for (text, expected) in [(0, 0), (1, 14)] {
+        for node in own_names(text) {
+            // Below a MethodCall outside a chain.
+            let nodes = [[METHOD, 2, 1, 0, 0, 0, 0, 0], node];
+            assert_eq!(number(&named(&nodes, &[])), expected);
+            // The 256th argument of a call, the 65,536th element of an array.
+            for (kind, count) in [(CALL, 256), (ARRAY, 65_536)] {
+                let mut nodes = array_of(&vec![W; count]);
+                nodes[0][0] = kind;
+                nodes[count] = node;
+                assert_eq!(number(&named(&nodes, &[])), expected);
+            }
+            // Guard and body of a block that nothing names, and a body behind a
+            // guard that is constant false.
+            for at in [2, 3] {
+                let mut nodes = vec![[SWITCH, 4, 3, 1, 0, 0, 0, 0], W, W, W];
+                nodes[at] = node;
+                assert_eq!(number(&named(&nodes, &[])), expected);
+            }
+            let nodes = [
+                [SWITCH, 7, 4, 1, 1, 0, 0, 0],
+                W,
+                [BOOL, 1, 0, 0, 0, 0, 0, 0],
+                node,
+                [CASE, 3, 2, 0, 0, 0, 0, 0],
+                [INT, 1, 0, 5, 0, 0, 0, 0],
+                [REF, 1, 0, 0, 0, 0, 0, 0],
+            ];
+            assert_eq!(number(&named(&nodes, &[])), expected);
+            // Beyond a step that is no step: x.(x).node.
+            let nodes = [
+                [DOT, 5, 2, 0, 0, 0, 0, 0],
+                [VARIABLE, 1, 0, 0, 0, 0, 0, 0],
+                [DOT, 3, 2, 0, 0, 0, 0, 0],
+                [VARIABLE, 1, 0, 0, 0, 0, 0, 0],
+                node,
+            ];
+            assert_eq!(number(&named(&nodes, &[])), expected);
+        }
+    }
+}
+
+#[test]
+fn what_may_have_no_bytes() {
+    // An unused text.
+    assert_eq!(number(&named(&[W], &[])), 0);
+    assert_eq!(number(&named(&own_names(0)[..1], &[0])), 0);
+    // Getters and setters, Strings, namespaces of variables and calls.
+    for node in [
+        [PROPERTY, 1, 0, 0, 1, 0, 0, 0],
+        [PROPERTY, 1, 0, 0, 0, 1, 0, 0],
+        [PROPERTY, 1, 0, 0, 1, 1, 0, 0],
+        [STRING, 1, 0, 1, 0, 0, 0, 0],
+        [VARIABLE, 1, 0, 0, 0, 0, 2, 5],
+        [CALL, 1, 0, 0, 0, 0, 2, 5],
+    ] {
+        assert_eq!(number(&named(&[node], &[])), 0, "{node:?}");
+        assert_eq!(number(&named(&array_of(&[node, W, node]), &[0])), 0);
+    }
+    // A property of a chain: x.x with getter and setter without bytes.
+    let nodes = [
+        [DOT, 3, 2, 0, 0, 0, 0, 0],
+        [VARIABLE, 1, 0, 0, 0, 0, 2, 5],
+        [PROPERTY, 1, 0, 0, 1, 1, 0, 0],
+    ];
+    assert_eq!(number(&named(&nodes, &[0])), 0);
+    // The value of a Case.
+    let nodes = [
+        [SWITCH, 4, 2, 0, 1, 0, 0, 0],
+        W,
+        [CASE, 2, 1, 0, 0, 0, 0, 0],
+        [STRING, 1, 0, 1, 0, 0, 0, 0],
+    ];
+    assert_eq!(number(&named(&nodes, &[0])), 0);
+    // Numbers in fields of other kinds are no texts: 1 is the empty one's.
+    for nodes in [
+        vec![[BOOL, 1, 0, 1, 0, 0, 0, 0]],
+        vec![[INT, 1, 0, 1, 1, 0, 0, 0]],
+        vec![[FLOAT, 1, 0, 1, 1, 0, 0, 0]],
+        vec![[CHAR, 1, 0, 1, 0, 0, 0, 0]],
+        vec![[DOT, 3, 2, 1, 0, 0, 0, 0], W, W],
+        vec![[INDEX, 3, 2, 1, 0, 0, 0, 0], W, W],
+        vec![[CALL, 1, 0, 0, 1, 1, 0, 0]],
+        vec![[SWITCH, 4, 3, 1, 0, 1, 0, 0], W, W, W],
+    ] {
+        assert_eq!(number(&named(&nodes, &[0])), 0, "{nodes:?}");
+    }
+    let nodes = [
+        [SWITCH, 12, 7, 2, 1, 1, 0, 0],
+        W,
+        W,
+        W,
+        W,
+        W,
+        [CASE, 3, 2, 0, 0, 0, 0, 0],
+        [INT, 1, 0, 1, 0, 0, 0, 0],
+        [REF, 1, 0, 1, 0, 0, 0, 0],
+        [RANGE, 3, 2, 1, 1, 0, 0, 0],
+        [INT, 1, 0, 1, 0, 0, 0, 0],
+        [INT, 1, 0, 1, 0, 0, 0, 0],
+    ];
+    assert_eq!(number(&named(&nodes, &[0])), 0);
+}
+
+#[test]
+fn number_14_goes_by_the_length() {
+    // Text 0 in the bytes `é`, wherever it starts; a zero byte or a space is a byte.
+    let variable = |bytes: &str, start: u32, length: u32| {
+        let mut sheet = with_positions(&[[VARIABLE, 1, 0, 0, 0, 0]], &[bytes], &[]);
+        set_word(&mut sheet, 4 + 9, start);
+        set_word(&mut sheet, 4 + 9 + 1, length);
+        number(&sheet)
+    };
+    assert_eq!(variable("é", 0, 2), 0);
+    for start in 0..3 {
+        assert_eq!(variable("é", start, 0), 14, "{start}");
+    }
+    assert_eq!(variable("é", 3, 0), 3);
+    assert_eq!(variable("", 0, 0), 14);
+    for byte in ["\0", " ", "!"] {
+        assert_eq!(variable(byte, 0, 1), 0);
+    }
+    // Two texts at one place, of which the node names the longer one.
+    let mut sheet = with_positions(&[[VARIABLE, 1, 0, 0, 0, 0]], &["x", "y"], &[]);
+    set_word(&mut sheet, 4 + 9 + 1, 0);
+    set_word(&mut sheet, 4 + 9 + 3, 0);
+    assert_eq!(number(&sheet), 0);
+    set_word(&mut sheet, 4 + 3, 1);
+    assert_eq!(number(&sheet), 14);
+}
+
+#[test]
+fn number_14_among_the_later_ones() {
+    // Each sheet with a local of the name x (number 0) or the empty one (1).
+    for (local, refused) in [(0, false), (1, true)] {
+        let answer =
+            |nodes: &[[u32; 6]], texts: &[&str]| number(&with_positions(nodes, texts, &[local]));
+        let or = |number: u32| if refused { 14 } else { number };
+        // 5: 65 levels.
+        let mut deep: Vec<[u32; 6]> = (0..64).map(|up| [AND, 65 - up, 1, 0, 0, 0]).collect();
+        deep.push(U);
+        assert_eq!(answer(&deep, &["x", ""]), or(5));
+        // 9: `eval`, text 2.
+        let eval = [CALL, 1, 0, 2, 0, 0];
+        assert_eq!(answer(&[eval], &["x", "", "eval"]), or(9));
+        // 10.
+        assert_eq!(answer(&emitting(262_144), &["x", ""]), or(10));
+        // 11 and 12, by the lent buffers. One Unit: 16 + 16 + 4,096 words of
+        // scratch, 12 + 5 words of the image.
+        let unit = with_positions(&[U], &["x", ""], &[local]);
+        for (image, scratch, expected) in [
+            (17, 4_128, 0),
+            (16, 4_128, 12),
+            (17, 4_127, 11),
+            (16, 4_127, 11),
+            (0, 0, 11),
+        ] {
+            let (mut image, mut scratch) = (vec![7; image], vec![7; scratch]);
+            let (number, words) = oracle::lower(&unit, &mut image, &mut scratch);
+            assert_eq!(number, or(expected));
+            if refused {
+                assert_eq!(words, 0);
+                assert!(image.iter().chain(&scratch).all(|word| *word == 7));
+            }
+        }
+        let needed = if refused { (14, 0) } else { (0, 4_128) };
+        assert_eq!(oracle::needs(&unit), needed);
+        assert_eq!(oracle::check(&unit), or(0));
+    }
+}
+
+#[test]
+fn deepest_tree_with_an_empty_name() {
+    // 131,072 levels: 14 at the bottom goes before 5.
+    let sheet = |text: u32| {
+        let mut nodes: Vec<[u32; 6]> = (1..131_072)
+            .map(|up| [ARRAY, 131_073 - up, 1, 0, 0, 0])
+            .collect();
+        nodes.push([VARIABLE, 1, 0, text, 0, 0]);
+        number(&with_positions(&nodes, &["x", ""], &[]))
+    };
+    assert_eq!(sheet(0), 5);
+    assert_eq!(sheet(1), 14);
+    assert_eq!(sheet(2), 4);
+}
+
 // ---- 5 ----
 
 fn nested(levels: u32) -> Vec<u8> {
@@ -1062,6 +1335,8 @@ fn needs_by_counts() {
 #[test]
 fn needs_refused() {
     assert_eq!(need(&[]), (1, 0));
+    assert_eq!(need(&named(&own_names(1)[..1], &[])), (14, 0));
+    assert_eq!(need(&named(&[W], &[1])), (14, 0));
     assert_eq!(need(&with_positions(&[EVAL], &TEXTS, &[])), (9, 0));
     assert_eq!(need(&with_positions(&emitting(262_144), &[], &[])), (10, 0));
 }
@@ -1069,53 +1344,75 @@ fn needs_refused() {
 // ---- several causes at once ----
 
 #[test]
-fn the_lowest_number_wins() {
-    // A switch with a cause of each number from 2 to 8; taking one away shows
-    // the next.
-    let build = |causes: &[u32]| {
+fn the_first_number_wins() {
+    // A switch with a cause of each number from 2 to 8, and 14; taking one away
+    // shows the next. `empty` is the node or local with the empty name.
+    let build = |causes: &[u32], empty: Option<[u32; 8]>| {
         let has = |number: u32| causes.contains(&number);
-        let k = if has(6) { 65 } else { 1 };
-        let mut nodes = vec![[SWITCH, 0, 0, k, 2, 0]];
+        let k = if has(6) { 65 } else { 2 };
+        let mut nodes = vec![full([SWITCH, 0, 0, k, 2, 0], 0, 0)];
+        let mut node = |node: [u32; 6]| nodes.push(full(node, 0, 0));
         // The subject, 64 levels where 5 is asked for, which with node 0 is 65.
         let levels = if has(5) { 64 } else { 1 };
         for level in 0..levels {
             let last = level + 1 == levels;
-            nodes.push(if last {
-                if has(8) {
-                    [23, 1, 0, 0, 0, 0]
-                } else {
-                    U
-                }
-            } else {
-                [AND, levels - level, 1, 0, 0, 0]
+            node(match last {
+                true if has(8) => [23, 1, 0, 0, 0, 0],
+                true => U,
+                false => [AND, levels - level, 1, 0, 0, 0],
             });
         }
-        for _ in 0..k {
-            nodes.push(if has(4) { [VARIABLE, 1, 0, 9, 0, 0] } else { U });
-            nodes.push(if has(2) { [UNIT, 1, 0, 1, 0, 0] } else { U });
+        for block in 0..k {
+            node(match block {
+                0 if has(4) => [VARIABLE, 1, 0, 9, 0, 0],
+                _ => U,
+            });
+            node(if has(2) { [UNIT, 1, 0, 1, 0, 0] } else { U });
         }
         for value in 0..2 {
-            nodes.push([CASE, 2, 1, 0, 0, 0]);
-            nodes.push([INT, 1, 0, if has(7) { 4 } else { value }, 0, 0]);
+            node([CASE, 2, 1, 0, 0, 0]);
+            node([INT, 1, 0, if has(7) { 4 } else { value }, 0, 0]);
         }
         nodes[0][1] = nodes.len() as u32;
         nodes[0][2] = 1 + 2 * k + 2;
-        let mut sheet = with_positions(&nodes, &["x"], &[]);
+        let mut locals = vec![0];
+        match empty {
+            Some(node) if has(14) => {
+                // The guard of block 1.
+                nodes[1 + levels as usize + 2] = node;
+            }
+            None if has(14) => locals.push(1),
+            _ => (),
+        }
+        let positions = vec![1; nodes.len()];
+        let mut sheet = sheet_of(&nodes, &positions, &["x", ""], &locals);
         if has(3) {
             // The length of text 0.
-            set_word(&mut sheet, 4 + 9 * nodes.len() + 1, 2);
+            set_word(&mut sheet, 4 + 9 * nodes.len() + 2, 2);
         }
         if has(1) {
             sheet.push(0);
         }
         number(&sheet)
     };
-    let all = [1, 2, 3, 4, 5, 6, 7, 8];
-    for first in 0..all.len() {
-        assert_eq!(build(&all[first..]), all[first]);
-    }
-    assert_eq!(build(&[]), 0);
-    for number in all {
-        assert_eq!(build(&[number]), number);
+    let order = [1, 2, 3, 4, 14, 5, 6, 7, 8];
+    let names = [
+        None,
+        Some([VARIABLE, 1, 0, 1, 0, 0, 0, 0]),
+        Some([VARIABLE, 1, 0, 1, 0, 0, 1, 9]),
+        Some([PROPERTY, 1, 0, 1, 0, 0, 0, 0]),
+        Some([METHOD, 1, 0, 1, 0, 0, 0, 0]),
+        Some([CALL, 1, 0, 1, 0, 0, 0, 0]),
+        Some([CALL, 1, 0, 1, 0, 0, 1, 9]),
+    ];
+    for empty in names {
+        assert_eq!(build(&[], empty), 0);
+        for (first, number) in order.into_iter().enumerate() {
+            assert_eq!(build(&[number], empty), number);
+            assert_eq!(build(&order[first..], empty), number);
+            for later in &order[first + 1..] {
+                assert_eq!(build(&[number, *later], empty), number, "{later}");
+            }
+        }
     }
 }

@@ -1,5 +1,7 @@
 //! The proved lowering of rule sheets into images, and the check of an image beside its sheet (`include/sheet_lower.h`), as safe functions without
-//! dependencies and without a heap. A sheet's node has eight words; a sheet with nodes of six words, as before version 0.4.0, is refused with 1.
+//! dependencies and without a heap. A sheet's node has eight words; a sheet with nodes of six words, as before version 0.4.0, is refused with 1. Since
+//! version 0.5.0 a sheet in which a name has no bytes is refused with 14, which goes between 4 and 5 and counts among the numbers 1 to 8: where 1 to 8,
+//! 1 to 10 or 1 to 11 is said here, 14 is meant too.
 //!
 //! What is said of answers and buffers is proved of the library for every sheet, every image and every buffer.
 
@@ -54,7 +56,7 @@ mod sys {
     }
 }
 
-/// Why a sheet or an image is refused: the first of the numbers 1 to 13 that fits.
+/// Why a sheet or an image is refused: the first of the numbers 1 to 14 that fits, in the order 1 to 4, 14, 5 to 13.
 // Kept: the number, here and in `cause`. It is what the C interface answers, and callers have it as a public field.
 #[derive(Clone, Copy, Debug, PartialEq, Eq)]
 pub struct Refused(pub u32);
@@ -67,6 +69,7 @@ impl Refused {
             2 => "a node's kind, shape or field is wrong",
             3 => "a text lies outside its bytes, or is malformed",
             4 => "a text number or a block number does not exist",
+            14 => "a Variable, Property, MethodCall, FnCall or local has a name of no bytes",
             5 => "the tree is deeper than 64",
             6 => "over 64 blocks, cases, ranges, or Refs in one case",
             7 => "two cases of equal kind and value",
@@ -97,13 +100,13 @@ fn answered(number: u32) -> Result<(), Refused> {
     }
 }
 
-/// Checks a sheet: which of the numbers 1 to 8 refuses it, if any does. `lower` makes the same check by itself.
+/// Checks a sheet: which of the numbers 1 to 8 (14 among them) refuses it, if any does. `lower` makes the same check by itself.
 pub fn check(sheet: &[u8]) -> Result<(), Refused> {
     // The pointer and the length are those of a slice, and the function only reads.
     answered(unsafe { sys::sheet_check(sheet.as_ptr(), sheet.len()) })
 }
 
-/// How many words of scratch the lowering of a sheet needs, or which of the numbers 1 to 10 refuses it whatever is lent.
+/// How many words of scratch the lowering of a sheet needs, or which of the numbers 1 to 10 (14 among them) refuses it whatever is lent.
 ///
 /// With fewer words `lower` answers 11. With so many it lowers the sheet, or answers 12 where the image is longer than its buffer.
 pub fn needs(sheet: &[u8]) -> Result<usize, Refused> {
@@ -115,8 +118,8 @@ pub fn needs(sheet: &[u8]) -> Result<usize, Refused> {
 
 /// Lowers a sheet into the front of `image`, and answers that part.
 ///
-/// On success the rest of `image` is kept and the scratch is zeroed. Under the numbers 1 to 11 both buffers are kept; under 12 the image is kept
-/// and the scratch is zeroed.
+/// On success the rest of `image` is kept and the scratch is zeroed. Under the numbers 1 to 11 (14 among them) both buffers are kept; under 12 the image
+/// is kept and the scratch is zeroed.
 pub fn lower<'a>(sheet: &[u8], image: &'a mut [u32], scratch: &mut [u32]) -> Result<&'a [u32], Refused> {
     let mut words = 0u64;
     // Pointers and lengths are those of three slices and a number, of which the mutable ones overlap nothing, as Rust's references see to.
@@ -140,8 +143,8 @@ pub fn lower<'a>(sheet: &[u8], image: &'a mut [u32], scratch: &mut [u32]) -> Res
 /// Every image that `lower` makes of a sheet is well made for it; so may be images of another compiler, and what they do is not compared with what the
 /// sheet says. The image is all of `image`: of a longer buffer, lend the part that the image fills.
 ///
-/// On success and under the number 13 all of the scratch is zeroed. Under 1 to 8 (the sheet's own) and 11 (the scratch is too short) it is kept. No other
-/// number occurs.
+/// On success and under the number 13 all of the scratch is zeroed. Under 1 to 8 (the sheet's own, 14 among them) and 11 (the scratch is too short) it is
+/// kept. No other number occurs.
 pub fn check_image(sheet: &[u8], image: &[u32], scratch: &mut [u32]) -> Result<(), Refused> {
     // Pointers and lengths are those of three slices, of which the mutable one overlaps neither of the others, as Rust's references see to.
     let number = unsafe {

@@ -10,7 +10,7 @@
 //! the `memset` below. Where the scratch is not longer, the closed pages are right behind it.
 
 use bench::guard::{Guarded, Touch};
-use oracle::format::SCRATCH_BASE;
+use oracle::format::{ANSWERS, COUNTS, SCRATCH_BASE};
 use oracle::gen::{self, Size, PROFILES};
 use oracle::random::Random;
 use std::collections::BTreeMap;
@@ -80,7 +80,7 @@ struct Tally {
     largest: usize,
     profiles: BTreeMap<&'static str, u64>,
     damaged: u64,
-    numbers: [u64; 13],
+    numbers: [u64; COUNTS],
     images: BTreeMap<&'static str, u64>,
     scratches: BTreeMap<&'static str, u64>,
     /// Calls with closed pages, and those where the clearing came to them.
@@ -234,8 +234,10 @@ impl Driver {
         };
         list("profiles", &tally.profiles);
         println!("copies damaged here: {}", tally.damaged);
-        let numbers: Vec<String> = (0..13)
-            .map(|number| format!("{number}: {}", tally.numbers[number]))
+        // All but 13, which no lowering gives.
+        let numbers: Vec<String> = ANSWERS[..COUNTS - 1]
+            .iter()
+            .map(|number| format!("{number}: {}", tally.numbers[*number as usize]))
             .collect();
         println!("answers: {}", numbers.join(", "));
         list("images", &tally.images);

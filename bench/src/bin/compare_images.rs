@@ -5,6 +5,7 @@
 //! said. The pair number i of a seed is always the same one. Ends with status 1 at the first difference, whose sheet and image are written
 //! to NAME.sheet and NAME.image (`differs`), the image in little-endian words.
 
+use oracle::format::{ANSWERS, COUNTS};
 use oracle::image_check::{self, Fault};
 use oracle::image_gen::{self, ImageSize, Pair};
 use oracle::image_selftest::ImageFigures;
@@ -25,7 +26,7 @@ struct Driver {
     figures: ImageFigures,
     /// Checks by each side, by number and by the length of the scratch.
     runs: u64,
-    numbers: [u64; 14],
+    numbers: [u64; COUNTS],
     scratches: BTreeMap<&'static str, u64>,
 }
 
@@ -84,11 +85,10 @@ impl Driver {
         );
         println!("with exact scratch:");
         print!("{}", self.figures.lines(false));
-        let numbers: Vec<String> = self
-            .numbers
+        let numbers: Vec<String> = ANSWERS
             .iter()
-            .enumerate()
-            .filter(|(_, count)| **count > 0)
+            .map(|number| (number, self.numbers[*number as usize]))
+            .filter(|(_, count)| *count > 0)
             .map(|(number, count)| format!("{number}: {count}"))
             .collect();
         println!("answers of all checks: {}", numbers.join(", "));
@@ -135,7 +135,7 @@ fn main() -> ExitCode {
         rust: Vec::new(),
         figures: ImageFigures::default(),
         runs: 0,
-        numbers: [0; 14],
+        numbers: [0; COUNTS],
         scratches: BTreeMap::new(),
     };
     let start = Instant::now();

@@ -52,6 +52,11 @@ fn hostile() -> Vec<(String, Vec<u8>)> {
     let all = sheets::LOCALS;
     let list: Vec<(&str, Vec<u8>)> = vec![
         ("check: texts that overlap", texts("hostile overlap ends")),
+        ("check: names, 65535 locals", texts("hostile names")),
+        (
+            "check: names, 65535 locals, the last empty",
+            texts("hostile last name"),
+        ),
         ("check: 64 cases of 1 MiB", sheets::long_cases(bytes - 64)),
         (
             "count: 2000 g(v), 65535 locals",
@@ -364,6 +369,14 @@ fn greatest() -> Vec<(String, Vec<u8>)> {
 fn program() -> Vec<(String, Vec<u8>)> {
     let list: Vec<(&str, Vec<u8>)> = vec![
         ("check: 64 cases of 47000", sheets::long_cases(47_000)),
+        (
+            "check: 900 names, 8200 locals",
+            workloads::own_names(900, 8_200, 32, false),
+        ),
+        (
+            "check: 900 names, 8200 locals, the last empty",
+            workloads::own_names(900, 8_200, 32, true),
+        ),
         (
             "check: 850 texts of 27000 that overlap",
             sheets::long_strings(850, 27_000),

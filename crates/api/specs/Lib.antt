@@ -1,3 +1,4 @@
 pub mod Given
 pub mod Asked
 pub mod Judged
+pub mod Fourteen

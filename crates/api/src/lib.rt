@@ -14,7 +14,7 @@ use needs::needs;
 use refusals::number;
 use to_image::lower;
 
-// The number of the first refusal among 1 to 8 that fits the bytes of `sheet`, or 0.
+// The number of the first refusal among 1 to 8 (14 among them) that fits the bytes of `sheet`, or 0.
 #[unsafe(no_mangle)]
 pub extern "C" fn sheet_check(sheet: &[u8]) -> u32
     ensures { result ≡ verdict_number (checked sheet.now) }
@@ -23,7 +23,7 @@ pub extern "C" fn sheet_check(sheet: &[u8]) -> u32
 }
 
 // What `sheet` needs before buffers are lent: 0, and `words` gets the words of scratch that its lowering asks for; or the number of the
-// first refusal among 1 to 10 that fits, and `words` gets 0.
+// first refusal among 1 to 10 (14 among them) that fits, and `words` gets 0.
 #[unsafe(no_mangle)]
 pub extern "C" fn sheet_needs(sheet: &[u8], words: &mut u64) -> u32
     ensures { Asked sheet.now result words.new }
@@ -33,7 +33,7 @@ pub extern "C" fn sheet_needs(sheet: &[u8], words: &mut u64) -> u32
     number(&need)
 }
 
-// Lowers `sheet` into `image`: 0, or the number of the first refusal among 1 to 12 that fits. `words` gets the image's
+// Lowers `sheet` into `image`: 0, or the number of the first refusal among 1 to 12 (14 among them) that fits. `words` gets the image's
 // word count, 0 under a refusal.
 #[unsafe(no_mangle)]
 pub extern "C" fn sheet_lower(
@@ -50,8 +50,8 @@ pub extern "C" fn sheet_lower(
     number(&a)
 }
 
-// Whether `image`, exactly its words, is well made for `sheet`: 0, or the first that fits of the sheet's refusals 1 to 8, 11 for a scratch
-// shorter than the image, and 13.
+// Whether `image`, exactly its words, is well made for `sheet`: 0, or the first that fits of the sheet's refusals 1 to 8 (14 among them),
+// 11 for a scratch shorter than the image, and 13.
 #[unsafe(no_mangle)]
 pub extern "C" fn sheet_check_image(sheet: &[u8], image: &[u32], scratch: &mut [u32]) -> u32
     ensures { Judged sheet.now image.now scratch.old result scratch.new }

@@ -8,11 +8,12 @@ use Rattle.check_sizes.specs.Sizes.{sizes_ok}
 use Rattle.check_shape.specs.Shape.{shape_ok}
 use Rattle.check_texts.specs.Texts.{texts_ok}
 use Rattle.check_numbers.specs.Numbers.{numbers_ok}
+use Rattle.check_names.specs.Names.{names_ok}
 use Rattle.check_depth.specs.Depth.{depth_ok}
 use Rattle.check_switches.specs.Switch.{entries_ok, cases_ok}
 use Rattle.check_support.specs.Support.{supported_ok}
 use Rattle.checks.specs.Checked.{in_order, checked_by, tree_checked, checked}
-use Rattle.refusals.specs.declared.Refusal.TheVariants.{Size, Shape, Text, Number, Depth, Arms, Twice, Unsupported}
+use Rattle.refusals.specs.declared.Refusal.TheVariants.{Size, Shape, Text, Number, EmptyName, Depth, Arms, Twice, Unsupported}
 
 module _ (s : List ℕ) where
   pub says-1 : sizes_ok s ≡ false → checked s ≡ Err Size
@@ -31,9 +32,15 @@ module _ (s : List ℕ) where
   unfolding checked
   says-4 a b c d = rw (a, b, c, d, checked_by, in_order)
 
-  pub goes-on : sizes_ok s ≡ true → shape_ok s ≡ true → texts_ok s ≡ true → numbers_ok s ≡ true → checked s ≡ tree_checked s
+  pub says-14 : sizes_ok s ≡ true → shape_ok s ≡ true → texts_ok s ≡ true → numbers_ok s ≡ true → names_ok s ≡ false
+      → checked s ≡ Err EmptyName
+  unfolding checked
+  says-14 a b c d e = rw (a, b, c, d, e, checked_by, in_order)
+
+  pub goes-on : sizes_ok s ≡ true → shape_ok s ≡ true → texts_ok s ≡ true → numbers_ok s ≡ true → names_ok s ≡ true
+      → checked s ≡ tree_checked s
   unfolding checked tree_checked
-  goes-on a b c d = rw (a, b, c, d, checked_by, tree_checked, in_order)
+  goes-on a b c d e = rw (a, b, c, d, e, checked_by, tree_checked, in_order)
 
   pub says-5 : depth_ok s ≡ false → tree_checked s ≡ Err Depth
   unfolding tree_checked

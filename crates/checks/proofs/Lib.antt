@@ -2,4 +2,7 @@
 mod RestLaws
 mod AskedLaws
 pub mod VerdictLaws
-pub mod CheckedLaws
+mod CheckedLaws
+pub mod AcceptedLaws
+pub mod TextLaws
+pub mod EmptyNamesRight

@@ -8,6 +8,7 @@ use Rattle.check_sizes.specs.Sizes.{sizes_ok}
 use Rattle.check_shape.specs.Shape.{shape_ok}
 use Rattle.check_texts.specs.Texts.{texts_ok}
 use Rattle.check_numbers.specs.Numbers.{numbers_ok}
+use Rattle.check_names.specs.Names.{names_ok}
 use Rattle.check_depth.specs.Depth.{depth_ok}
 use Rattle.check_switches.specs.Switch.{entries_ok, cases_ok}
 use Rattle.check_support.specs.Support.{supported_ok}
@@ -39,10 +40,11 @@ checked-own s =
     (either (shape_ok s) _ _ refl
     (either (texts_ok s) _ _ refl
     (either (numbers_ok s) _ _ refl
+    (either (names_ok s) _ _ refl
     (either (depth_ok s) _ _ refl
     (either (entries_ok s) _ _ refl
     (either (cases_ok s) _ _ refl
-    (either (supported_ok s) _ _ refl tt)))))))
+    (either (supported_ok s) _ _ refl tt))))))))
 
 pub refused-own : (s : List ℕ) (r : Refusal) → checked s ≡ Err r → of_sheet r ≡ true
 refused-own s r e = subst Own e (checked-own s)

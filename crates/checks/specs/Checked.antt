@@ -1,4 +1,4 @@
--- The check of a sheet: refusals 1 to 8 in ascending number, and the first that fits is the answer.
+-- The check of a sheet: refusals 1 to 4, 14 and 5 to 8, and the first in this order that fits is the answer.
 use Rattle.std.specs.Prelude.{ℕ, Bool, true, false, List, Result, Ok, Err, ⊤}
 use Rattle.words.specs.Word.{word}
 use Rattle.sheet.specs.Sections.{Words, node_count_by}
@@ -8,10 +8,11 @@ use Rattle.check_shape.specs.Kinds.{Bounds, bound}
 use Rattle.check_shape.specs.Shape.{shape_by}
 use Rattle.check_texts.specs.Texts.{texts_by}
 use Rattle.check_numbers.specs.Numbers.{numbers_by}
+use Rattle.check_names.specs.Names.{names_by}
 use Rattle.check_depth.specs.Depth.{depth_by, depth_ok}
 use Rattle.check_switches.specs.Switch.{entries_by, cases_by, entries_ok, cases_ok}
 use Rattle.check_support.specs.Support.{support_by, supported_ok}
-use Rattle.refusals.specs.declared.Refusal.TheVariants.{Size, Shape, Text, Number, Depth, Arms, Twice, Unsupported}
+use Rattle.refusals.specs.declared.Refusal.TheVariants.{Size, Shape, Text, Number, EmptyName, Depth, Arms, Twice, Unsupported}
 use Rattle.refusals.specs.declared.Refusal.{Refusal}
 use Rattle.refusals.specs.Refusal.{number_of}
 
@@ -32,8 +33,8 @@ abbrev pub passed : Test
 passed asked = true
 
 -- the order of refusals, where the test of each passes unless it fits
-unfoldable pub in_order : Test → Test → Test → Test → Test → Test → Test → Test → Verdict
-in_order sizes shape texts numbers depth entries cases support =
+unfoldable pub in_order : Test → Test → Test → Test → Test → Test → Test → Test → Test → Verdict
+in_order sizes shape texts numbers names depth entries cases support =
     elim (sizes tt) [
       | false ↦ Err Size
       | true ↦
@@ -46,16 +47,20 @@ in_order sizes shape texts numbers depth entries cases support =
                       elim (numbers tt) [
                         | false ↦ Err Number
                         | true ↦
-                            elim (depth tt) [
-                              | false ↦ Err Depth
+                            elim (names tt) [
+                              | false ↦ Err EmptyName
                               | true ↦
-                                  elim (entries tt) [
-                                    | false ↦ Err Arms
+                                  elim (depth tt) [
+                                    | false ↦ Err Depth
                                     | true ↦
-                                        elim (cases tt) [
-                                          | false ↦ Err Twice
+                                        elim (entries tt) [
+                                          | false ↦ Err Arms
                                           | true ↦
-                                              elim (support tt) [ false ↦ Err Unsupported | true ↦ Ok tt ]
+                                              elim (cases tt) [
+                                                | false ↦ Err Twice
+                                                | true ↦
+                                                    elim (support tt) [ false ↦ Err Unsupported | true ↦ Ok tt ]
+                                              ]
                                         ]
                                   ]
                             ]
@@ -73,6 +78,7 @@ checked_by bs g w s =
     (λ t. shape_by bs g (node_count_by w))
     (λ t. texts_by w s)
     (λ t. numbers_by g w)
+    (λ t. names_by g w)
     (λ t. depth_by g)
     (λ t. entries_by g)
     (λ t. cases_by g w s)
@@ -90,6 +96,7 @@ unfoldable pub tree_checked : List ℕ → Verdict
 unfolding in_order
 tree_checked s =
     in_order
+    passed
     passed
     passed
     passed

@@ -1,3 +1,4 @@
 pub mod Checked
 pub mod Compute
+pub mod EmptyNames
 pub mod Rest

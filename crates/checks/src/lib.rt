@@ -1,11 +1,14 @@
-// The check of a sheet: refusals 1 to 8 in ascending number. Any bytes are answered, nothing is written, and no memory is used but locals.
+// The check of a sheet: refusals 1 to 4, 14 and 5 to 8, in this order. Any bytes are answered, nothing is written, and no memory is
+// used but locals.
 #![tactic(auto)]
 
 ghost use Rattle.std.specs.Prelude.{◌≡◌, true, false, Ok, Err};
+ghost use Rattle.check_numbers.specs.Numbers.{node_numbers_ok};
 ghost use Rattle.checks.specs.Checked as answers;
 ghost use Rattle.checks.specs.Rest.{rest_checked};
 
 use check_depth::depth_ok;
+use check_names::names_ok;
 use check_numbers::{locals_ok, numbers_ok};
 use check_pass::passes;
 use check_shape::shape_ok;
@@ -43,15 +46,18 @@ fn by_number(sheet: &[u8]) -> Result<(), Refusal>
     asked(shape_ok(sheet), Refusal::Shape)?; // 2
     asked(texts_ok(sheet), Refusal::Text)?; // 3
     asked(numbers_ok(sheet), Refusal::Number)?; // 4
+    asked(names_ok(sheet), Refusal::EmptyName)?; // 14
     tree(sheet)
 }
 
 // What is left where nothing of refusals 1, 2, 4 (of nodes), 5 and 8 holds.
 fn rest(sheet: &[u8]) -> Result<(), Refusal>
+    requires numbers { node_numbers_ok sheet.now ≡ true }
     ensures { result ≡ rest_checked sheet.now }
 {
     asked(texts_ok(sheet), Refusal::Text)?;
     asked(locals_ok(sheet), Refusal::Number)?;
+    asked(names_ok(sheet), Refusal::EmptyName)?;
     asked(entries_ok(sheet), Refusal::Arms)?;
     asked(cases_ok(sheet), Refusal::Twice)
 }

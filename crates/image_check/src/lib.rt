@@ -56,8 +56,8 @@ fn judge(sheet: &[u8], image: &[u32], scratch: &mut [u32]) -> Result<(), Refusal
     Err(Refusal::IllMade)
 }
 
-// Accepts an image that is well made; else the first that fits of the sheet's refusals 1 to 8, 11 and 13. The scratch is kept under
-// 1 to 8 and 11, and zeroed else.
+// Accepts an image that is well made; else the first that fits of the sheet's refusals 1 to 8 (14 among them), 11 and 13. The scratch is
+// kept under these of the sheet and under 11, and zeroed else.
 pub fn check_image(sheet: &[u8], image: &[u32], scratch: &mut [u32]) -> Result<(), Refusal>
     ensures { Answers sheet.now image.now scratch.old result scratch.new }
 {

@@ -18,7 +18,8 @@ use Rattle.lowering.specs.Nodes.{Valid}
 use Rattle.lowering.proofs.NodesLaws.{root-valid}
 use Rattle.lowering.proofs.LowerFits.{lower-fits, lower_switch, lower-plain, image_is}
 use Rattle.lowering.proofs.SoundExpression.{expression-meets}
-use Rattle.lowering.proofs.SwitchAccepted.{accepted-numbers, accepted-right, accepted-blocks}
+use Rattle.checks.proofs.AcceptedLaws.{accepted-numbers}
+use Rattle.lowering.proofs.SwitchAccepted.{accepted-right, accepted-blocks}
 use Rattle.lowering.proofs.Demand3Holds.{not_image, lower-typed, lower-reached}
 use Rattle.image_rule.specs.WellMade.{WellMade}
 use Rattle.image_rule.specs.Test.{well_made}

@@ -15,7 +15,7 @@ use Rattle.lowering.specs.Expression.{expression}
 use Rattle.lowering.specs.Outcome.{image, lower, outcome_after, outcome}
 use Rattle.lowering.specs.Demand3.{Statement}
 use Rattle.lowering.proofs.Whole.{WellTyped, AllReached}
-use Rattle.lowering.proofs.NodesLaws.{accepted-sizes, accepted-shape}
+use Rattle.checks.proofs.AcceptedLaws.{accepted-sizes, accepted-shape}
 use Rattle.lowering.proofs.LowerFits.{lower_switch, lower-plain}
 use Rattle.lowering.proofs.SoundExpression.{expression-meets, plain-typed}
 use Rattle.lowering.proofs.LinkedExpression.{expression-links, plain-reached}

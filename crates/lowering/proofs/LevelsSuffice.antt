@@ -37,7 +37,8 @@ use Rattle.lowering.specs.Levels.{InTree, root, below, Statement}
 use Rattle.lowering.proofs.LinkedCall.{rule-takes}
 use Rattle.lowering.proofs.LinkedExpression.{least, rule-count}
 use Rattle.lowering.proofs.LowerFits.{with-switch, with-plain, lower_switch, lower-plain}
-use Rattle.lowering.proofs.SwitchAccepted.{accepted-depth, accepted-right, accepted-blocks}
+use Rattle.checks.proofs.AcceptedLaws.{accepted-depth}
+use Rattle.lowering.proofs.SwitchAccepted.{accepted-right, accepted-blocks}
 use Rattle.lowering.proofs.LevelsSame.{Each, Agree, array_same, interpolated-same, short-same, coalesce-same, call_same}
 use Rattle.lowering.proofs.LevelsChain.{Taken, chain_same}
 use Rattle.lowering.proofs.LevelsSwitch.{switch-same}

@@ -1,48 +1,28 @@
 -- The namespace of a node of an accepted sheet, by the words of the node and the bytes of its text.
-use Prim.Native.Nat.{ℕ, zero, suc, ◌+◌, ◌*◌, ◌-◌, ◌≤◌, ◌<◌}
+use Prim.Native.Nat.{ℕ, zero, suc, ◌-◌, ◌≤◌, ◌<◌}
 use mathlib.Core.Path.{◌≡◌, refl, sym, ap, ◌∙◌}
 use mathlib.Core.Bool.{Bool, true, false, and-eq-true_iff, true≢false}
 use mathlib.Core.Logic.{◌⊎◌, inl, inr}
 use mathlib.Core.List.{List, []}
 use native.Mathlib.Omega.{arith}
-use native.Mathlib.Decide.{dec_le}
 use lib.Dec.{eqb}
-use lib.ListN.{length, take, drop, length-take, length-drop}
-use borrow.Author.Tests.{eqb-true, eqb-false, eq-eqb, ne_eqb, leb-true, lt-leb}
-use Rattle.std.proofs.lemmas.List.{nil_from_length}
+use borrow.Author.Tests.{eqb-true, eqb-false, eq-eqb, ne_eqb, leb-true}
 use Rattle.words.proofs.CountLaws.{all-at}
 use Rattle.sheet.specs.Kinds.{variable_kind, fn_call_kind}
-use Rattle.sheet.specs.Sections.{node_count, text_count, byte_count, bytes_at}
+use Rattle.sheet.specs.Sections.{node_count, text_count}
 use Rattle.sheet.specs.Node.{kind, namespace_word, namespace_pos}
-use Rattle.sheet.specs.Text.{text, text_start, text_length}
+use Rattle.sheet.specs.Text.{text, text_length}
 use Rattle.sheet.specs.Namespace.{may_have, namespace_by, namespace, qualified}
 use Rattle.sheet.proofs.NamespaceLaws.{namespace-none, plain-here, qualified-here}
-use Rattle.check_sizes.specs.Sizes.{length_ok, sizes_ok}
-use Rattle.check_texts.specs.Texts.{text_ok_by, text_ok, texts_by}
 use Rattle.check_shape.specs.Shape.{space_rule, self_by}
 use Rattle.check_numbers.specs.Numbers.{exist, number_by, number_ok, node_numbers_by, numbers_by}
 use Rattle.checks.specs.Checked.{verdict_number, checked}
 use Rattle.lowering.specs.Nodes.{Valid}
 use Rattle.lowering.specs.Modules.{Both, OfModule}
-use Rattle.lowering.proofs.NodesLaws.{accepted-sizes, node-own}
-use Rattle.lowering.proofs.SwitchAccepted.{accepted-texts, accepted-numbers, accepted-right}
-
--- ---- texts
-
--- a part that lies within a list is as long as it says
-part_length : (s : List ℕ) (at len : ℕ) → at + len ≤ length s → length (take len (drop at s)) ≡ len
-part_length s at len h = omega (arith, length-take len (drop at s), length-drop at s)
-
--- a right text lies within the text bytes
-text-lies : (s : List ℕ) (t : ℕ) → text_ok s t ≡ true → text_start s t + text_length s t ≤ byte_count s
-unfolding text_ok_by
-text-lies s t h = by (dec_le (text_start s t + text_length s t) (byte_count s))
-  where
-    by : Dec (text_start s t + text_length s t ≤ byte_count s) → text_start s t + text_length s t ≤ byte_count s
-    by (yes y) = y
-    by (no z) =
-        let out : text_ok s t ≡ false = rw (lt-leb (text_start s t + text_length s t) (byte_count s) (omega arith), text_ok_by) in
-        absurd (true≢false (sym h ∙ out))
+use Rattle.checks.proofs.AcceptedLaws.{accepted-sizes, accepted-texts, accepted-numbers}
+use Rattle.checks.proofs.TextLaws.{text-none, length-none}
+use Rattle.lowering.proofs.NodesLaws.{node-own}
+use Rattle.lowering.proofs.SwitchAccepted.{accepted-right}
 
 -- ---- the namespace by its word
 
@@ -75,18 +55,6 @@ module _ (s : List ℕ) (j : ℕ) where
 -- ---- a sheet that passes the check
 
 module _ (s : List ℕ) (a : verdict_number (checked s) ≡ 0) where
-  -- the text bytes lie within the sheet
-  bytes-lie : 4 * bytes_at s + byte_count s ≤ length s
-  unfolding sizes_ok length_ok
-  bytes-lie = let k = simp and-eq-true_iff at (accepted-sizes s a) in omega (arith, eqb-true _ _ k.0.1)
-
-  -- a text has as many bytes as its length says
-  text-long : (t : ℕ) → t < text_count s → length (text s t) ≡ text_length s t
-  unfolding texts_by text
-  text-long t l =
-      let h = text-lies s t (all-at (text_ok s) (text_count s) t (accepted-texts s a) l) in
-      part_length s (4 * bytes_at s + text_start s t) (text_length s t) (omega (arith, bytes-lie))
-
   -- numbers 2 and 4
   space : (j : ℕ) → Valid s j → space_rule (kind s j) (namespace_word s j) (namespace_pos s j) ≡ true
   unfolding self_by
@@ -114,8 +82,8 @@ module _ (s : List ℕ) (a : verdict_number (checked s) ≡ 0) where
       → Both (text_length s (namespace_word s j - 1) ≡ 0) (text s (namespace_word s j - 1) ≡ [])
   no-bytes j v z =
       let t = namespace_word s j - 1 in
-      let l = text-long t (below (namespace_word s j) (text_count s) z (word-within j v)) in
-      (λ e. nil_from_length (text s t) (l ∙ e), λ e. sym l ∙ ap length e)
+      let l = below (namespace_word s j) (text_count s) z (word-within j v) in
+      (text-none s (accepted-sizes s a) (accepted-texts s a) t l, length-none s (accepted-sizes s a) (accepted-texts s a) t l)
     where
       below : (w n : ℕ) → (w ≡ 0 → ⊥) → w ≤ n → w - 1 < n
       below zero n h l = absurd (h refl)

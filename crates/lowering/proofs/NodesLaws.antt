@@ -1,6 +1,6 @@
 -- Node 0 of a checked sheet is one of its nodes, and so is every child of one: node numbers do not wrap there.
 use Prim.Native.Nat.{ℕ, zero, suc, ◌+◌, ◌*◌, ◌-◌, ◌≤◌, ◌<◌}
-use mathlib.Core.Path.{◌≡◌, refl, sym, ap, ◌∙◌, subst}
+use mathlib.Core.Path.{◌≡◌, refl, sym, ◌∙◌, subst}
 use mathlib.Core.Bool.{Bool, true, false, and-eq-true_iff, true≢false}
 use mathlib.Core.List.{List}
 use native.Mathlib.Omega.{arith}
@@ -18,8 +18,6 @@ use Rattle.check_shape.specs.Kinds.{bound}
 use Rattle.check_shape.specs.Shape.{within_bounds_by, own_rule, child_words, tiles_by, self_by, nodes_by}
 use Rattle.check_shape.specs.Shape.{child_ok, tiles, self_ok, node_ok, root_ok, nodes_ok, shape_ok}
 use Rattle.check_shape.proofs.ShapeLaws.{self-end, node-self, node-fails, shape-root, shape-fails}
-use Rattle.checks.specs.Checked.{verdict_number, checked}
-use Rattle.checks.proofs.CheckedLaws.{says-1, says-2}
 use Rattle.lowering.specs.Kinds.{switch_kind}
 use Rattle.lowering.specs.SwitchSheet.{block_count, subject, guard_of, body_of}
 use Rattle.lowering.specs.Nodes.{Valid, Row, Right}
@@ -70,21 +68,6 @@ pub right : (s : List ℕ) → sizes_ok s ≡ true → shape_ok s ≡ true → R
 unfolding nodes_by
 right s h g =
     let b = sizes-right s h in record { some = b.0; few = b.1; nodes = λ j l. all-at (node_ok s) (node_count s) j (shape-nodes s g) l }
-
--- an accepted sheet has passed both checks
-pub accepted-sizes : (s : List ℕ) → verdict_number (checked s) ≡ 0 → sizes_ok s ≡ true
-accepted-sizes s h = by (sizes_ok s) refl
-  where
-    by : (t : Bool) → sizes_ok s ≡ t → sizes_ok s ≡ true
-    by true e = e
-    by false e = let z = ap verdict_number (says-1 s e) in absurd (omega arith)
-
-pub accepted-shape : (s : List ℕ) → verdict_number (checked s) ≡ 0 → shape_ok s ≡ true
-accepted-shape s h = by (shape_ok s) refl
-  where
-    by : (t : Bool) → shape_ok s ≡ t → shape_ok s ≡ true
-    by true e = e
-    by false e = let z = ap verdict_number (says-2 s (accepted-sizes s h) e) in absurd (omega arith)
 
 -- a Switch has a subject, its blocks and its cases
 own-switch : (k m a b : ℕ) → k ≡ switch_kind → own_rule k m a b ≡ true → 1 + 2 * a + b ≤ m

@@ -19,7 +19,8 @@ use Rattle.expr_count.specs.declared.tallies.Tally.{Tally}
 use Rattle.expr_count.specs.Limits.{cap}
 use Rattle.lowering.specs.Limits.{max_emitted, scratch_per_emitted, scratch_per_node, scratch_besides}
 use Rattle.lowering.specs.Image.{words}
-use Rattle.lowering.proofs.NodesLaws.{right, accepted-sizes, accepted-shape}
+use Rattle.checks.proofs.AcceptedLaws.{accepted-sizes, accepted-shape}
+use Rattle.lowering.proofs.NodesLaws.{right}
 use Rattle.lowering.specs.Outcome.{Outcome, refused, image, lower, outcome_after, outcome}
 use Rattle.switch_count.specs.Total.{total}
 use Rattle.switch_count.proofs.TotalLaws.{total-emitted, total-defeated}

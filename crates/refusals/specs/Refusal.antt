@@ -3,8 +3,8 @@ use Rattle.std.specs.Prelude.{ℕ, Bool, true, false, List, ◌++◌, length, co
 use Rattle.std.specs.Fmt.{decimal}
 use Rattle.zeros.specs.Zeros.{zeros}
 use Rattle.refusals.specs.declared.Refusal.{Refusal}
-use Rattle.refusals.specs.declared.Refusal.TheVariants.{Size, Shape, Text, Number, Depth, Arms, Twice, Unsupported, Eval, Emitted}
-use Rattle.refusals.specs.declared.Refusal.TheVariants.{ScratchShort, ImageLong, IllMade}
+use Rattle.refusals.specs.declared.Refusal.TheVariants.{Size, Shape, Text, Number, EmptyName, Depth, Arms, Twice, Unsupported}
+use Rattle.refusals.specs.declared.Refusal.TheVariants.{Eval, Emitted, ScratchShort, ImageLong, IllMade}
 
 -- the one place of the numbers; 0 is no refusal
 abbrev pub refusal_number : Refusal → ℕ
@@ -12,6 +12,7 @@ refusal_number Size = 1
 refusal_number Shape = 2
 refusal_number Text = 3
 refusal_number Number = 4
+refusal_number EmptyName = 14
 refusal_number Depth = 5
 refusal_number Arms = 6
 refusal_number Twice = 7
@@ -37,6 +38,7 @@ of_sheet Size = true
 of_sheet Shape = true
 of_sheet Text = true
 of_sheet Number = true
+of_sheet EmptyName = true
 of_sheet Depth = true
 of_sheet Arms = true
 of_sheet Twice = true
@@ -62,6 +64,7 @@ scratch_left Size = kept
 scratch_left Shape = kept
 scratch_left Text = kept
 scratch_left Number = kept
+scratch_left EmptyName = kept
 scratch_left Depth = kept
 scratch_left Arms = kept
 scratch_left Twice = kept

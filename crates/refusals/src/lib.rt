@@ -8,13 +8,15 @@ use std::error::Error;
 use std::fmt;
 
 // The cause: in the sheet (Size to Unsupported), of its lowering (Eval, Emitted), in a lent buffer (ScratchShort,
-// ImageLong), in a lent image (IllMade). Each has the number of its refusal; 0 is no refusal.
+// ImageLong), in a lent image (IllMade). They stand in the order in which they are asked. Each has the number of its refusal; 0 is no
+// refusal. Where 1 to 8, 1 to 10, 1 to 11 or 1 to 12 is said of refusals, here and elsewhere, 14 (EmptyName) is among them.
 #[derive(Clone, Copy, Debug, PartialEq, Eq)]
 pub enum Refusal {
     Size = 1,
     Shape = 2,
     Text = 3,
     Number = 4,
+    EmptyName = 14,
     Depth = 5,
     Arms = 6,
     Twice = 7,

@@ -11,7 +11,7 @@ use words::word_at;
 
 // Reads a record and compares. A record that is cut off, or too long, does not agree.
 // Kept: the head has a buffer of its own, since how long the sheet is stands in it. The number that is expected is a word of the record, 0
-// for no refusal: as a `Result` it would be made by a table of the 13 numbers, with a case for each other word, to be compared once.
+// for no refusal: as a `Result` it would be made by a table of the 14 numbers, with a case for each other word, to be compared once.
 fn compare_one<R: Read>(reader: &mut R) -> io::Result<bool> {
     let mut head = [0u8; 8];
     let mut sheet = [0u8; 65536];

@@ -61,7 +61,7 @@ fn image_same(image: &[u32], wanted: &[u8]) -> bool
 }
 
 // What a record wants: words of room for the image and for the scratch, the number of the answer, and the words of the image in bytes.
-// Kept: the number is a word of the record, 0 for no refusal. As a `Result` it would be made by a table of the 13 numbers, with a case for
+// Kept: the number is a word of the record, 0 for no refusal. As a `Result` it would be made by a table of the 14 numbers, with a case for
 // each other word, and `answered` and `foretold` would compare that with numbers again.
 #[derive(Clone, Copy)]
 struct Wanted<'a> {

@@ -9,7 +9,7 @@ use lib.ListN.{length, length-map}
 use lib.Seq.{get_or-set_same}
 use borrow.Author.Tests.{leb-true, eq-eqb}
 use Rattle.switch_tables.proofs.BandsLaws.{bands-length}
-use Rattle.lowering.proofs.SwitchAccepted.{accepted-numbers}
+use Rattle.checks.proofs.AcceptedLaws.{accepted-sizes, accepted-shape, accepted-numbers}
 use Rattle.words.proofs.CountLaws.{all-at}
 use Rattle.sheet.specs.Limits.{max_entries}
 use Rattle.sheet.specs.Sections.{node_count}
@@ -20,7 +20,7 @@ use Rattle.switch_split.specs.Points.{cuts}
 use Rattle.switch_split.specs.Split as Split
 use Rattle.lowering.specs.Kinds.{switch_kind}
 use Rattle.lowering.specs.Limits.{max_emitted}
-use Rattle.lowering.proofs.NodesLaws.{right, accepted-sizes, accepted-shape}
+use Rattle.lowering.proofs.NodesLaws.{right}
 use Rattle.lowering.specs.SwitchSheet.{block_count, default_block, subject, ranges_of}
 use Rattle.expr_count.specs.declared.tallies.Tally.{Tally}
 use Rattle.expr_count.specs.Limits.{cap}

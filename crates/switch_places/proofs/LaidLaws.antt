@@ -10,13 +10,13 @@ use native.Mathlib.Numerals.{add-one}
 use lib.Dec.{eqb}
 use lib.ListN.{length, get_or, set, take, drop, length-set, drop_of_length-le}
 use lib.Seq.{get_or-set_same, get_or-set_other, drop-cons}
-use Rattle.lowering.proofs.SwitchAccepted.{accepted-numbers}
+use Rattle.checks.proofs.AcceptedLaws.{accepted-sizes, accepted-shape, accepted-numbers}
 use Rattle.sheet.specs.Limits.{max_entries}
 use Rattle.sheet.specs.Node.{kind}
 use Rattle.checks.specs.Checked.{verdict_number, checked}
 use Rattle.lowering.specs.Limits.{max_bands}
 use Rattle.lowering.specs.Kinds.{switch_kind}
-use Rattle.lowering.proofs.NodesLaws.{right, accepted-sizes, accepted-shape}
+use Rattle.lowering.proofs.NodesLaws.{right}
 use Rattle.lowering.specs.SwitchSheet.{block_count}
 use Rattle.switch_model.proofs.SameLaws.{AllIn}
 use Rattle.switch_model.proofs.NodeLaws.{case-lists, range-lists, all-place, lists-place}

@@ -7,18 +7,16 @@ use native.Mathlib.Omega.{arith}
 use lib.ListN.{length, take, length-map}
 use lib.Seq.{take_all}
 use borrow.Author.Tests.{leb-true, eq-eqb}
-use Rattle.lowering.proofs.SwitchAccepted.{accepted-texts, accepted-numbers, accepted-depth}
 use Rattle.laws.proofs.Bool.{true-unless}
 use Rattle.sheet.specs.Limits.{max_entries}
 use Rattle.sheet.specs.Node.{kind, count, field_a, child, next}
 use Rattle.sheet.specs.Walk.{siblings_by, siblings, skip}
-use Rattle.check_switches.specs.Switch.{is_switch_by, is_switch, case_count, range_count, first_case, refs_by, refs_ok, counts_by, counts_ok}
-use Rattle.check_switches.specs.Switch.{entries_ok}
+use Rattle.check_switches.specs.Switch.{is_switch_by, is_switch, case_count, range_count, first_case, refs_by, refs_ok, counts_by}
+use Rattle.check_switches.specs.Switch.{counts_ok}
 use Rattle.check_switches.proofs.SwitchLaws.{entries-many, entries-refs}
-use Rattle.checks.specs.Checked.{verdict_number, checked, tree_checked}
-use Rattle.checks.proofs.CheckedLaws.{says-6, goes-on}
+use Rattle.checks.specs.Checked.{verdict_number, checked}
+use Rattle.checks.proofs.AcceptedLaws.{accepted-entries}
 use Rattle.lowering.specs.Kinds.{switch_kind}
-use Rattle.lowering.proofs.NodesLaws.{accepted-sizes, accepted-shape}
 use Rattle.lowering.specs.SwitchSheet.{block_count, nodes_from, cases_of, range_nodes, ranges_of, range_of, case_blocks}
 use Rattle.switch_tables.proofs.NodesLaws.{nodes-length, cases-are, ranges-are}
 
@@ -39,21 +37,13 @@ module _ (P : ℕ → Bool) (s : List ℕ) where
   siblings-at (suc m) j (suc q) h l = siblings-at m (next s j) q (passes m j h).1 (omega arith)
 
 module _ (s : List ℕ) (h : verdict_number (checked s) ≡ 0) where
-  accepted-tree : verdict_number (tree_checked s) ≡ 0
-  accepted-tree =
-      sym (ap verdict_number (goes-on s (accepted-sizes s h) (accepted-shape s h) (accepted-texts s h) (accepted-numbers s h))) ∙ h
-
-  accepted-entries : entries_ok s ≡ true
-  accepted-entries =
-      true-unless (entries_ok s) (λ e. let z = ap verdict_number (says-6 s (accepted-depth s h) e) in omega (arith, accepted-tree))
-
   module _ (k : kind s 0 ≡ switch_kind) where
     is-switch : is_switch s ≡ true
     unfolding is_switch_by
     is-switch = eq-eqb (kind s 0) 19 k
 
     counts : counts_ok s ≡ true
-    counts = true-unless (counts_ok s) (λ e. true≢false (sym accepted-entries ∙ entries-many s is-switch e))
+    counts = true-unless (counts_ok s) (λ e. true≢false (sym (accepted-entries s h) ∙ entries-many s is-switch e))
 
     pub few_blocks : block_count s ≤ max_entries
     unfolding counts_by
@@ -72,7 +62,7 @@ module _ (s : List ℕ) (h : verdict_number (checked s) ≡ 0) where
     unfolding refs_by
     few-refs i l =
         leb-true (count s (skip s i (first_case s))) 65
-        (siblings-at (refs_ok s) s (case_count s) (first_case s) i (sym (entries-refs s is-switch counts) ∙ accepted-entries) l)
+        (siblings-at (refs_ok s) s (case_count s) (first_case s) i (sym (entries-refs s is-switch counts) ∙ accepted-entries s h) l)
 
     -- so nothing is cut
     pub cases_whole : take max_entries (cases_of s) ≡ cases_of s

@@ -11,6 +11,9 @@ mod Table13Right
 mod Table14Right
 mod Table15Right
 mod Table16Right
+mod Table17Right
+mod Table18Right
+mod Table19Right
 mod Table2Right
 mod Table3Right
 mod Table4Right

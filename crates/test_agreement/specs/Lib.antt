@@ -17,6 +17,9 @@ pub mod Table13
 pub mod Table14
 pub mod Table15
 pub mod Table16
+pub mod Table17
+pub mod Table18
+pub mod Table19
 pub mod Ranges
 pub mod Edge
 pub mod Refused10

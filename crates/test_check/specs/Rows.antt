@@ -1,5 +1,5 @@
--- The check of a sheet at its boundaries: for each number 1 to 8 sheets on both sides, worked out from the format's rules. One table,
--- one theorem.
+-- The check of a sheet at its boundaries: for each number 1 to 8, and 14, sheets on both sides, worked out from the format's rules. One
+-- table, one theorem.
 use Rattle.std.specs.Prelude.{ℕ, ◌*◌, Bool, true, false, List, [], ◌∷◌, ◌++◌, eqb, take, set}
 use Rattle.checks.specs.Checked.{verdict_number, checked}
 use Rattle.check_quick.specs.Quick.{quick_number}
@@ -152,6 +152,91 @@ spaces =
     ∷ row 0 (sheet_of (spaced 13 0 0 0 2 0 (copies 2 unit)) (curr ∷ curry ∷ []) [])
     ∷ [])
 
+-- a sheet of the texts `curr` (0) and one without bytes (1), with these locals
+abbrev named : List NodeWords → List ℕ → List ℕ
+named t locals = sheet_of t (curr ∷ [] ∷ []) locals
+
+-- a switch of one case with this value
+abbrev on : List NodeWords → List NodeWords
+on v = switch 0 1 0 (case v [] ∷ [])
+
+-- own names without bytes
+abbrev names : List Row
+names =
+    -- 14: of each kind that has a name of its own, by itself, under another node and as the last of two; with a namespace too
+    row 0 (named (leaf 9 0 0 0) [])
+    ∷ row 14 (named (leaf 9 1 0 0) [])
+    ∷ row 0 (named (leaf 11 0 0 0) [])
+    ∷ row 14 (named (leaf 11 1 0 0) [])
+    ∷ row 0 (named (leaf 12 0 0 0) [])
+    ∷ row 14 (named (leaf 12 1 0 0) [])
+    ∷ row 0 (named (leaf 13 0 0 0) [])
+    ∷ row 14 (named (leaf 13 1 0 0) [])
+    ∷ row 14 (named (leaf 13 1 1 0) [])
+    ∷ row 14 (named (node 12 1 0 0 (copies 1 unit)) [])
+    ∷ row 14 (named (node 13 1 0 0 (copies 1 unit)) [])
+    ∷ row 14 (named (node 8 0 0 0 (leaf 9 1 0 0 ∷ unit ∷ [])) [])
+    ∷ row 14 (named (node 8 0 0 0 (unit ∷ leaf 9 1 0 0 ∷ [])) [])
+    ∷ row 14 (named (node 14 3 0 0 (leaf 9 0 0 0 ∷ leaf 11 1 0 0 ∷ [])) [])
+    ∷ row 14 (named (node 14 3 0 0 (leaf 9 0 0 0 ∷ leaf 12 1 0 0 ∷ [])) [])
+    ∷ row 0 (named (node 14 3 0 0 (leaf 9 0 0 0 ∷ leaf 11 0 0 0 ∷ [])) [])
+    ∷ row 14 (named (spaced 9 1 0 0 1 0 []) [])
+    ∷ row 14 (named (spaced 13 1 0 0 1 0 []) [])
+    ∷ row 14 (named (spaced 9 1 0 0 2 0 []) [])
+    ∷ row 0 (named (spaced 9 0 0 0 2 0 []) [])
+    -- where no run comes to it: an argument of `Fn`
+    ∷ row 14 (sheet_of (node 13 0 0 0 (leaf 9 1 0 0 ∷ [])) ((70 ∷ 110 ∷ []) ∷ [] ∷ []) [])
+    -- of each local, named or not
+    ∷ row 0 (named unit (0 ∷ []))
+    ∷ row 14 (named unit (1 ∷ []))
+    ∷ row 14 (named unit (1 ∷ 0 ∷ []))
+    ∷ row 14 (named unit (0 ∷ 1 ∷ []))
+    ∷ row 14 (named (leaf 9 0 0 0) (0 ∷ 1 ∷ []))
+    -- a text without bytes may stand anywhere else: unused, as a String, a case's value, a getter, a setter
+    ∷ row 0 (named unit [])
+    ∷ row 0 (named (leaf 6 1 0 0) [])
+    ∷ row 0 (named (on (leaf 6 1 0 0)) [])
+    ∷ row 0 (named (leaf 11 0 1 0) [])
+    ∷ row 0 (named (leaf 11 0 0 1) [])
+    -- and its number may be a field of another meaning
+    ∷ row 0 (named (leaf 1 1 0 0) [])
+    ∷ row 0 (named (leaf 3 1 0 0) [])
+    ∷ row 0 (named (leaf 5 1 0 0) [])
+    ∷ row 0 (named (node 14 1 0 0 (copies 2 unit)) [])
+    ∷ row 0 (named (switch 2 1 0 (case (int 1 0) (ref 1 ∷ []) ∷ [])) [])
+    -- by the length alone, wherever the text starts
+    ∷ row 14 (sheet_with (leaf 9 0 0 0) (2 ∷ []) (0 ∷ []) (97 ∷ 98 ∷ []) (0 ∷ 0 ∷ []) [])
+    ∷ row 0 (sheet_with (leaf 9 0 0 0) (1 ∷ []) (1 ∷ []) (97 ∷ 98 ∷ []) (0 ∷ 0 ∷ []) [])
+    -- 1 to 4 go before it, also of a later node or of a local
+    ∷ row 1 (named (leaf 9 1 0 0) [] ++ (0 ∷ []))
+    ∷ row 2 (named (leaf 9 1 1 0) [])
+    ∷ row 2 (named (node 8 0 0 0 (leaf 9 1 0 0 ∷ leaf 2 1 0 0 ∷ [])) [])
+    ∷ row 3 (sheet_of (leaf 9 1 0 0) (curr ∷ [] ∷ (0xff ∷ []) ∷ []) [])
+    ∷ row 4 (named (node 8 0 0 0 (leaf 9 1 0 0 ∷ leaf 9 2 0 0 ∷ [])) [])
+    ∷ row 4 (named (node 8 0 0 0 (leaf 9 2 0 0 ∷ leaf 9 1 0 0 ∷ [])) [])
+    ∷ row 4 (named (leaf 9 1 0 0) (2 ∷ []))
+    ∷ row 4 (named (leaf 9 2 0 0) (1 ∷ []))
+    ∷ row 4 (named (leaf 11 1 2 0) [])
+    ∷ row 4 (named (spaced 9 1 0 0 3 0 []) [])
+    ∷ row 4 (named (switch 1 1 2 (case (int 1 0) [] ∷ [])) (1 ∷ []))
+    -- it goes before 5, 6, 7 and 8, and these are the answer without it
+    ∷ row 5 (named (nest 64 (leaf 9 0 0 0)) (0 ∷ []))
+    ∷ row 14 (named (nest 64 (leaf 9 1 0 0)) (0 ∷ []))
+    ∷ row 14 (named (nest 64 (leaf 9 0 0 0)) (1 ∷ []))
+    ∷ row 6 (named (switch 65 0 0 []) (0 ∷ []))
+    ∷ row 14 (named (switch 65 0 0 []) (1 ∷ []))
+    ∷ row 6 (named (node 19 65 0 0 (leaf 9 0 0 0 ∷ copies 130 unit)) [])
+    ∷ row 14 (named (node 19 65 0 0 (leaf 9 1 0 0 ∷ copies 130 unit)) [])
+    ∷ row 7 (named (switch 0 2 0 (copies 2 (case (int 1 0) []))) (0 ∷ []))
+    ∷ row 14 (named (switch 0 2 0 (copies 2 (case (int 1 0) []))) (1 ∷ []))
+    ∷ row 7 (named (node 19 0 2 0 (leaf 9 0 0 0 ∷ copies 2 (case (int 1 0) []))) [])
+    ∷ row 14 (named (node 19 0 2 0 (leaf 9 1 0 0 ∷ copies 2 (case (int 1 0) []))) [])
+    ∷ row 8 (named (leaf 23 0 0 0) (0 ∷ []))
+    ∷ row 14 (named (leaf 23 0 0 0) (1 ∷ []))
+    ∷ row 8 (sheet_of (node 13 0 0 0 (copies 2 (leaf 9 0 0 0))) (curry ∷ [] ∷ []) [])
+    ∷ row 14 (sheet_of (node 13 0 0 0 (copies 2 (leaf 9 1 0 0))) (curry ∷ [] ∷ []) [])
+    ∷ []
+
 -- the check of a row's sheet gives the row's number
 unfoldable pub agrees : List Row → Bool
 agrees [] = true
@@ -269,4 +354,4 @@ rows =
     ∷ row 8 (call_of 2 curry)
     ∷ row 0 (call_of 2 curr)
     ∷ row 0 (sheet_of (node 12 0 0 0 (copies 2 unit)) (curry ∷ []) [])
-    ∷ spaces
+    ∷ (names ++ spaces)

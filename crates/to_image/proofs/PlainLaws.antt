@@ -16,7 +16,8 @@ use Rattle.lowering.specs.Program.{plain}
 use Rattle.lowering.specs.Image.{words}
 use Rattle.lowering.specs.Outcome.{lower}
 use Rattle.lowering.specs.Nodes.{Right, Valid}
-use Rattle.lowering.proofs.NodesLaws.{right, root-valid, accepted-sizes, accepted-shape}
+use Rattle.checks.proofs.AcceptedLaws.{accepted-sizes, accepted-shape}
+use Rattle.lowering.proofs.NodesLaws.{right, root-valid}
 use Rattle.switch_count.proofs.TotalLaws.{total-emitted}
 use Rattle.expr_model.specs.Made.{Made, nothing, lowered}
 use Rattle.scratch.specs.declared.Layout.{Layout}

@@ -1,4 +1,4 @@
-// What a lowering answers, and the image of an expression. Refusals 1 to 11 are found without touching a buffer.
+// What a lowering answers, and the image of an expression. Refusals 1 to 11, and 14, are found without touching a buffer.
 #![tactic(auto)]
 
 ghost use Rattle.std.specs.Prelude.{◌≡◌, length};

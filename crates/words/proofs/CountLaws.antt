@@ -1,6 +1,6 @@
 -- Laws of a test of every number below a bound, in the forms that a loop over 0, 1, .. needs.
 use Prim.Native.Nat.{ℕ, zero, suc, ◌+◌, ◌<◌}
-use mathlib.Core.Path.{◌≡◌, refl, subst}
+use mathlib.Core.Path.{◌≡◌, refl, sym, ap, subst, ◌∙◌}
 use mathlib.Core.Bool.{Bool, true, false, ◌&&◌, and-eq-true_iff, true≢false}
 use native.Mathlib.Decide.{dec_lt}
 use native.Mathlib.Nat.{not-suc-le-zero}
@@ -54,3 +54,13 @@ pub all_same : (f g : ℕ → Bool) (n : ℕ) → ((k : ℕ) → k < n → f k �
 all_same f g zero h = rw (all_none f, all_none g)
 all_same f g (suc n) h =
     rw (all-suc f n, all-suc g n, all_same f g n (λ k l. h k (omega arith)), h n (omega arith))
+
+-- where the whole fails, some number does
+pub some-fails : (f : ℕ → Bool) (n : ℕ) → all_below n f ≡ false → (k : ℕ) × (k < n) × (f k ≡ false)
+some-fails f zero h = absurd (true≢false (sym (all_none f) ∙ h))
+some-fails f (suc n) h = by (some-fails f n) (all_below n f) refl
+  where
+    by : (all_below n f ≡ false → (k : ℕ) × (k < n) × (f k ≡ false)) → (t : Bool) → all_below n f ≡ t
+        → (k : ℕ) × (k < suc n) × (f k ≡ false)
+    by earlier false e = let r = earlier e in (r.0, omega (arith, r.1), r.2)
+    by earlier true e = (n, omega arith, sym (ap (λ t. t && f n) e) ∙ (sym (all-suc f n) ∙ h))

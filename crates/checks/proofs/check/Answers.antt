@@ -9,6 +9,9 @@ pub returns-in_err-asked : goal.returns-in_err-asked
 returns-in_err-asked c =
     refuses _ c.sizes_ok.ensures c.asked.ensures c.in_err-asked.was c.from_residual.ensures.1 (λ e. says-1 _ e)
 
+pub rest-requires : goal.rest-requires
+rest-requires c = record { numbers = (c.passes.ensures c.if-passes.true).numbers }
+
 pub returns-then-passes : goal.returns-then-passes
 returns-then-passes c =
     let sizes = passes _ c.sizes_ok.ensures c.asked.ensures c.in_ok-asked.was in

@@ -1,0 +1,2 @@
+mod ReadLaws
+pub mod NameLaws
