@@ -7,9 +7,8 @@ use native.Mathlib.Omega.{arith}
 use lib.Dec.{ltb}
 use lib.ListN.{length}
 use Rattle.std.specs.Prelude.{Ok, Err}
-use Rattle.refusals.specs.declared.Refusal.{Refusal}
 use Rattle.refusals.specs.declared.Refusal.TheVariants.{EmptyName, Eval, Emitted, ScratchShort, ImageLong, IllMade}
-use Rattle.refusals.specs.Refusal.{refusal_number, kept, leaves}
+use Rattle.refusals.specs.Refusal.{leaves}
 use Rattle.refusals.proofs.RefusalLaws.{fourteen}
 use Rattle.checks.specs.Checked.{Verdict, verdict_number, checked}
 use Rattle.checks.specs.EmptyNames.{Before, Nameless}
@@ -22,9 +21,6 @@ use Rattle.lowering.specs.Pools.{Pools}
 use Rattle.needs.specs.Needed as need
 use Rattle.to_image.specs.Answer as answers
 use Rattle.image_check.specs.Answer as judge
-use Rattle.api.specs.Given.{Given}
-use Rattle.api.specs.Asked.{Asked}
-use Rattle.api.specs.Judged.{Judged}
 use Rattle.api.specs.Fourteen.{Refuses, Fourteen}
 
 -- 01's number of an outcome
@@ -102,10 +98,13 @@ module _ (s : List ℕ) where
   told e = (empty_names_right s).refused e
 
   refuses : checked s ≡ Err EmptyName → Refuses s
-  unfolding need.needed need.needed_after outcome outcome_after answers.answer answers.image_after answers.scratch_after judge.scratch_after leaves
+  unfolding need.needed need.needed_after outcome outcome_after answers.answer answers.image_after answers.scratch_after
+      judge.scratch_after leaves
   refuses e = record {
     check = ap verdict_number e;
-    needs = λ A. (A.number_is ∙ ap (λ v. need.need_number (need.needed_after s v)) e, A.words_is ∙ ap (λ v. need.words_of (need.needed_after s v)) e);
+    needs = λ A.
+        let n : need.needed s ≡ Err EmptyName = ap (need.needed_after s) e in
+        (A.number_is ∙ ap need.need_number n, A.words_is ∙ ap need.words_of n);
     lower = λ {xs} {ys} G.
         let o : outcome s (length xs) (length ys) ≡ refused EmptyName = ap (outcome_after s (length xs) (length ys)) e in (
           G.number_is ∙ ap number o,
