@@ -15,7 +15,7 @@ ghost use Rattle.image_depths.specs.Passing.{Read, Ways, PooledAt, Passed, Marke
 
 use bytecode::{Flow, Top, effect_of};
 use image_read::{Image, RootKind, word_of};
-use image_rows::{come, come_rows, count_runs, rows_right};
+use image_rows::{come, come_table_rows, count_image_runs, table_rows_right};
 use zeros::zero;
 
 // An instruction: its word a, where it goes, and what it pushes, pops and needs to find.
@@ -109,7 +109,7 @@ fn ways(image: &Image, c: Code, p: u32) -> (usize, usize)
 // If no mark has come to table `i` before, its rows and its default are come to.
 // Kept: marks and rows apart, here and below, as in image_rows. That rows lie in their pools (`Pooled`) and are counted (`Runs`) are
 // premises: no code knows the first, and a slice does not say the second.
-// Kept: that a mark is not 0 is a premise, here, below and in `come_rows`. `come` writes it as a word and asks for nothing, so a
+// Kept: that a mark is not 0 is a premise, here, below and in `come_table_rows`. `come` writes it as a word and asks for nothing, so a
 // `NonZeroU32` would be unmade at each of its calls, and be made of a sum in `pass`, with an arm that never comes.
 fn enter(image: &Image, m: u32, found: &mut [u32], rows: &mut [u32], i: u32)
     ensures { let image = image.now.words.now in
@@ -118,7 +118,7 @@ fn enter(image: &Image, m: u32, found: &mut [u32], rows: &mut [u32], i: u32)
     if word_of(found, image.table_node(i)) != 0 {
         return;
     }
-    come_rows(image, m, found, rows, i);
+    come_table_rows(image, m, found, rows, i);
     come(m, found, image.table_word(i, 3) as usize);
 }
 
@@ -229,7 +229,7 @@ fn table_right(image: &Image, found: &[u32], rows: &[u32], i: u32) -> bool
     if m == 0 {
         return true;
     }
-    let right = rows_right(image, found, rows, i, m);
+    let right = table_rows_right(image, found, rows, i, m);
     right & (word_of(found, image.table_word(i, 3) as usize) == m)
 }
 
@@ -282,6 +282,6 @@ pub fn depths_right(image: &[u32], scratch: &mut [u32]) -> bool
     if !mark_all(&image, found, rows) {
         return false;
     }
-    count_runs(&image, found, rows);
+    count_image_runs(&image, found, rows);
     marks_right(&image, found, rows)
 }

@@ -87,7 +87,7 @@ fn come_row(image: &Image, m: u32, found: &mut [u32], rows: &mut [u32], k: usize
 // over at once: for n rows and tables in all these are at most some n log n steps, however the tables share rows, since a step
 // either at least doubles what is noted of a row or halves the way that is left.
 // Kept: that the mark is not 0 is a premise, and no `NonZeroU32`: `enter` of image_depths, which calls this, says why.
-pub fn come_rows(image: &Image, m: u32, found: &mut [u32], rows: &mut [u32], i: u32)
+pub fn come_table_rows(image: &Image, m: u32, found: &mut [u32], rows: &mut [u32], i: u32)
     ensures { let image = image.now.words.now in
         let change = marks.comes m (runs.row_target image i) (words.switch_word image i 2) in
         (Pooled image i → 0 < m → Does image change found.old rows.old found.new rows.new) }
@@ -99,6 +99,18 @@ pub fn come_rows(image: &Image, m: u32, found: &mut [u32], rows: &mut [u32], i: 
     while r < count {
         r += come_row(image, m, found, rows, first + (r as usize), count - r);
     }
+}
+
+// As `come_table_rows`, of an image by its words.
+// Kept: beside `come_table_rows`, and so are `count_runs` and `rows_right` beside `count_image_runs` and `table_rows_right`. A caller may
+// have the words alone; an `Image` is made once for all tables, where an image is checked as a whole.
+pub fn come_rows(image: &[u32], m: u32, found: &mut [u32], rows: &mut [u32], i: u32)
+    ensures { let image = image.now in
+        let change = marks.comes m (runs.row_target image i) (words.switch_word image i 2) in
+        (Pooled image i → 0 < m → Does image change found.old rows.old found.new rows.new) }
+{
+    let image = Image::of(image);
+    come_table_rows(&image, m, found, rows, i);
 }
 
 // One more in a run of rows, where a word has room for it.
@@ -114,7 +126,7 @@ fn run_on(run: u32, before: u32, m: u32) -> u32
 }
 
 // The word of each row becomes the length of the run of rows with one mark that ends there.
-pub fn count_runs(image: &Image, found: &[u32], rows: &mut [u32])
+pub fn count_image_runs(image: &Image, found: &[u32], rows: &mut [u32])
     ensures { Counted image.now.words.now found.now rows.old rows.new }
 {
     let total = (image.sizes.cases as usize) + (image.sizes.ranges as usize);
@@ -129,8 +141,16 @@ pub fn count_runs(image: &Image, found: &[u32], rows: &mut [u32])
     }
 }
 
+// As `count_image_runs`, of an image by its words.
+pub fn count_runs(image: &[u32], found: &[u32], rows: &mut [u32])
+    ensures { Counted image.now found.now rows.old rows.new }
+{
+    let image = Image::of(image);
+    count_image_runs(&image, found, rows);
+}
+
 // Whether all rows of table `i` lead to the mark `m`, by the runs that were counted.
-pub fn rows_right(image: &Image, found: &[u32], rows: &[u32], i: u32, m: u32) -> bool
+pub fn table_rows_right(image: &Image, found: &[u32], rows: &[u32], i: u32, m: u32) -> bool
     ensures { let image = image.now.words.now in
         let found = found.now in
         (Pooled image i
@@ -144,4 +164,16 @@ pub fn rows_right(image: &Image, found: &[u32], rows: &[u32], i: u32, m: u32) ->
     let last = first_row(image, i) + (count as usize) - 1;
     let t = row_target(image, last);
     (word_of(found, t as usize) == m) & (count <= word_of(rows, last))
+}
+
+// As `table_rows_right`, of an image by its words.
+pub fn rows_right(image: &[u32], found: &[u32], rows: &[u32], i: u32, m: u32) -> bool
+    ensures { let image = image.now in
+        let found = found.now in
+        (Pooled image i
+        → Runs image found rows.now
+        → result ≡ all_below (words.switch_word image i 2) (λ j. eqb (marks.mark found (runs.row_target image i j)) m)) }
+{
+    let image = Image::of(image);
+    table_rows_right(&image, found, rows, i, m)
 }

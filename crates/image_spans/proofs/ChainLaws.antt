@@ -16,7 +16,8 @@ use Rattle.image_rule.specs.Test.{fits, obeys, operands_by}
 use Rattle.image_read.specs.Kinds.{step_of}
 use Rattle.image_read.proofs.KindLaws.{step-past}
 use Rattle.image_maxima.specs.Tree.{leaf, Tree, leaves_up_to}
-use Rattle.image_spans.specs.Needs.{cut, need_of, step_need, NeedTree}
+use Rattle.image_spans.specs.Premises.{ChainsLie}
+use Rattle.image_spans.specs.Needs.{cut, need_of, step_need, NeedsIn, NeedTree}
 
 -- a cut need is met just where the whole is
 below-cut : (a n : ℕ) → n ≤ 65535 → leb (cut (a + 1)) n ≡ ltb a n
@@ -56,18 +57,21 @@ pub run-leaves : (t : List ℕ) (size a n x : ℕ) → leaves_up_to t size a (a 
 unfolding leaves_up_to
 run-leaves t size a n x = let e : a + n - a ≡ n = omega arith in rw e refl
 
--- chain i's answer by the tree, from the words that were read
-pub chain_fits :
-    {w t : List ℕ} (i a n x : ℕ) (r : Bool)
+-- chain i's answer by a tree of `size` leaves, from the words that were read
+pub fits_by :
+    {w t : List ℕ} (size i a n x : ℕ) (r : Bool)
+    → size ≡ steps w
     → a ≡ chain_word w i 3
     → n ≡ chain_word w i 4
     → x ≡ chain_word w i 5
-    → (Tree t (length t / 2) → a + n ≤ length t / 2 → r ≡ all_below n (λ k. leb (leaf t (length t / 2) (a + k)) x))
-    → NeedTree w t
+    → (Tree t size → a + n ≤ size → r ≡ all_below n (λ k. leb (leaf t size (a + k)) x))
+    → Tree t (steps w)
+    → NeedsIn w t (steps w)
+    → ChainsLie w
     → i < chains w
     → r ≡ operands_by w i
-chain_fits {w} {t} i a n x r ha hn hx says T h =
-    rw (T.half, ha, hn, hx) at says T.tree (T.lie.runs i h)
+fits_by {w} {t} size i a n x r es ha hn hx says tree needs lie h =
+    rw (es, ha, hn, hx) at says tree (lie.runs i h)
     ∙ all_same (λ k. leb (leaf t (steps w) (first + k)) most) (λ k. obeys_by w (first + k) most (step_word w (first + k) 0)) count same
   where
     first : ℕ
@@ -81,5 +85,17 @@ chain_fits {w} {t} i a n x r ha hn hx says T h =
 
     same : (k : ℕ) → k < count → leb (leaf t (steps w) (first + k)) most ≡ obeys_by w (first + k) most (step_word w (first + k) 0)
     same k b =
-        ap (λ (m : ℕ). leb m most) (T.needs.need (first + k) (omega (arith, T.lie.runs i h)))
-        ∙ step-fits w (first + k) most (T.lie.operands i h)
+        ap (λ (m : ℕ). leb m most) (needs.need (first + k) (omega (arith, lie.runs i h)))
+        ∙ step-fits w (first + k) most (lie.operands i h)
+
+-- chain i's answer by the tree that all of t is
+pub chain_fits :
+    {w t : List ℕ} (i a n x : ℕ) (r : Bool)
+    → a ≡ chain_word w i 3
+    → n ≡ chain_word w i 4
+    → x ≡ chain_word w i 5
+    → (Tree t (length t / 2) → a + n ≤ length t / 2 → r ≡ all_below n (λ k. leb (leaf t (length t / 2) (a + k)) x))
+    → NeedTree w t
+    → i < chains w
+    → r ≡ operands_by w i
+chain_fits i a n x r ha hn hx says T h = fits_by _ i a n x r T.half ha hn hx says T.tree T.needs T.lie h

@@ -18,6 +18,7 @@ use Rattle.image_read.specs.Pools.{kind_of, rows_of, rows_before}
 use Rattle.image_read.specs.declared.Rows.{Rows}
 use Rattle.image_read.proofs.TargetLaws.{target-range, row-target}
 use Rattle.image_maxima.specs.Tree.{leaf, Tree, leaves_up_to}
+use Rattle.image_spans.specs.Premises.{RowsLie}
 use Rattle.image_spans.specs.Leaves.{turned, row_count, TargetTree}
 use Rattle.image_spans.proofs.ChainLaws.{run-leaves}
 
@@ -60,16 +61,16 @@ before-second kind n z = rw (ne_eqb kind 0 z, rows_before) refl
 abbrev first_leaf : List ℕ → ℕ → ℕ
 first_leaf w i = rows_before (switch_word w i 0) (cases w) + switch_word w i 1
 
-module _ {w t : List ℕ} (T : TargetTree w t) (i : ℕ) (h : i < tables w) where
-  -- the rows of a table lie among the leaves
-  rows_inside : first_leaf w i + switch_word w i 2 ≤ row_count w
-  unfolding rows_before rows_there
-  rows_inside = by (eqb (switch_word w i 0) 0) refl
-    where
-      by : (b : Bool) → eqb (switch_word w i 0) 0 ≡ b → first_leaf w i + switch_word w i 2 ≤ row_count w
-      by true e = rw (e, rows_before) (omega (arith, rw (e, rows_there) at (T.lie.runs i h)))
-      by false e = rw (e, rows_before) (omega (arith, rw (e, rows_there) at (T.lie.runs i h)))
+-- the rows of a table lie among the leaves
+rows_inside : {w : List ℕ} → RowsLie w → (i : ℕ) → i < tables w → first_leaf w i + switch_word w i 2 ≤ row_count w
+unfolding rows_before rows_there
+rows_inside {w} lie i h = by (eqb (switch_word w i 0) 0) refl
+  where
+    by : (b : Bool) → eqb (switch_word w i 0) 0 ≡ b → first_leaf w i + switch_word w i 2 ≤ row_count w
+    by true e = rw (e, rows_before) (omega (arith, rw (e, rows_there) at (lie.runs i h)))
+    by false e = rw (e, rows_before) (omega (arith, rw (e, rows_there) at (lie.runs i h)))
 
+module _ {w t : List ℕ} (T : TargetTree w t) (i : ℕ) (h : i < tables w) where
   -- leaf of row r
   row-leaf : (r : ℕ) → r < switch_word w i 2 → leaf t (row_count w) (first_leaf w i + r) ≡ turned (row_target w i r)
   unfolding rows_before rows_there
@@ -128,7 +129,7 @@ table-aims {w} {t} p i n kind a b k d {pool} r en ekind epool ea eb ek ed says T
 
     rows : r ≡ all_below (switch_word w i 2) (λ j. ltb p (row_target w i j))
     rows =
-        rw (T.half, first, ek) at says T.tree (rows_inside T i h)
+        rw (T.half, first, ek) at says T.tree (rows_inside T.lie i h)
         ∙ run-leaves t (row_count w) (first_leaf w i) (switch_word w i 2) (4294967294 - p)
         ∙ all_same (λ j. leb (leaf t (row_count w) (first_leaf w i + j)) (4294967294 - p)) (λ j. ltb p (row_target w i j))
         (switch_word w i 2)

@@ -31,7 +31,7 @@ returns c =
     let K' : Checked image.words.now = rw same K in
     let M = c.mark_all.ensures K'.named K'.pooled (parts.1 ∙ c.marks_there-there.ensures.value) in
     let fits = room image.words.now K' in
-    let R = c.count_runs.ensures
+    let R = c.count_image_runs.ensures
     (omega (arith, fits, e, ap length same, parts.4, c.marks_there-there.ensures.value, c.mark_all.auto.rows)) in
     marked-right image.words.now _ _ _ M c.if-not-mark_all.false (c.marks_right.ensures K'.pooled R)
     ∙ ap (λ w. marks_right w (marked w (marks_there w) (mark w 0))) same

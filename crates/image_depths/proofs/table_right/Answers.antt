@@ -15,4 +15,4 @@ returns c =
     let a = c.args in
     λ Q R.
     table-by a.image.now.words.now a.found.now a.i _ _ _ _ (c.word_of-m.ensures ∙ ap (mark a.found.now) c.table_node.ensures.value)
-    c.if-m-eq0.false (c.rows_right-right.ensures Q R) c.table_word.ensures c.word_of.ensures
+    c.if-m-eq0.false (c.table_rows_right-right.ensures Q R) c.table_word.ensures c.word_of.ensures

@@ -1,10 +1,10 @@
--- `image_rows::come_rows` meets its contract. Invariant: r rows are passed (`Going`).
+-- `image_rows::come_table_rows` meets its contract. Invariant: r rows are passed (`Going`).
 use Prim.Native.Nat.{◌≤◌, ◌<◌, ◌-◌}
 use mathlib.Core.Path.{◌≡◌}
 use lib.ListN.{length}
 use Rattle.image_rows.specs.Scratch.{Seen}
 use Rattle.image_rows.proofs.SeenLaws.{Going}
-use Rattle.image_rows.proofs.come_rows.Given as goal
+use Rattle.image_rows.proofs.come_table_rows.Given as goal
 
 abbrev pub invariant-loop-r : goal.invariant-loop-r
 invariant-loop-r l =
