@@ -5,7 +5,7 @@ use mathlib.Core.List.{List, [], ◌∷◌, map}
 use lib.ListN.{get_or}
 use Rattle.bytecode.specs.Effect.{Effect, row, effects, effect, Count, fixed, argc, argc_ref, pops_a, needs_a, operands}
 use Rattle.bytecode.specs.Effect as flows
-use Rattle.bytecode.specs.Coded.{count_of, flow_of}
+use Rattle.bytecode.specs.Coded.{count_of, flow_of, effect_from}
 use Rattle.bytecode.specs.declared.table.Effect as coded
 use Rattle.bytecode.specs.declared.table.Top.{Top}
 use Rattle.bytecode.specs.declared.table.Top.TheVariants.{Nothing, Argc, RefArgc, PopsA, NeedsA, Operands}
@@ -55,3 +55,8 @@ flows_back flows.table = refl
 pub is_effect : (k : ℕ) → get_or (map coded_of effects) k (coded_of (row 0 0 0 fixed flows.on)) ≡ coded_of (effect k)
 unfolding effect
 is_effect k = row_at effects (row 0 0 0 fixed flows.on) k
+
+-- in the code's names and back
+pub effect_back : (e : Effect) → effect_from (coded_of e) ≡ e
+unfolding effect_from
+effect_back e = rw (counted_back e.count, flows_back e.flow)

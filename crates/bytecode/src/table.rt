@@ -1,8 +1,9 @@
 // What each kind of instruction does to the depth and to the place.
-ghost use Rattle.std.specs.Prelude.{◌≡◌};
-ghost use Rattle.bytecode.specs.Coded.{count_of, flow_of};
+ghost use Rattle.std.specs.Prelude.{ℕ, ◌≡◌, ◌<◌, ◌+◌, ◌*◌, get_or};
+ghost use Rattle.bytecode.specs.Coded.{count_of, effect_from, flow_of};
 ghost use Rattle.bytecode.specs.Effect.{ref_argc};
 ghost use Rattle.bytecode.specs.Effect as effects;
+ghost use Rattle.bytecode.specs.Table.{effect_table, numbers_of};
 
 // Which count comes on top: none; argc of Call; argc of CallRef, less a Local receiver; the word a, popped; the word a, needed and kept;
 // what chain a takes.
@@ -167,6 +168,8 @@ pub fn effect_of(kind: u32) -> Effect
     ensures keeps { result.keeps ≡ (effects.effect kind).keeps }
     ensures top { count_of result.top ≡ (effects.effect kind).count }
     ensures flow { flow_of result.flow ≡ (effects.effect kind).flow }
+    ensures numbers { (f : ℕ) → f < 5
+        → get_or (numbers_of (effect_from result)) f 0 ≡ get_or effect_table (5 * kind + f) 0 }
 {
     BY_KIND.get(kind as usize).copied().unwrap_or(NONE)
 }

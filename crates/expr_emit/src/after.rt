@@ -34,9 +34,10 @@ fn jump_on(stop: bool, to: u32) -> Op
 
 // SkipIfNotUnit and Pop.
 fn unless(store: &mut Store, to: u32, pos: u32)
-    ensures { (l : Layout) → (s : List ℕ) (i : ℕ)
+    ensures does { (l : Layout) → (s : List ℕ) (i : ℕ)
         → Done s l store.old store.new (after_one
         (kinds.Unless to) i pos) }
+    ensures same_reference { store.new.scratch.ghost_name ≡ store.old.scratch.ghost_name }
 {
     store.emit(Op::SkipIfNotUnit(to), pos, 0);
     store.emit(Op::Pop, pos, 0);
@@ -46,8 +47,9 @@ fn unless(store: &mut Store, to: u32, pos: u32)
 // Kept: a match on what it is. A closure in its place would be a type parameter of `siblings`, and the check states no theorem of a cycle
 // of calls whose functions differ in their type parameters (tried).
 pub fn after_one(store: &mut Store, by: After, i: u32, pos: u32)
-    ensures { (l : Layout) → (s : List ℕ)
+    ensures does { (l : Layout) → (s : List ℕ)
         → Done s l store.old store.new (after_one by i pos) }
+    ensures same_reference { store.new.scratch.ghost_name ≡ store.old.scratch.ghost_name }
 {
     match by {
         After::Nothing => {}

@@ -107,8 +107,9 @@ pub fn way_of(sheet: &[u8], store: &Store, j: u32) -> Way
 
 // CallRef, with the call's name at place `name`.
 fn ref_at(sheet: &[u8], store: &mut Store, j: u32, name: u32, receiver: Receiver)
-    ensures { let sheet = sheet.now in ((l : Layout) → nodes.count sheet j < 256
+    ensures does { let sheet = sheet.now in ((l : Layout) → nodes.count sheet j < 256
         → Done sheet l store.old store.new (constructs.ref_at name sheet j receiver)) }
+    ensures same_reference { store.new.scratch.ghost_name ≡ store.old.scratch.ghost_name }
 {
     let op = Op::CallRef {
         name,
@@ -120,8 +121,9 @@ fn ref_at(sheet: &[u8], store: &mut Store, j: u32, name: u32, receiver: Receiver
 
 // The call's name and CallRef.
 fn call_ref(sheet: &[u8], store: &mut Store, j: u32, receiver: Receiver)
-    ensures { let sheet = sheet.now in ((l : Layout) → Plain sheet j → nodes.count sheet j < 256 → NameKey sheet (key_of j 0)
+    ensures does { let sheet = sheet.now in ((l : Layout) → Plain sheet j → nodes.count sheet j < 256 → NameKey sheet (key_of j 0)
         → Done sheet l store.old store.new (constructs.call_ref sheet j receiver)) }
+    ensures same_reference { store.new.scratch.ghost_name ≡ store.old.scratch.ghost_name }
 {
     let name = add_name(sheet, store, j, 0);
     ref_at(sheet, store, j, name, receiver);
@@ -129,8 +131,9 @@ fn call_ref(sheet: &[u8], store: &mut Store, j: u32, receiver: Receiver)
 
 // The receiver's value under `others` other arguments.
 fn rotate(store: &mut Store, others: u32)
-    ensures { (l : Layout) → (s : List ℕ)
+    ensures does { (l : Layout) → (s : List ℕ)
         → Done s l store.old store.new (constructs.rotate others) }
+    ensures same_reference { store.new.scratch.ghost_name ≡ store.old.scratch.ghost_name }
 {
     if others == 0 {
         return;
@@ -140,8 +143,9 @@ fn rotate(store: &mut Store, others: u32)
 
 // A call through the name at place `at`.
 fn close_named(sheet: &[u8], store: &mut Store, j: u32, at: u32)
-    ensures { let sheet = sheet.now in ((l : Layout) → Plain sheet j → nodes.count sheet j < 256 → NameKey sheet (key_of j 0)
+    ensures does { let sheet = sheet.now in ((l : Layout) → Plain sheet j → nodes.count sheet j < 256 → NameKey sheet (key_of j 0)
         → Done sheet l store.old store.new (ways.close_named sheet j at)) }
+    ensures same_reference { store.new.scratch.ghost_name ≡ store.old.scratch.ghost_name }
 {
     store.emit(Op::LoadNamed(at), position(sheet, child(j)), 0);
     rotate(store, count(sheet, j).saturating_sub(1));
@@ -151,9 +155,10 @@ fn close_named(sheet: &[u8], store: &mut Store, j: u32, at: u32)
 // The call's name and Call, with a token plus 1, or 0.
 // Kept: `op` as the instruction has it. An Option would be unmade here.
 fn call_as(sheet: &[u8], store: &mut Store, j: u32, op: u32, capture: u32)
-    ensures { let sheet = sheet.now in ((l : Layout) → name_of sheet (key_of j 0) ≡ name (nodes.field_a sheet j) capture
+    ensures does { let sheet = sheet.now in ((l : Layout) → name_of sheet (key_of j 0) ≡ name (nodes.field_a sheet j) capture
         → nodes.count sheet j < 256 → capture < 2 → NameKey sheet (key_of j 0)
         → Done sheet l store.old store.new (constructs.call_as sheet j op capture)) }
+    ensures same_reference { store.new.scratch.ghost_name ≡ store.old.scratch.ghost_name }
 {
     let name = add_name(sheet, store, j, 0);
     let call = Op::Call {
@@ -167,9 +172,10 @@ fn call_as(sheet: &[u8], store: &mut Store, j: u32, op: u32, capture: u32)
 
 // The operator's token, the call's name and Call.
 fn call_token(sheet: &[u8], store: &mut Store, j: u32)
-    ensures { let sheet = sheet.now in ((l : Layout) → Plain sheet j → nodes.count sheet j < 256 → NameKey sheet (key_of j 0)
+    ensures does { let sheet = sheet.now in ((l : Layout) → Plain sheet j → nodes.count sheet j < 256 → NameKey sheet (key_of j 0)
         → TokenKey sheet j
         → Done sheet l store.old store.new (constructs.call_token sheet j)) }
+    ensures same_reference { store.new.scratch.ghost_name ≡ store.old.scratch.ghost_name }
 {
     let at = store.add_token(sheet, j);
     call_as(sheet, store, j, at.wrapping_add(1), 0);
@@ -177,8 +183,9 @@ fn call_token(sheet: &[u8], store: &mut Store, j: u32)
 
 // The end of a call of values.
 fn call_end(sheet: &[u8], store: &mut Store, j: u32)
-    ensures { let sheet = sheet.now in ((l : Layout) → Facts (kinds.Value) sheet j
+    ensures does { let sheet = sheet.now in ((l : Layout) → Facts (kinds.Value) sheet j
         → Done sheet l store.old store.new (constructs.call_end sheet j)) }
+    ensures same_reference { store.new.scratch.ghost_name ≡ store.old.scratch.ghost_name }
 {
     if stores_token(sheet, j) {
         call_token(sheet, store, j);
@@ -189,8 +196,9 @@ fn call_end(sheet: &[u8], store: &mut Store, j: u32)
 
 // Call without a token, with the call's name at place `name`.
 fn values_at(sheet: &[u8], store: &mut Store, j: u32, name: u32)
-    ensures { let sheet = sheet.now in ((l : Layout) → nodes.count sheet j < 256 → nodes.field_b sheet j < 2
+    ensures does { let sheet = sheet.now in ((l : Layout) → nodes.count sheet j < 256 → nodes.field_b sheet j < 2
         → Done sheet l store.old store.new (constructs.values_at name sheet j)) }
+    ensures same_reference { store.new.scratch.ghost_name ≡ store.old.scratch.ghost_name }
 {
     let call = Op::Call {
         name,
@@ -203,10 +211,11 @@ fn values_at(sheet: &[u8], store: &mut Store, j: u32, name: u32)
 
 // The name of call `j` in its namespace, and a receiver's name, which is loaded.
 fn open_named(sheet: &[u8], store: &mut Store, j: u32) -> Opened
-    ensures { let sheet = sheet.now in ((l : Layout) → (Facts (kinds.InNamed) sheet j
+    ensures does { let sheet = sheet.now in ((l : Layout) → (Facts (kinds.InNamed) sheet j
         → Done sheet l store.old store.new (ways.opened (kinds.InNamed) sheet j)) ×
         (Facts (kinds.InNamed) sheet j → (a : Made) → Held sheet l store.old a
         → result ≡ ways.opened_at (kinds.InNamed) sheet j a)) }
+    ensures same_reference { store.new.scratch.ghost_name ≡ store.old.scratch.ghost_name }
 {
     let name = add_name(sheet, store, j, 0);
     let first = add_name(sheet, store, child(j), 0);
@@ -216,10 +225,11 @@ fn open_named(sheet: &[u8], store: &mut Store, j: u32) -> Opened
 
 // The name of call `j` in its namespace, and `this`.
 fn open_this(sheet: &[u8], store: &mut Store, j: u32) -> Opened
-    ensures { let sheet = sheet.now in ((l : Layout) → (Facts (kinds.InThis) sheet j
+    ensures does { let sheet = sheet.now in ((l : Layout) → (Facts (kinds.InThis) sheet j
         → Done sheet l store.old store.new (ways.opened (kinds.InThis) sheet j)) ×
         (Facts (kinds.InThis) sheet j → (a : Made) → Held sheet l store.old a
         → result ≡ ways.opened_at (kinds.InThis) sheet j a)) }
+    ensures same_reference { store.new.scratch.ghost_name ≡ store.old.scratch.ghost_name }
 {
     let name = add_name(sheet, store, j, 0);
     store.emit(Op::LoadThis, position(sheet, child(j)), 0);
@@ -228,8 +238,9 @@ fn open_this(sheet: &[u8], store: &mut Store, j: u32) -> Opened
 
 // `call(f, ..)`.
 fn close_pointer(sheet: &[u8], store: &mut Store, j: u32)
-    ensures { let sheet = sheet.now in ((l : Layout) → Done sheet l store.old store.new (ways.closed
+    ensures does { let sheet = sheet.now in ((l : Layout) → Done sheet l store.old store.new (ways.closed
         (kinds.FnPtrCall) sheet j ways.nowhere)) }
+    ensures same_reference { store.new.scratch.ghost_name ≡ store.old.scratch.ghost_name }
 {
     let op = Op::CallFnPtr {
         argc: count(sheet, j).saturating_sub(1),
@@ -276,10 +287,11 @@ impl Way {
     // What comes before the arguments, and where the names stand that are pooled by then.
     // Kept: a match on the way, as `close` below.
     pub fn open(self, sheet: &[u8], store: &mut Store, j: u32) -> Opened
-        ensures { let sheet = sheet.now in ((l : Layout) → (Facts self sheet j
+        ensures does { let sheet = sheet.now in ((l : Layout) → (Facts self sheet j
             → Done sheet l store.old store.new (ways.opened self sheet j)) ×
             (Facts self sheet j → (a : Made) → Held sheet l store.old a
             → result ≡ ways.opened_at self sheet j a)) }
+        ensures same_reference { store.new.scratch.ghost_name ≡ store.old.scratch.ghost_name }
     {
         match self {
             Way::Named => {
@@ -305,8 +317,9 @@ impl Way {
     // What comes behind the arguments, with the names at these places.
     // Kept: a match on the way. Each arm is one construct of the definition; closures for them would be chosen by the same match.
     pub fn close(self, sheet: &[u8], store: &mut Store, j: u32, at: Opened)
-        ensures { let sheet = sheet.now in ((l : Layout) → Facts self sheet j
+        ensures does { let sheet = sheet.now in ((l : Layout) → Facts self sheet j
             → Done sheet l store.old store.new (ways.closed self sheet j at)) }
+        ensures same_reference { store.new.scratch.ghost_name ≡ store.old.scratch.ghost_name }
     {
         match self {
             Way::FnPtr => store.emit(Op::MakeFnPtr, position(sheet, child(j)), 0),

@@ -53,9 +53,10 @@ pub fn end_of(levels: u32, sheet: &[u8], store: &Store, j: u32) -> u32
 
 // The end of And and Or, which stop at `stop`, from depth `d`, with the code's end at place `end`.
 pub fn decision(store: &mut Store, stop: bool, end: u32, d: u32)
-    ensures { (l : Layout) → (s : List ℕ) (a : Made) → d ≤ a.pools.emitted
+    ensures does { (l : Layout) → (s : List ℕ) (a : Made) → d ≤ a.pools.emitted
         → Held s l store.old a → Fits l (decision (from_bool stop) end d a)
         → Held s l store.new (decision (from_bool stop) end d a) }
+    ensures same_reference { store.new.scratch.ghost_name ≡ store.old.scratch.ghost_name }
 {
     store.emit(Op::Bool(u32::from(!stop)), 0, 0);
     store.emit(Op::Jump(end), 0, 0);

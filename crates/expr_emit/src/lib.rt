@@ -47,9 +47,10 @@ use sheet::{Siblings, child, count, field_a, position, skip};
 #[inline(always)]
 #[cycle(array_call_chain_coalesce_expression_interpolated_short_circuit_siblings_walk)]
 fn siblings(levels: u32, sheet: &[u8], store: &mut Store, by: After, of: Operands)
-    ensures { let sheet = sheet.now in ((l : Layout) → Right sheet → Row sheet of.n of.from
+    ensures does { let sheet = sheet.now in ((l : Layout) → Right sheet → Row sheet of.n of.from
         → Done sheet l store.old store.new (rows sheet
         (lowered levels sheet) by of.n of.from)) }
+    ensures same_reference { store.new.scratch.ghost_name ≡ store.old.scratch.ghost_name }
 {
     for (i, j) in Siblings::new(sheet, of.n, of.from).enumerate() {
         expression(levels, sheet, store, j);
@@ -60,9 +61,10 @@ fn siblings(levels: u32, sheet: &[u8], store: &mut Store, by: After, of: Operand
 // Array: its elements, MakeArray. One with too many elements is kept.
 #[cycle(array_call_chain_coalesce_expression_interpolated_short_circuit_siblings_walk)]
 fn array(levels: u32, sheet: &[u8], store: &mut Store, j: u32)
-    ensures { let sheet = sheet.now in ((l : Layout) → Right sheet → Valid sheet j
+    ensures does { let sheet = sheet.now in ((l : Layout) → Right sheet → Valid sheet j
         → Done sheet l store.old store.new (constructs.array sheet
         (lowered levels sheet) j)) }
+    ensures same_reference { store.new.scratch.ghost_name ≡ store.old.scratch.ghost_name }
 {
     let of = Operands::of(sheet, j);
     if of.n <= MAX_ELEMENTS {
@@ -76,8 +78,9 @@ fn array(levels: u32, sheet: &[u8], store: &mut Store, j: u32)
 // Interpolated string.
 #[cycle(array_call_chain_coalesce_expression_interpolated_short_circuit_siblings_walk)]
 fn interpolated(levels: u32, sheet: &[u8], store: &mut Store, j: u32)
-    ensures { let sheet = sheet.now in ((l : Layout) → Right sheet → Valid sheet j
+    ensures does { let sheet = sheet.now in ((l : Layout) → Right sheet → Valid sheet j
         → Done sheet l store.old store.new (constructs.interpolated sheet (lowered levels sheet) j)) }
+    ensures same_reference { store.new.scratch.ghost_name ≡ store.old.scratch.ghost_name }
 {
     store.emit(Op::InterpolateStart, 0, 0);
     siblings(levels, sheet, store, After::Append, Operands::of(sheet, j));
@@ -88,8 +91,9 @@ fn interpolated(levels: u32, sheet: &[u8], store: &mut Store, j: u32)
 #[inline(always)]
 #[cycle(array_call_chain_coalesce_expression_interpolated_short_circuit_siblings_walk)]
 fn short_circuit(levels: u32, sheet: &[u8], store: &mut Store, stop: bool, end: u32, j: u32)
-    ensures { let sheet = sheet.now in ((l : Layout) → Right sheet → Valid sheet j
+    ensures does { let sheet = sheet.now in ((l : Layout) → Right sheet → Valid sheet j
         → Done sheet l store.old store.new (constructs.short_circuit (from_bool stop) sheet (lowered levels sheet) end j)) }
+    ensures same_reference { store.new.scratch.ghost_name ≡ store.old.scratch.ghost_name }
 {
     let by = After::Decide {
         stop,
@@ -103,9 +107,10 @@ fn short_circuit(levels: u32, sheet: &[u8], store: &mut Store, stop: bool, end: 
 // Coalesce, with the code's end at place `end`.
 #[cycle(array_call_chain_coalesce_expression_interpolated_short_circuit_siblings_walk)]
 fn coalesce(levels: u32, sheet: &[u8], store: &mut Store, end: u32, j: u32)
-    ensures { let sheet = sheet.now in ((l : Layout) → Right sheet → Valid sheet j → 1 ≤ nodes.count sheet j
+    ensures does { let sheet = sheet.now in ((l : Layout) → Right sheet → Valid sheet j → 1 ≤ nodes.count sheet j
         → Done sheet l store.old store.new (constructs.coalesce sheet
         (lowered levels sheet) end j)) }
+    ensures same_reference { store.new.scratch.ghost_name ≡ store.old.scratch.ghost_name }
 {
     let n = count(sheet, j).saturating_sub(1);
     let first = child(j);
@@ -117,9 +122,10 @@ fn coalesce(levels: u32, sheet: &[u8], store: &mut Store, end: u32, j: u32)
 // FnCall.
 #[cycle(array_call_chain_coalesce_expression_interpolated_short_circuit_siblings_walk)]
 fn call(levels: u32, sheet: &[u8], store: &mut Store, j: u32)
-    ensures { let sheet = sheet.now in ((l : Layout) → Right sheet → Valid sheet j → nodes.kind sheet j ≡ 13
+    ensures does { let sheet = sheet.now in ((l : Layout) → Right sheet → Valid sheet j → nodes.kind sheet j ≡ 13
         → Done sheet l store.old store.new (constructs.fn_call sheet
         (lowered levels sheet) j)) }
+    ensures same_reference { store.new.scratch.ghost_name ≡ store.old.scratch.ghost_name }
 {
     let w = way_of(sheet, store, j);
     let at = w.open(sheet, store, j);
@@ -131,9 +137,10 @@ fn call(levels: u32, sheet: &[u8], store: &mut Store, j: u32)
 #[inline(always)]
 #[cycle(array_call_chain_coalesce_expression_interpolated_short_circuit_siblings_walk)]
 fn walk(levels: u32, sheet: &[u8], store: &mut Store, j: u32)
-    ensures { let sheet = sheet.now in ((l : Layout) → Right sheet → Linked sheet j
+    ensures does { let sheet = sheet.now in ((l : Layout) → Right sheet → Linked sheet j
         → Done sheet l store.old store.new (constructs.steps sheet
         (lowered levels sheet) (flatten.links max_depth sheet j))) }
+    ensures same_reference { store.new.scratch.ghost_name ≡ store.old.scratch.ghost_name }
 {
     for p in links_of(sheet, j) {
         match link_with(sheet, p) {
@@ -149,9 +156,10 @@ fn walk(levels: u32, sheet: &[u8], store: &mut Store, j: u32)
 // Dot, Index. The code of a chain that fails is taken back.
 #[cycle(array_call_chain_coalesce_expression_interpolated_short_circuit_siblings_walk)]
 fn chain(levels: u32, sheet: &[u8], store: &mut Store, j: u32)
-    ensures { let sheet = sheet.now in ((l : Layout) → Right sheet → Linked sheet j
+    ensures does { let sheet = sheet.now in ((l : Layout) → Right sheet → Linked sheet j
         → Done sheet l store.old store.new (constructs.chain sheet
         (lowered levels sheet) j)) }
+    ensures same_reference { store.new.scratch.ghost_name ≡ store.old.scratch.ghost_name }
 {
     let far = far_of(sheet, j);
     // Kept: a match on how far the chain comes. It is read from the sheet, so closures would be chosen by the same match.
@@ -184,8 +192,9 @@ fn chain(levels: u32, sheet: &[u8], store: &mut Store, j: u32)
 // Node `j`, with that many levels left.
 #[cycle(array_call_chain_coalesce_expression_interpolated_short_circuit_siblings_walk)]
 pub fn expression(levels: u32, sheet: &[u8], store: &mut Store, j: u32)
-    ensures { let sheet = sheet.now in ((l : Layout) → Right sheet → Valid sheet j
+    ensures does { let sheet = sheet.now in ((l : Layout) → Right sheet → Valid sheet j
         → Done sheet l store.old store.new (lowered levels sheet j)) }
+    ensures same_reference { store.new.scratch.ghost_name ≡ store.old.scratch.ghost_name }
 {
     if levels == 0 {
         store.residual(j);

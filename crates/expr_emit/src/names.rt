@@ -23,11 +23,12 @@ fn key_of(j: u32, f: u32) -> u32
 // Kept: the field is a number. It is part of the key, which is a word of the scratch (3 · node + field); an enum would be made that number
 // at once.
 pub fn add_name(sheet: &[u8], store: &mut Store, j: u32, f: u32) -> u32
-    ensures { let sheet = sheet.now in ((l : Layout) → (f < names_per_node → NameKey sheet (key_of j f)
+    ensures does { let sheet = sheet.now in ((l : Layout) → (f < names_per_node → NameKey sheet (key_of j f)
         → Done sheet l store.old store.new (add_name sheet
         (name_of sheet (key_of j f)))) × ((a : Made) → f < names_per_node → NameKey sheet (key_of j f)
         → Held sheet l store.old a
         → result ≡ name_at sheet (name_of sheet (key_of j f)) a.pools)) }
+    ensures same_reference { store.new.scratch.ghost_name ≡ store.old.scratch.ghost_name }
 {
     store.add_name(sheet, key_of(j, f))
 }

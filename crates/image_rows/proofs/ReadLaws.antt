@@ -11,9 +11,7 @@ use Rattle.lowering.specs.Words.{word, cases_at, ranges_at, switch_word, case_wo
 use Rattle.lowering.specs.Run.{row_target}
 use Rattle.image_rule.specs.Rules.{cases, ranges, rows_there}
 use Rattle.image_read.specs.Pools.{kind_of, rows_of, rows_before}
-use Rattle.image_read.specs.Targets.{targets_at, apart, target_of}
 use Rattle.image_read.specs.declared.Rows.{Rows}
-use Rattle.image_read.specs.declared.Rows.TheVariants.{Cases, Ranges}
 use Rattle.image_rows.specs.AllRows.{row_of, first_row, Pooled}
 
 -- row q, by the section that it lies in
@@ -30,17 +28,15 @@ is_none : (w : List ℕ) (q : ℕ) → cases w ≤ q → ranges w ≤ q - cases 
 unfolding row_of
 is_none w q a b = rw (le-ltb q (cases w) a, le-ltb (q - cases w) (ranges w) b, row_of)
 
--- the same for the target that was read
-pub row-case : (w : List ℕ) (q n x : ℕ) → n ≡ cases w → q < n → x ≡ target_of w (kind_of Cases) q → x ≡ row_of w q
-unfolding target_of targets_at apart kind_of
-row-case w q n x c h e = e ∙ sym (is-case w q (omega arith))
+-- the same for the target that was read, where the section starts at `at`
+pub row-case : (w : List ℕ) (q n x at : ℕ) → n ≡ cases w → at ≡ cases_at w → q < n → x ≡ word w (at + case_width * q) → x ≡ row_of w q
+row-case w q n x at c p h e = e ∙ ap (λ k. word w (k + case_width * q)) p ∙ sym (is-case w q (omega arith))
 
-pub row-range : (w : List ℕ) (q n m x : ℕ) → n ≡ cases w → m ≡ ranges w → n ≤ q → q - n < m
-    → x ≡ target_of w (kind_of Ranges) (q - n) → x ≡ row_of w q
-unfolding target_of targets_at apart kind_of
-row-range w q n m x c d h g e =
-    let same : ranges_at w + range_target + range_width * (q - n) ≡ ranges_at w + (range_width * (q - cases w) + range_target) =
-    omega (arith, c) in
+pub row-range : (w : List ℕ) (q n m x at : ℕ) → n ≡ cases w → m ≡ ranges w → at ≡ ranges_at w → n ≤ q → q - n < m
+    → x ≡ word w (at + (range_width * (q - n) + range_target)) → x ≡ row_of w q
+row-range w q n m x at c d p h g e =
+    let same : at + (range_width * (q - n) + range_target) ≡ ranges_at w + (range_width * (q - cases w) + range_target) =
+    omega (arith, c, p) in
     e ∙ ap (word w) same ∙ sym (is-range w q (omega arith) (omega arith))
 
 pub row-none : (w : List ℕ) (q n m : ℕ) → n ≡ cases w → m ≡ ranges w → n ≤ q → m ≤ q - n → 0 ≡ row_of w q

@@ -11,18 +11,24 @@ ghost use Rattle.image_rows.specs.AllRows.{Pooled, row_of, first_row};
 ghost use Rattle.image_rows.specs.Scratch.{Does, Stepped, Runs, Counted};
 
 use image_read::{Image, Rows, word_of};
+use lowering::{CASE_WIDTH, RANGE_TARGET, RANGE_WIDTH};
 
 // Where row `q` goes.
+// Kept: no `Image::target_at`, which takes the row of a pool as a word. `count_image_runs` asks here for each row, and a number that is made
+// a word first costs it one instruction in seven.
 fn row_target(image: &Image, q: usize) -> u32
     ensures { result ≡ row_of image.now.words.now q }
 {
     let cases = image.sizes.cases as usize;
     if q < cases {
-        return image.target_at(Rows::Cases, q as u32);
+        return word_of(image.words, image.starts.cases + CASE_WIDTH * q);
     }
     let j = q - cases;
     if j < (image.sizes.ranges as usize) {
-        return image.target_at(Rows::Ranges, j as u32);
+        return word_of(
+            image.words,
+            image.starts.ranges + (RANGE_WIDTH * j + RANGE_TARGET),
+        );
     }
     0
 }

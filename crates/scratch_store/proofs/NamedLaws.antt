@@ -1,6 +1,8 @@
--- docs/PORT.md names these laws: the counts behind an instruction, the depth where no more is there than is popped, and the chain that a
--- search by its contract finds.
-use Rattle.std.proofs.Common.{◌≡◌, ℕ, ◌+◌, ◌%◌, ◌≤◌, Bool, List, get_or, max, refl, arith}
+-- docs/PORT.md and docs/PROVING.md name these laws: the counts behind an instruction, the depth where no more is there than is popped,
+-- the chain that a search by its contract finds, and that twelve counts in a list are all there.
+use Rattle.std.proofs.Common.{◌≡◌, ℕ, ◌+◌, ◌%◌, ◌≤◌, ◌<◌, Bool, List, [], ◌∷◌, length, get_or, max, refl, arith}
+use Rattle.std.specs.Prelude.{slice_index}
+use Rattle.lowering.specs.Code.{Code, greatest}
 use Rattle.sheet.specs.Node.{child}
 use Rattle.bytecode.specs.Effect.{effect, popped, Count}
 use Rattle.lowering.specs.Pools.{first_where}
@@ -34,3 +36,47 @@ pub chain_fits :
     → i ≡ first_where (same_nodes s v) (region (chains_at l) c.chains xs)
 chain_fits s l xs c v h i local told hashed sought a q =
     chain-found q.index v h i local (told q.index.slots) ((hashed (told q.index.slots)).is (indexes-names q.index)) sought
+
+-- what the counts stand for in a list of twelve; the last of them is never 0, so that a list that holds something is known to have all
+abbrev pub state_of : List ℕ → State
+state_of c = record {
+  code = slice_index c 0;
+  consts = slice_index c 1;
+  names = slice_index c 2;
+  tokens = slice_index c 3;
+  residuals = slice_index c 4;
+  chains = slice_index c 5;
+  emitted = slice_index c 6;
+  depth = slice_index c 7;
+  deepest = slice_index c 11;
+  layout = record { most = slice_index c 9; nodes = slice_index c 10 };
+  steps = slice_index c 8;
+}
+
+-- all counts are there
+abbrev pub Full : List ℕ → Type 0
+Full c = 11 < length c
+
+-- a last count that is not 0 is there, and so are all
+pub full_by : (c : List ℕ) → 1 ≤ get_or c 11 0 → Full c
+full_by ([]) h = absurd (omega arith)
+full_by (a0 ∷ []) h = absurd (omega arith)
+full_by (a0 ∷ a1 ∷ []) h = absurd (omega arith)
+full_by (a0 ∷ a1 ∷ a2 ∷ []) h = absurd (omega arith)
+full_by (a0 ∷ a1 ∷ a2 ∷ a3 ∷ []) h = absurd (omega arith)
+full_by (a0 ∷ a1 ∷ a2 ∷ a3 ∷ a4 ∷ []) h = absurd (omega arith)
+full_by (a0 ∷ a1 ∷ a2 ∷ a3 ∷ a4 ∷ a5 ∷ []) h = absurd (omega arith)
+full_by (a0 ∷ a1 ∷ a2 ∷ a3 ∷ a4 ∷ a5 ∷ a6 ∷ []) h = absurd (omega arith)
+full_by (a0 ∷ a1 ∷ a2 ∷ a3 ∷ a4 ∷ a5 ∷ a6 ∷ a7 ∷ []) h = absurd (omega arith)
+full_by (a0 ∷ a1 ∷ a2 ∷ a3 ∷ a4 ∷ a5 ∷ a6 ∷ a7 ∷ a8 ∷ []) h = absurd (omega arith)
+full_by (a0 ∷ a1 ∷ a2 ∷ a3 ∷ a4 ∷ a5 ∷ a6 ∷ a7 ∷ a8 ∷ a9 ∷ []) h = absurd (omega arith)
+full_by (a0 ∷ a1 ∷ a2 ∷ a3 ∷ a4 ∷ a5 ∷ a6 ∷ a7 ∷ a8 ∷ a9 ∷ a10 ∷ []) h = absurd (omega arith)
+full_by (a0 ∷ a1 ∷ a2 ∷ a3 ∷ a4 ∷ a5 ∷ a6 ∷ a7 ∷ a8 ∷ a9 ∷ a10 ∷ a11 ∷ c) h = omega arith
+
+greatest-least : (c : Code) → 1 ≤ greatest c
+unfolding greatest
+greatest-least [] = omega arith
+greatest-least (i ∷ c) = let z = greatest-least c in omega arith
+
+pub held-full : {s : List ℕ} {l : Layout} {xs : List ℕ} {a : Made} (c : List ℕ) → Holds s l xs (state_of c) a → Full c
+held-full {a = a} c h = full_by c (let d = h.counts.deepest in let g = greatest-least a.code in omega arith)

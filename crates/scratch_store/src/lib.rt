@@ -121,7 +121,8 @@ impl<'a> Store<'a> {
 
     // The instruction with words `w` behind the code, where `n` is what a chain takes.
     fn push(&mut self, w: [u32; OP_WIDTH], pos: u32, n: u32)
-        ensures { (l : Layout) → (s : List ℕ) (op : Op) → w ≡ op_words op → Done s l self.old self.new (made.emit op pos n) }
+        ensures does { (l : Layout) → (s : List ℕ) (op : Op) → w ≡ op_words op → Done s l self.old self.new (made.emit op pos n) }
+        ensures same_reference { self.new.scratch.ghost_name ≡ self.old.scratch.ghost_name }
     {
         let code = self.state.code;
         let d = after(w, n, self.state.depth);
@@ -133,14 +134,16 @@ impl<'a> Store<'a> {
 
     // An instruction behind the code. Its words are known where its kind is, so this is small where it is called.
     pub fn emit(&mut self, op: Op, pos: u32, n: u32)
-        ensures { (l : Layout) → (s : List ℕ) → Narrow op → Done s l self.old self.new (made.emit op pos n) }
+        ensures does { (l : Layout) → (s : List ℕ) → Narrow op → Done s l self.old self.new (made.emit op pos n) }
+        ensures same_reference { self.new.scratch.ghost_name ≡ self.old.scratch.ghost_name }
     {
         self.push(op_words(op), pos, n);
     }
 
     // Node `j` kept as it is.
     pub fn residual(&mut self, j: u32)
-        ensures { (l : Layout) → (s : List ℕ) → Done s l self.old self.new (made.residual j) }
+        ensures does { (l : Layout) → (s : List ℕ) → Done s l self.old self.new (made.residual j) }
+        ensures same_reference { self.new.scratch.ghost_name ≡ self.old.scratch.ghost_name }
     {
         let r = self.state.residuals;
         self.emit(Op::EvalAst(r), 0, 0);
@@ -155,9 +158,10 @@ impl<'a> Store<'a> {
     // each, and `ChainOf` the count of names beside, for a line less in each of the four; the count would be named in each all the same.
     // The constant of node `j`, and its place.
     pub fn add_const(&mut self, sheet: &[u8], j: u32) -> u32
-        ensures { let sheet = sheet.now in ((l : Layout)
+        ensures does { let sheet = sheet.now in ((l : Layout)
             → Added sheet l self.old self.new result (ConstKey sheet j) (made.add_const sheet (pools.const_of sheet j))
             (λ a. pools.const_at sheet (pools.const_of sheet j) a.pools)) }
+        ensures same_reference { self.new.scratch.ghost_name ≡ self.old.scratch.ghost_name }
     {
         let l = self.state.layout;
         let wanted = ConstOf { sheet, node: j };
@@ -174,9 +178,10 @@ impl<'a> Store<'a> {
 
     // The token of node `j`, and its place.
     pub fn add_token(&mut self, sheet: &[u8], j: u32) -> u32
-        ensures { let sheet = sheet.now in ((l : Layout)
+        ensures does { let sheet = sheet.now in ((l : Layout)
             → Added sheet l self.old self.new result (TokenKey sheet j) (made.add_token (nodes.field_c sheet j))
             (λ a. pools.token_at (nodes.field_c sheet j) a.pools)) }
+        ensures same_reference { self.new.scratch.ghost_name ≡ self.old.scratch.ghost_name }
     {
         let l = self.state.layout;
         let wanted = TokenOf { sheet, node: j };
@@ -193,11 +198,12 @@ impl<'a> Store<'a> {
 
     // The name with key `k`, sought by its bytes, and its place.
     fn push_name(&mut self, name: NameWith, k: u32) -> u32
-        ensures { let it = name.entry in let sheet = it.sheet.now in ((l : Layout)
+        ensures does { let it = name.entry in let sheet = it.sheet.now in ((l : Layout)
             → it.text ≡ (name_of sheet k).text → it.marked ≡ is_marked sheet (key_node k) (key_field k)
             → it.namespace ≡ (name_of sheet k).namespace
             → Added sheet l self.old self.new result (NameKey sheet k) (made.add_name sheet (name_of sheet k))
             (λ a. pools.name_at sheet (name_of sheet k) a.pools)) }
+        ensures same_reference { self.new.scratch.ghost_name ≡ self.old.scratch.ghost_name }
     {
         let l = self.state.layout;
         let h = name.hash(self.words(), l);
@@ -214,11 +220,12 @@ impl<'a> Store<'a> {
     // The same, where number `t` is that of the name: what a memo knows of it is asked first. A memo has the number plus 1, so the last one
     // has none.
     fn known_name(&mut self, name: NameWith, k: u32, t: u32) -> u32
-        ensures { let it = name.entry in let sheet = it.sheet.now in ((l : Layout)
+        ensures does { let it = name.entry in let sheet = it.sheet.now in ((l : Layout)
             → it.text ≡ (name_of sheet k).text → it.marked ≡ is_marked sheet (key_node k) (key_field k)
             → it.namespace ≡ (name_of sheet k).namespace → numbered t ≡ name_of sheet k
             → Added sheet l self.old self.new result (NameKey sheet k) (made.add_name sheet (name_of sheet k))
             (λ a. pools.name_at sheet (name_of sheet k) a.pools)) }
+        ensures same_reference { self.new.scratch.ghost_name ≡ self.old.scratch.ghost_name }
     {
         let ms = self.state.layout.memos_at();
         if let Some(at) = recalled(self.words(), ms, t) {
@@ -233,9 +240,10 @@ impl<'a> Store<'a> {
 
     // The name with key `k` (3 · node + field), and its place.
     pub fn add_name(&mut self, sheet: &[u8], k: u32) -> u32
-        ensures { let sheet = sheet.now in ((l : Layout)
+        ensures does { let sheet = sheet.now in ((l : Layout)
             → Added sheet l self.old self.new result (NameKey sheet k) (made.add_name sheet (name_of sheet k))
             (λ a. pools.name_at sheet (name_of sheet k) a.pools)) }
+        ensures same_reference { self.new.scratch.ghost_name ≡ self.old.scratch.ghost_name }
     {
         let name = NameWith {
             sheet,
@@ -251,7 +259,8 @@ impl<'a> Store<'a> {
 
     // The chain of node `j`, whose names are pooled, and its place.
     pub fn add_chain(&mut self, sheet: &[u8], j: u32) -> u32
-        ensures { (l : Layout) → AddedChain sheet.now l self.old self.new result j }
+        ensures does { (l : Layout) → AddedChain sheet.now l self.old self.new result j }
+        ensures same_reference { self.new.scratch.ghost_name ≡ self.old.scratch.ghost_name }
     {
         let l = self.state.layout;
         let n = self.state.chains;

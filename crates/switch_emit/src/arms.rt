@@ -39,9 +39,10 @@ struct Column {
 
 // The guard at node `g`, and the jump to place `to`.
 fn try_one(sheet: &[u8], store: &mut Store, g: u32, to: u32)
-    ensures { let sheet = sheet.now in ((l : Layout) → Right sheet → Valid sheet g
+    ensures does { let sheet = sheet.now in ((l : Layout) → Right sheet → Valid sheet g
         → Done sheet l store.old store.new
         (parts.try_one sheet (lowered max_depth sheet) to g)) }
+    ensures same_reference { store.new.scratch.ghost_name ≡ store.old.scratch.ghost_name }
 {
     expression(MAX_DEPTH, sheet, store, g);
     store.emit(Op::JumpIfTrue(to), position(sheet, g), 0);
@@ -49,12 +50,13 @@ fn try_one(sheet: &[u8], store: &mut Store, g: u32, to: u32)
 
 // The chain of a list. One that takes no body goes to place `tail`, unless the jump there is dropped.
 fn arm(sheet: &[u8], store: &mut Store, flat: &[u32], list: &[u32], tail: Option<u32>)
-    ensures { let sheet = sheet.now in
+    ensures does { let sheet = sheet.now in
         ((l : Layout) (drop : Bool) (place : ℕ) → tail ≡ parts.goes drop place → Ready sheet
         → Guards sheet flat.now (block_count sheet) → Named sheet list.now
         → Done sheet l store.old store.new
         (change.arm_to sheet (lowered max_depth sheet) (parts.place_in flat.now) place drop
         list.now)) }
+    ensures same_reference { store.new.scratch.ghost_name ≡ store.old.scratch.ghost_name }
 {
     let mut any = false;
     for b in list {
@@ -96,7 +98,7 @@ fn list_arms<L: Lists>(
     dropped: Option<usize>,
 )
     requires { (heads.at ≤ size) × (heads.cells ≤ max_bands) }
-    ensures { let sheet = sheet.now in
+    ensures does { let sheet = sheet.now in
         ((l : Layout) (ls : List (List ℕ)) (falls : Bool) → Ready sheet → Guards sheet flat.now (block_count sheet)
         → L.known lists.now flat.now
         → Heads sheet flat.now (L.list_of lists.now flat.now) heads.at heads.cells ls
@@ -104,6 +106,7 @@ fn list_arms<L: Lists>(
         → Done sheet l store.old store.new
         (change.arms_to sheet (lowered max_depth sheet) (parts.place_in flat.now) to falls
         ls)) }
+    ensures same_reference { store.new.scratch.ghost_name ≡ store.old.scratch.ghost_name }
 {
     let mut room = [0u32; ENTRIES];
     // Kept: an index. `flat` is any slice here, and `get` answers past its end, where `skip` and `take` would end before `cells` rounds.
@@ -116,12 +119,13 @@ fn list_arms<L: Lists>(
 // The chains of the cases; `falls` says that the fallback follows.
 // Kept: `case_arms` and `range_arms` are one call of `list_arms` each; what is left is its arguments.
 pub fn case_arms(sheet: &[u8], store: &mut Store, flat: &[u32], falls: bool)
-    ensures { let sheet = sheet.now in
+    ensures does { let sheet = sheet.now in
         ((l : Layout) → Ready sheet → Tables sheet flat.now
         → Placed sheet flat.now
         → Done sheet l store.old store.new
         (change.arms_to sheet (lowered max_depth sheet) (parts.place_in flat.now)
         (cell flat.now fallback_at) falls (change.case_lists sheet))) }
+    ensures same_reference { store.new.scratch.ghost_name ≡ store.old.scratch.ghost_name }
 {
     let n = (get(flat, CASE_HEADS) as usize).min(ENTRIES);
     let heads = Column {
@@ -135,11 +139,12 @@ pub fn case_arms(sheet: &[u8], store: &mut Store, flat: &[u32], falls: bool)
 
 // The chains of the bands.
 pub fn range_arms(sheet: &[u8], store: &mut Store, flat: &[u32])
-    ensures { let sheet = sheet.now in
+    ensures does { let sheet = sheet.now in
         ((l : Layout) → Ready sheet → Tables sheet flat.now
         → Done sheet l store.old store.new
         (change.arms_to sheet (lowered max_depth sheet) (parts.place_in flat.now)
         (cell flat.now default_at) false (change.range_lists (entries sheet)))) }
+    ensures same_reference { store.new.scratch.ghost_name ≡ store.old.scratch.ghost_name }
 {
     let n = (get(flat, BAND_HEADS) as usize).min(MOST_BANDS);
     let heads = Column {

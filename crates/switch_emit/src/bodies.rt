@@ -26,12 +26,13 @@ use switch_tables::{END, ENTRIES, GUARD_NODE, WANTED};
 // The body of block `k` over the subject, and the jump to the end, unless it is dropped, if the body is wanted.
 fn body(sheet: &[u8], store: &mut Store, flat: &[u32], k: usize, end: Option<u32>)
     requires { k < max_entries }
-    ensures { let sheet = sheet.now in
+    ensures does { let sheet = sheet.now in
         ((l : Layout) (drop : Bool) → end ≡ parts.goes drop (cell flat.now end_at) → Ready sheet
         → Guards sheet flat.now (block_count sheet) → k < block_count sheet
         → DoneFrom sheet l store.old store.new
         (parts.body_if (want_in flat.now) sheet (lowered max_depth sheet)
         (cell flat.now end_at) drop k)) }
+    ensures same_reference { store.new.scratch.ghost_name ≡ store.old.scratch.ghost_name }
 {
     if get(flat, WANTED + k) == 1 {
         store.state.at_depth(1);
@@ -52,11 +53,12 @@ fn last_wanted(flat: &[u32], n: usize) -> Option<usize>
 
 // The bodies; `falls` says that the end follows.
 pub fn bodies(sheet: &[u8], store: &mut Store, flat: &[u32], falls: bool)
-    ensures { let sheet = sheet.now in
+    ensures does { let sheet = sheet.now in
         ((l : Layout) → Ready sheet → Tables sheet flat.now
         → DoneFrom sheet l store.old store.new
         (change.bodies_to sheet (lowered max_depth sheet) (want_in flat.now) (cell flat.now end_at) falls
         (block_count sheet) 0)) }
+    ensures same_reference { store.new.scratch.ghost_name ≡ store.old.scratch.ghost_name }
 {
     let n = (field_a(sheet, 0) as usize).min(ENTRIES);
     let dropped = if falls { last_wanted(flat, n) } else { None };
@@ -68,9 +70,10 @@ pub fn bodies(sheet: &[u8], store: &mut Store, flat: &[u32], falls: bool)
 
 // Unit for a missing default.
 pub fn missing(store: &mut Store, def: Option<u32>)
-    ensures { (l : Layout) → (s : List ℕ)
+    ensures does { (l : Layout) → (s : List ℕ)
         → DoneFrom s l store.old store.new
         (change.missing_to (coded def)) }
+    ensures same_reference { store.new.scratch.ghost_name ≡ store.old.scratch.ghost_name }
 {
     if def.is_none() {
         store.state.at_depth(1);
@@ -80,9 +83,10 @@ pub fn missing(store: &mut Store, def: Option<u32>)
 
 // The subject goes from below the value.
 pub fn close(store: &mut Store)
-    ensures { (l : Layout) → (s : List ℕ)
+    ensures does { (l : Layout) → (s : List ℕ)
         → DoneFrom s l store.old store.new
         change.close_to }
+    ensures same_reference { store.new.scratch.ghost_name ≡ store.old.scratch.ghost_name }
 {
     store.state.at_depth(2);
     store.emit(Op::Rotate(1), 0, 0);

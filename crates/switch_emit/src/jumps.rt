@@ -24,9 +24,10 @@ fn dropped(state: &mut State)
 
 // A jump, or its count alone where it is dropped.
 pub fn jump(store: &mut Store, to: Option<u32>)
-    ensures { (l : Layout) → (s : List ℕ) (drop : Bool) (place : ℕ) → to ≡ parts.goes drop place
+    ensures does { (l : Layout) → (s : List ℕ) (drop : Bool) (place : ℕ) → to ≡ parts.goes drop place
         → Done s l store.old store.new
         (change.jump_to drop place) }
+    ensures same_reference { store.new.scratch.ghost_name ≡ store.old.scratch.ghost_name }
 {
     match to {
         Some(place) => store.emit(Op::Jump(place), 0, 0),
@@ -36,9 +37,10 @@ pub fn jump(store: &mut Store, to: Option<u32>)
 
 // The end of a chain, if a guard was tried.
 pub fn end_arm(store: &mut Store, any: bool, to: Option<u32>)
-    ensures { (l : Layout) → (s : List ℕ) (drop : Bool) (place : ℕ) → to ≡ parts.goes drop place
+    ensures does { (l : Layout) → (s : List ℕ) (drop : Bool) (place : ℕ) → to ≡ parts.goes drop place
         → Done s l store.old store.new
         (parts.end_arm any drop place) }
+    ensures same_reference { store.new.scratch.ghost_name ≡ store.old.scratch.ghost_name }
 {
     if any {
         jump(store, to);

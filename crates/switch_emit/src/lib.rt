@@ -43,6 +43,7 @@ pub fn case_consts(sheet: &[u8], store: &mut Store, flat: &mut [u32])
         → Held sheet l store.old a
         → ConstsAt sheet flat.new a) }
     ensures within { Within case_const_at size flat.old flat.new }
+    ensures same_reference { store.new.scratch.ghost_name ≡ store.old.scratch.ghost_name }
 {
     let n = field_b(sheet, 0).min(MAX_ENTRIES);
     let cases = Siblings::new(sheet, n, first_case(sheet));
@@ -54,9 +55,10 @@ pub fn case_consts(sheet: &[u8], store: &mut Store, flat: &mut [u32])
 
 // The subject, and the first Switch.
 fn subject(sheet: &[u8], store: &mut Store)
-    ensures { let sheet = sheet.now in ((l : Layout) → Ready sheet
+    ensures does { let sheet = sheet.now in ((l : Layout) → Ready sheet
         → Done sheet l store.old store.new
         (change.subject_to (lowered max_depth sheet))) }
+    ensures same_reference { store.new.scratch.ghost_name ≡ store.old.scratch.ghost_name }
 {
     expression(MAX_DEPTH, sheet, store, child(0));
     store.emit(Op::Switch(0), 0, 0);
@@ -64,12 +66,13 @@ fn subject(sheet: &[u8], store: &mut Store)
 
 // The chains of the cases; the second Switch and the chains of the ranges, if the split has entries.
 fn chains(sheet: &[u8], store: &mut Store, flat: &[u32])
-    ensures { let sheet = sheet.now in
+    ensures does { let sheet = sheet.now in
         ((l : Layout) → Ready sheet → Tables sheet flat.now
         → Placed sheet flat.now
         → Done sheet l store.old store.new
         (change.chains_to sheet (lowered max_depth sheet) (parts.targets_in flat.now)
         (entries sheet))) }
+    ensures same_reference { store.new.scratch.ghost_name ≡ store.old.scratch.ghost_name }
 {
     if get(flat, BANDS) == 0 {
         case_arms(sheet, store, flat, false);
@@ -82,12 +85,13 @@ fn chains(sheet: &[u8], store: &mut Store, flat: &[u32])
 
 // The switch, with all that its table has.
 pub fn switch(sheet: &[u8], store: &mut Store, flat: &[u32])
-    ensures { let sheet = sheet.now in
+    ensures does { let sheet = sheet.now in
         ((l : Layout) → Ready sheet → Tables sheet flat.now
         → Placed sheet flat.now
         → Done sheet l store.old store.new
         (change.switch_to sheet (lowered max_depth sheet) (parts.targets_in flat.now) (entries sheet)
         (default_block sheet) (want_in flat.now))) }
+    ensures same_reference { store.new.scratch.ghost_name ≡ store.old.scratch.ghost_name }
 {
     let def = field_c(sheet, 0).checked_sub(1);
     subject(sheet, store);

@@ -10,6 +10,7 @@ ghost use Rattle.switch_tables.specs.Columns.{cell, spans_at};
 ghost use Rattle.switch_tables.specs.Hash.{hash_of};
 ghost use Rattle.switch_tables.specs.Heads.{case_key};
 ghost use Rattle.switch_tables.specs.Table.{piece_in};
+ghost use Rattle.switch_lists.specs.Listed.{Listed};
 
 use scratch::{get, put};
 use sheet::{Siblings, child, count, field_a, next};
@@ -22,25 +23,36 @@ fn ref_count(sheet: &[u8], c: u32) -> usize
     (count(sheet, c) as usize).saturating_sub(1).min(ENTRIES)
 }
 
-// The list of Case `c`, made in the room that is lent, as far as it goes.
+// The list of Case `c`, written to the front of the room that is lent: how long it is.
 // Kept: that the room has 64 words is a premise, here and below, and that a list has at most 64 blocks a promise, and a premise of `hash`:
 // the functions are public and answer for any room and list, and a list is a slice, which a type around it would be opened for at each use.
-pub fn case_list<'a>(sheet: &[u8], c: u32, room: &'a mut [u32]) -> &'a [u32]
-    ensures upper_bound { length result.now ≤ max_entries }
-    ensures list { max_entries ≤ length room.old → result.now ≡ case_key sheet.now c }
+pub fn list_of_case(sheet: &[u8], c: u32, room: &mut [u32]) -> usize
+    ensures upper_bound { result ≤ max_entries }
+    ensures listed { max_entries ≤ length room.old → Listed room.new result (case_key sheet.now c) }
 {
     let n = ref_count(sheet, c);
     let refs = Siblings::new(sheet, n as u32, next(sheet, child(c)));
     for (i, j) in refs.enumerate() {
         put(room, i, field_a(sheet, j));
     }
+    n
+}
+
+// The list of Case `c`, made in the room that is lent, as far as it goes.
+pub fn case_list<'a>(sheet: &[u8], c: u32, room: &'a mut [u32]) -> &'a [u32]
+    ensures upper_bound { length result.now ≤ max_entries }
+    ensures list { max_entries ≤ length room.old → result.now ≡ case_key sheet.now c }
+{
+    let n = list_of_case(sheet, c, room);
     &room[..n.min(room.len())]
 }
 
-// The list of piece `p`, made in the room that is lent, as far as it goes: the blocks of the ranges that cover it, in source order.
-pub fn piece_list<'a>(flat: &[u32], p: u32, room: &'a mut [u32]) -> &'a [u32]
-    ensures upper_bound { length result.now ≤ max_entries }
-    ensures list { cell flat.now spans_at ≤ max_entries → max_entries ≤ length room.old → result.now ≡ piece_in flat.now p }
+// The list of piece `p`, written to the front of the room that is lent: the blocks of the ranges that cover it, in source order; how
+// many they are.
+pub fn list_of_piece(flat: &[u32], p: u32, room: &mut [u32]) -> usize
+    ensures upper_bound { result ≤ max_entries }
+    ensures listed { cell flat.now spans_at ≤ max_entries → max_entries ≤ length room.old
+        → Listed room.new result (piece_in flat.now p) }
 {
     let n = (get(flat, SPANS) as usize).min(ENTRIES);
     // Kept: `k` counts what is put, and is asked behind the loop; an `enumerate` over a `filter` would be counted again for it.
@@ -51,6 +63,15 @@ pub fn piece_list<'a>(flat: &[u32], p: u32, room: &'a mut [u32]) -> &'a [u32]
             k += 1;
         }
     }
+    k
+}
+
+// The list of piece `p`, made in the room that is lent, as far as it goes.
+pub fn piece_list<'a>(flat: &[u32], p: u32, room: &'a mut [u32]) -> &'a [u32]
+    ensures upper_bound { length result.now ≤ max_entries }
+    ensures list { cell flat.now spans_at ≤ max_entries → max_entries ≤ length room.old → result.now ≡ piece_in flat.now p }
+{
+    let k = list_of_piece(flat, p, room);
     &room[..k.min(room.len())]
 }
 

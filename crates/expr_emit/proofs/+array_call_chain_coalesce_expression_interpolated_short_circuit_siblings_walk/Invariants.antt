@@ -1,6 +1,6 @@
 -- Each function does to the scratch what its definition does. The measure: four times the levels, plus the
 -- function's rank among its callers.
-use Rattle.std.proofs.Common.{◌+◌, ◌*◌}
+use Rattle.std.proofs.Common.{◌≡◌, ◌+◌, ◌*◌}
 use Rattle.expr_rules.specs.Links.{nodes_left}
 use Rattle.expr_rules.proofs.LinksLaws.{Left}
 use Rattle.expr_emit.proofs.WalkDoes.{Walking}
@@ -47,6 +47,7 @@ invariant-siblings-loop-i v =
     Walked v.sheet v.fn.of.from v.fn.of.n i (rest v.i-iterator.iter)
     × ((l : Layout) → Right v.sheet → Row v.sheet v.fn.of.n v.fn.of.from
     → Done v.sheet l v.initial.store v.store (rows v.sheet (lowered v.levels v.sheet) v.by i v.fn.of.from))
+    × (v.store.scratch.ghost_name ≡ v.initial.store.scratch.ghost_name)
 
 abbrev pub invariant-walk-loop-p : goal.invariant-walk-loop-p
 invariant-walk-loop-p v =
@@ -54,3 +55,4 @@ invariant-walk-loop-p v =
     × ((l : Layout) → Right v.sheet → Linked v.sheet v.j
     → Walking v.sheet l v.levels v.j v.initial.store.scratch.now v.initial.store.state v.store.scratch.now v.store.state
     (nodes_left v.p-iterator))
+    × (v.store.scratch.ghost_name ≡ v.initial.store.scratch.ghost_name)

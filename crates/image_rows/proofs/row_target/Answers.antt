@@ -5,13 +5,14 @@ use Rattle.image_rows.proofs.row_target.Goals as goal
 pub returns-then-q-cases : goal.returns-then-q-cases
 returns-then-q-cases c =
     let image = c.args.image.now in
-    row-case image.words.now c.args.q image.sizes.cases _ image.sized.cases c.if-q-cases.true c.target_at.ensures
+    row-case image.words.now c.args.q image.sizes.cases _ image.starts.cases image.sized.cases image.placed.cases c.if-q-cases.true
+    c.word_of.ensures
 
 pub returns-then-j-image : goal.returns-then-j-image
 returns-then-j-image c =
     let image = c.args.image.now in
-    row-range image.words.now c.args.q image.sizes.cases image.sizes.ranges _ image.sized.cases image.sized.ranges c.if-q-cases.false
-    c.if-j-image.true c.target_at-then-j-image.ensures
+    row-range image.words.now c.args.q image.sizes.cases image.sizes.ranges _ image.starts.ranges image.sized.cases image.sized.ranges
+    image.placed.ranges c.if-q-cases.false c.if-j-image.true c.word_of-then-j-image.ensures
 
 pub returns : goal.returns
 returns c =

@@ -17,6 +17,7 @@ loop-i-init c =
       walked-start _ _ _ _ (ap (λ e. e.iter) gives ∙ made.source) cases.sheet cases.left (cases.at ∙ c.first_case.ensures) zero,
       within_none _ _ _,
       λ l C. rw zero (cases_begin _),
+      refl,
     )
 
 pub loop-i-preserved : goal.loop-i-preserved
@@ -34,7 +35,8 @@ loop-i-preserved c =
       λ l C.
           cases_step (v.invariant.3 l C) _ _ _ C n-is goes.less goes.node c.child.ensures
           (case-key _ _ _ C (capped-below _ _ _ _ c.min-n.ensures c.field_b.ensures goes.less) goes.node
-          c.child.ensures) (c.add_const-p.ensures l) written,
+          c.child.ensures) (c.add_const-p.ensures.does l) written,
+      c.add_const-p.ensures.same_reference ∙ v.invariant.4,
     )
 
 pub shape_of-flat : goal.shape_of-flat
@@ -50,4 +52,5 @@ returns c =
       does = λ l C. cases-does (v.invariant.3 l C) _ C n-is (omega (arith, is));
       consts = λ l a C e h. cases-places (v.invariant.3 l C) _ C n-is (omega (arith, is)) a (v.invariant.0 ∙ e) h;
       within = v.invariant.2;
+      same_reference = v.invariant.4;
     }

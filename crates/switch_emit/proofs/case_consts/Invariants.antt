@@ -16,3 +16,4 @@ invariant-loop-i v =
     × Within case_const_at size v.initial.flat v.flat
     × ((l : Layout) → Ready v.sheet
     → CasesDone v.sheet l v.initial.store.scratch.now v.initial.store.state v.store.scratch.now v.store.state v.flat i)
+    × (v.store.scratch.ghost_name ≡ v.initial.store.scratch.ghost_name)

@@ -1,12 +1,14 @@
 -- `bytecode::table::effect_of` meets its contract: the table has the definition's rows, in the code's names.
-use mathlib.Core.Path.{◌≡◌, ◌∙◌, ap}
+use mathlib.Core.Path.{◌≡◌, ◌∙◌, ap, sym}
 use mathlib.Core.List.{map}
 use native.Mathlib.Omega.{arith}
 use lib.ListN.{get_or}
 use Rattle.std.specs.Option.{unwrap_or}
-use Rattle.bytecode.specs.Coded.{count_of, flow_of}
+use Rattle.bytecode.specs.Coded.{count_of, flow_of, effect_from}
 use Rattle.bytecode.specs.Effect.{row, effects, effect, fixed, on}
-use Rattle.bytecode.proofs.RowLaws.{coded_of, top_of, coded_flow, is_effect, counted_back, flows_back}
+use Rattle.bytecode.specs.Table.{numbers_of, entry}
+use Rattle.bytecode.proofs.RowLaws.{coded_of, top_of, coded_flow, is_effect, counted_back, flows_back, effect_back}
+use Rattle.bytecode.proofs.TableLaws.{table-entry}
 use Rattle.bytecode.proofs.table.effect_of.Goals as goal
 
 -- what is read is the row
@@ -33,3 +35,9 @@ returns-clause-top c = ap (λ e. count_of e.top) (is-row c) ∙ counted_back _
 
 pub returns-clause-flow : goal.returns-clause-flow
 returns-clause-flow c = ap (λ e. flow_of e.flow) (is-row c) ∙ flows_back _
+
+pub returns-clause-numbers : goal.returns-clause-numbers
+unfolding entry
+returns-clause-numbers c = λ f small.
+    let told = ap effect_from (is-row c) ∙ effect_back (effect c.args.kind) in
+    ap (λ e. get_or (numbers_of e) f 0) told ∙ sym (table-entry c.args.kind f small)

@@ -3,9 +3,9 @@ use Rattle.std.proofs.Common.{lit<}
 use Rattle.expr_emit.proofs.LeafDoes.{load-qualified-does}
 use Rattle.expr_emit.proofs.leaves.load_qualified.Goals as goal
 
-pub returns : goal.returns
-returns c =
+pub returns-clause-does : goal.returns-clause-does
+returns-clause-does c =
     λ l.
-    let named = c.add_name-at.ensures l in
+    let named = c.add_name-at.ensures.does l in
     λ p v. load-qualified-does _ _ p c.namespace_pos.ensures (λ a h. named.1 a (lit< tt) v h) (named.0 (lit< tt) v)
-    (c.emit.ensures l _ tt)
+    (c.emit.ensures.does l _ tt)

@@ -5,16 +5,16 @@ use Rattle.scratch_store.proofs.DoesLaws.{held-slots, does-held}
 use Rattle.expr_emit.proofs.LeafDoes.{unmarked-plain, variable-qualified, variable-local, variable-named}
 use Rattle.expr_emit.proofs.leaves.variable.Goals as goal
 
-pub returns-then-namespace-ne0 : goal.returns-then-namespace-ne0
-returns-then-namespace-ne0 c =
+pub returns-then-namespace-ne0-clause-does : goal.returns-then-namespace-ne0-clause-does
+returns-then-namespace-ne0-clause-does c =
     λ l.
     λ p v.
     let a = c.args in
     let q = qualified-here a.sheet.now a.j (λ e. c.if-namespace-ne0.true (c.namespace.ensures ∙ e)) in
-    variable-qualified _ q (c.load_qualified.ensures l p v)
+    variable-qualified _ q (c.load_qualified.ensures.does l p v)
 
-pub returns-in-Some : goal.returns-in-Some
-returns-in-Some c =
+pub returns-in-Some-clause-does : goal.returns-in-Some-clause-does
+returns-in-Some-clause-does c =
     λ l.
     λ p v.
     let args = c.args in
@@ -22,10 +22,10 @@ returns-in-Some c =
     does-held (λ a h.
     variable-local _ _ _ q (c.local_of.ensures (rw c.words.ensures (held-slots refl h)))
     c.in-Some.is
-    (c.emit.ensures l _ tt))
+    (c.emit.ensures.does l _ tt))
 
-pub returns-in-None : goal.returns-in-None
-returns-in-None c =
+pub returns-in-None-clause-does : goal.returns-in-None-clause-does
+returns-in-None-clause-does c =
     λ l.
     λ p v.
     let args = c.args in
@@ -34,4 +34,4 @@ returns-in-None c =
     does-held (λ a h.
     variable-named _ _ q (c.local_of.ensures (rw c.words.ensures (held-slots refl h)))
     c.in-None.is
-    (c.load_named.ensures l (unmarked-plain args.sheet.now args.j none p) v))
+    (c.load_named.ensures.does l (unmarked-plain args.sheet.now args.j none p) v))

@@ -4,8 +4,8 @@ use Rattle.scratch_store.proofs.AddsLaws.{chain-adds-old, chain-adds-new}
 use Rattle.scratch_store.proofs.DoesLaws.{chain-any}
 use Rattle.scratch_store.proofs.Store.add_chain.Goals as goal
 
-pub returns-then-n-self : goal.returns-then-n-self
-returns-then-n-self c =
+pub returns-then-n-self-clause-does : goal.returns-then-n-self-clause-does
+returns-then-n-self-clause-does c =
     let it = c.args.self.now in
     let s = c.args.sheet.now in
     chain-any refl
@@ -14,8 +14,8 @@ returns-then-n-self c =
     (rw (← c.words.ensures) c.root_local-local.ensures) (rw (← c.words-2.ensures) c.chain_hash-h.ensures)
     (rw (← c.chain_index.ensures) c.stand-e.ensures) c.if-n-self.true))
 
-pub returns-else-n-self : goal.returns-else-n-self
-returns-else-n-self c =
+pub returns-else-n-self-clause-does : goal.returns-else-n-self-clause-does
+returns-else-n-self-clause-does c =
     let it = c.args.self.now in
     let s = c.args.sheet.now in
     chain-any refl

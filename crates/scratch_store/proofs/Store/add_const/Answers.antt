@@ -5,8 +5,8 @@ use Rattle.scratch_store.proofs.DoesLaws.{adds-any}
 use Rattle.scratch_index.specs.Consts.{const_hash}
 use Rattle.scratch_store.proofs.Store.add_const.Goals as goal
 
-pub returns : goal.returns
-returns c =
+pub returns-clause-does : goal.returns-clause-does
+returns-clause-does c =
     let it = c.args.self.now in
     let s = c.args.sheet.now in
     adds-any refl

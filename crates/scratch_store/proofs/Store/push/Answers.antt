@@ -5,8 +5,8 @@ use Rattle.scratch_store.proofs.EmitLaws.{emit-does}
 use Rattle.scratch_store.proofs.DoesLaws.{does-any}
 use Rattle.scratch_store.proofs.Store.push.Goals as goal
 
-pub returns : goal.returns
-returns c = λ l s op w.
+pub returns-clause-does : goal.returns-clause-does
+returns-clause-does c = λ l s op w.
     let a = c.args in
     let it = a.self.now in
     does-any refl

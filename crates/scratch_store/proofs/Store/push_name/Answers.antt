@@ -6,8 +6,8 @@ use Rattle.scratch_store.proofs.DoesLaws.{adds-any}
 use Rattle.scratch_index.specs.Names.{name_hash}
 use Rattle.scratch_store.proofs.Store.push_name.Goals as goal
 
-pub returns : goal.returns
-returns c =
+pub returns-clause-does : goal.returns-clause-does
+returns-clause-does c =
     λ l text mark space.
     let it = c.args.self.now in
     let name = c.args.name in

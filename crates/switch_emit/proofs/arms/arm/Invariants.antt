@@ -10,7 +10,8 @@ use Rattle.switch_emit.proofs.arms.arm.Given as goal
 
 abbrev pub invariant-loop-b : goal.invariant-loop-b
 invariant-loop-b v =
-    (l : Layout) (drop : Bool) (place : ℕ) → v.tail ≡ goes drop place → Ready v.sheet → Guards v.sheet v.flat (block_count v.sheet)
+    ((l : Layout) (drop : Bool) (place : ℕ) → v.tail ≡ goes drop place → Ready v.sheet → Guards v.sheet v.flat (block_count v.sheet)
     → Named v.sheet v.list
     → ArmLeft v.sheet l v.initial.store.scratch.now v.initial.store.state v.flat place drop v.list v.store.scratch.now v.store.state v.any
-    v.b-index
+    v.b-index)
+    × (v.store.scratch.ghost_name ≡ v.initial.store.scratch.ghost_name)

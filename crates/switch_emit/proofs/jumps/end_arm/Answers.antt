@@ -2,10 +2,10 @@
 use Rattle.switch_emit.proofs.PartLaws.{end-jumps, end_none}
 use Rattle.switch_emit.proofs.jumps.end_arm.Goals as goal
 
-pub returns-then-any : goal.returns-then-any
-returns-then-any c =
+pub returns-then-any-clause-does : goal.returns-then-any-clause-does
+returns-then-any-clause-does c =
     λ l s drop place e.
-    end-jumps _ _ _ c.if-any.true (c.jump.ensures l s drop place e)
+    end-jumps _ _ _ c.if-any.true (c.jump.ensures.does l s drop place e)
 
-pub returns-else-any : goal.returns-else-any
-returns-else-any c = λ l s drop place e. end_none _ _ _ c.if-any.false
+pub returns-else-any-clause-does : goal.returns-else-any-clause-does
+returns-else-any-clause-does c = λ l s drop place e. end_none _ _ _ c.if-any.false
