@@ -1,2 +1,4 @@
+mod CutLaws
+mod LessLaws
 pub mod ReadLaws
 mod NamedLaws

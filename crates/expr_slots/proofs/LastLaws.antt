@@ -1,6 +1,6 @@
 -- A search among the numbers below n, the last one first, as a chain over a range answers it.
 use Prim.Native.Nat.{ℕ, zero, suc, ◌+◌, ◌-◌, ◌<◌}
-use mathlib.Core.Path.{◌≡◌, refl, sym, ap, ◌∙◌}
+use mathlib.Core.Path.{◌≡◌, refl, sym, ap, ap₂, ◌∙◌}
 use mathlib.Core.Bool.{Bool, true, false}
 use mathlib.Core.List.{List, [], ◌∷◌}
 use native.Mathlib.Omega.{arith}
@@ -58,6 +58,13 @@ found-down {s = s} test u f n r d e k =
     ∙ find_from_yields_List test u f r d (yields-down s) k
     ∙ ap (λ (w : Range ℕ). find test (down w.start (w.end - w.start))) e
     ∙ ap (λ w. find test (down 0 w)) (omega arith)
+
+-- two tests that agree below n find the same
+pub found-same : (f g : ℕ → Bool) (n : ℕ) → ((x : ℕ) → x < n → f x ≡ g x) → find f (down 0 n) ≡ find g (down 0 n)
+unfolding down
+found-same f g zero h = refl
+found-same f g (suc n) h =
+    ap₂ (λ b r. cond b (Some (0 + n)) r) (h (0 + n) (omega arith)) (found-same f g n (λ x l. h x (omega arith)))
 
 module _ (s name : List ℕ) where
   abbrev pub test : ℕ → Bool

@@ -5,16 +5,16 @@ use mathlib.Core.Bool.{Bool, true, false, true≢false}
 use mathlib.Core.List.{List, [], ◌∷◌}
 use native.Mathlib.Omega.{arith}
 use native.Mathlib.Decide.{dec_le}
-use lib.ListN.{length, take, drop, get_or, length-take, length-drop, drop_of_length-le}
+use lib.ListN.{length, take, drop, get_or, get_or-eq_default, length-take, length-drop, drop_of_length-le}
 use lib.Seq.{take_all, get_or-take, get_or-drop}
 use Rattle.text.specs.Same.{same}
 use Rattle.text.proofs.SameLaws.{same_refl, same_false, same_at}
-use Rattle.words.specs.Word.{word}
+use Rattle.words.specs.Word.{word, front}
 use Rattle.sheet.specs.Sections.{lengths_at, bytes_at, locals_at}
 use Rattle.sheet.specs.Node.{local_text}
 use Rattle.sheet.specs.Text.{text, text_start, text_length_by, text_length}
 use Rattle.expr_slots.specs.Ends.{Ends}
-use Rattle.expr_slots.specs.Named.{text_by, named_by}
+use Rattle.expr_slots.specs.Named.{cut_word, cut_by, text_by, named_by}
 use borrow.Author.Tests.{eqb-false, eq-eqb, ne_eqb}
 use Rattle.std.proofs.Common.{eqb, eqb-true}
 
@@ -109,21 +109,30 @@ module _ (s name : List ℕ) (t left : ℕ) (is-text : name ≡ text s t) (no_en
         sym (ap (λ i. same (text s i) name) local-read) ∙ apart
 
 -- what the code reads for its test
-module _ (s name : List ℕ) (n lengths locals bytes left : ℕ) {k l : ℕ} (hk : k ≡ word s (locals + left)) (hl : l ≡ word s (lengths + k)) where
-  length-of : l ≡ word s (lengths + text_by s locals left)
-  unfolding text_by
-  length-of = hl ∙ ap (λ i. word s (lengths + i)) hk
-
-  pub read-equal : {a : ℕ} {r : Bool} → l ≡ n → a ≡ text_start s k → r ≡ same (take n (drop (bytes + a) s)) name
-      → r ≡ named_by s name n locals lengths bytes left
-  unfolding named_by text_by
-  read-equal e ha h =
-      rw (eq-eqb _ _ (sym length-of ∙ e), named_by, text_by)
+module _ (s name : List ℕ) (n : ℕ) (locals lengths : List (List ℕ)) (bytes left : ℕ) {k l : ℕ} (hk : k ≡ cut_word locals left) where
+  pub read-equal : {a : ℕ} {r : Bool} → l ≡ cut_word lengths k → l ≡ n → a ≡ text_start s k → r ≡ same (take n (drop (bytes + a) s)) name
+      → r ≡ cut_by s name n locals lengths bytes left
+  unfolding cut_by
+  read-equal hl e ha h =
+      rw (eq-eqb _ _ (ap (cut_word lengths) (sym hk) ∙ sym hl ∙ e), cut_by)
       (h ∙ ap (λ i. same (take n (drop (bytes + i) s)) name) (ha ∙ ap (text_start s) hk))
 
-  pub read-other : (l ≡ n → ⊥) → false ≡ named_by s name n locals lengths bytes left
-  unfolding named_by text_by
-  read-other ne = rw (ne_eqb _ _ (λ e. ne (length-of ∙ e)), named_by, text_by)
+  pub read-other : l ≡ cut_word lengths k → (l ≡ n → ⊥) → false ≡ cut_by s name n locals lengths bytes left
+  unfolding cut_by
+  read-other hl ne = rw (ne_eqb _ _ (λ e. ne (hl ∙ ap (cut_word lengths) hk ∙ e)), cut_by)
+
+-- no word is there
+pub none-there : (ws : List (List ℕ)) (i : ℕ) → length ws ≤ i → 0 ≡ cut_word ws i
+unfolding cut_word
+none-there ws i h = sym (ap front (get_or-eq_default ws [] h))
+
+-- words that were cut out from word at on, and from word ls on, are the sheet's
+pub cut-is : (s name : List ℕ) (n left at ls bs : ℕ) (locals lengths : List (List ℕ)) → cut_word locals left ≡ word s (at + left)
+    → ((k : ℕ) → cut_word lengths k ≡ word s (ls + k)) → cut_by s name n locals lengths bs left ≡ named_by s name n at ls bs left
+unfolding cut_by named_by text_by
+cut-is s name n left at ls bs locals lengths ho hl =
+    let told : ℕ → ℕ → Bool = λ k l. elim (eqb l n) [ true ↦ same (take n (drop (bs + text_start s k) s)) name | false ↦ false ] in
+    ap (told (cut_word locals left)) (hl (cut_word locals left)) ∙ ap (λ k. told k (word s (ls + k))) ho
 
 -- the test of the code
 pub named-is :

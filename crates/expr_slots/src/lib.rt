@@ -13,7 +13,7 @@ use sheet::{
     bytes_at, lengths_at, local_count, local_text, locals_at, text, text_length, text_start,
 };
 use text::same_bytes;
-use words::{byte, part, word_at};
+use words::{byte, number, part, words_from};
 
 // The last local with the bytes of `name`.
 fn by_bytes(sheet: &[u8], name: &[u8]) -> Option<u32>
@@ -49,27 +49,35 @@ fn same_part(sheet: &[u8], at: usize, len: usize, name: &[u8]) -> bool
 }
 
 // The last local with the bytes of text `t`, which is `name` and does not end the sheet: texts of another length are passed over.
+// What is read of each local is cut out of the sheet before the loop; where the sheet ends among the locals, it is not.
 fn by_length(sheet: &[u8], t: u32, name: &[u8]) -> Option<u32>
     requires { (name.now ≡ texts.text sheet.now t) × (Ends sheet.now name.now → ⊥) }
     ensures { let sheet = sheet.now in result ≡ answers.found (slots.resolve sheet name.now) }
 {
     let n = text_length(sheet, t);
-    let lengths = lengths_at(sheet);
+    let lengths = words_from(sheet, lengths_at(sheet), sheet.len() / 4);
     let bytes = 4 * bytes_at(sheet);
-    let locals = locals_at(sheet);
-    (0..local_count(sheet)).rev().find(
+    let m = local_count(sheet);
+    let locals = words_from(sheet, locals_at(sheet), m as usize);
+    if locals.len() < (m as usize) {
+        return by_bytes(sheet, name);
+    }
+    (0..m).rev().find(
         |left: &u32|
-            requires { (0 < n) × (locals < 1000000000000) × (lengths < 1000000000000) × (bytes < 1000000000000) }
-            ensures { result ≡ named.named_by sheet.entry.now name.entry.now n locals lengths bytes left.now }
+            requires { (0 < n) × (left.now < length locals.now) × (bytes < 1000000000000) }
+            ensures { result ≡ named.cut_by sheet.entry.now name.entry.now n locals.entry.now lengths.entry.now bytes left.now }
         {
-            let k = word_at(sheet, locals + (*left as usize));
-            word_at(sheet, lengths + (k as usize)) == n
-                && same_part(
-                    sheet,
-                    bytes + (text_start(sheet, k) as usize),
-                    n as usize,
-                    name,
-                )
+            let k = number(locals[*left as usize]);
+            match lengths.get(k as usize) {
+                Some(l) => number(*l) == n
+                    && same_part(
+                        sheet,
+                        bytes + (text_start(sheet, k) as usize),
+                        n as usize,
+                        name,
+                    ),
+                None => false,
+            }
         },
     )
 }

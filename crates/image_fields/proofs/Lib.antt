@@ -4,3 +4,4 @@ mod RecordLaws
 mod FitLaws
 mod CodeLaws
 mod NamedLaws
+mod RowLaws

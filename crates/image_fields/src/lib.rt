@@ -3,13 +3,14 @@
 #![tactic(auto)]
 
 ghost use Rattle.std.specs.Prelude.{◌≡◌};
+ghost use Rattle.words.specs.Count.{all_below};
 ghost use Rattle.sheet.specs.Sections.{text_count, local_count, node_count};
 ghost use Rattle.image_fields.specs.Fields as fields;
 ghost use Rattle.image_fields.specs.Records as records;
 
 use check_shape::scalar;
 use image_read::{Image, RootKind, Rows, StepKind};
-use lowering::{MAX_ARGS, MAX_ELEMENTS, RANGE_TARGET};
+use lowering::{CASE_WIDTH, MAX_ARGS, MAX_ELEMENTS, RANGE_TARGET, RANGE_WIDTH};
 use sheet::kinds::{CHAR, FLOAT, INT, STRING};
 use sheet::{local_count, node_count, text_count};
 
@@ -287,6 +288,41 @@ impl<'a> Pair<'a> {
         (image.range_word(i, 4) <= 1)
             & (image.range_word(i, RANGE_TARGET as u32) <= image.sizes.places)
     }
+
+    // All cases are right, and all ranges. Where the image has them, they are cut out of it before the loop, which then asks of no word
+    // whether it is there.
+    fn cases_right(&self) -> bool
+        ensures { let image = self.now.image in result ≡ all_below image.sizes.cases (records.case_right image.words.now) }
+    {
+        let n = self.image.sizes.cases;
+        let at = self.image.starts.cases;
+        let places = self.image.sizes.places;
+        let consts = self.image.sizes.consts;
+        match self.image.words.get(at..at + CASE_WIDTH * (n as usize)) {
+            Some(rows) => rows
+                .as_chunks::<CASE_WIDTH>()
+                .0
+                .iter()
+                .all(|row| (row[0] <= places) & (row[1] < consts)),
+            None => (0..n).all(|i| self.case_right(i)),
+        }
+    }
+
+    fn ranges_right(&self) -> bool
+        ensures { let image = self.now.image in result ≡ all_below image.sizes.ranges (records.range_right image.words.now) }
+    {
+        let n = self.image.sizes.ranges;
+        let at = self.image.starts.ranges;
+        let places = self.image.sizes.places;
+        match self.image.words.get(at..at + RANGE_WIDTH * (n as usize)) {
+            Some(rows) => rows
+                .as_chunks::<RANGE_WIDTH>()
+                .0
+                .iter()
+                .all(|row| (row[4] <= 1) & (row[RANGE_TARGET] <= places)),
+            None => (0..n).all(|i| self.range_right(i)),
+        }
+    }
 }
 
 // Every word of every record is right, but for what steps ask of their chain's operands.
@@ -303,6 +339,6 @@ pub fn fields_right(sheet: &[u8], image: &[u32]) -> bool
         & (0..sizes.chains).all(|i| pair.chain_right(i))
         & (0..sizes.steps).all(|i| pair.step_right(i))
         & (0..sizes.tables).all(|i| pair.table_right(i))
-        & (0..sizes.cases).all(|i| pair.case_right(i))
-        & (0..sizes.ranges).all(|i| pair.range_right(i))
+        & pair.cases_right()
+        & pair.ranges_right()
 }

@@ -131,7 +131,9 @@ fn run_on(run: u32, before: u32, m: u32) -> u32
     }
 }
 
-// The word of each row becomes the length of the run of rows with one mark that ends there.
+// The word of each row becomes the length of the run of rows with one mark that ends there. It is not drawn into the image check, where
+// the loop would have to read again what has no register left.
+#[inline(never)]
 pub fn count_image_runs(image: &Image, found: &[u32], rows: &mut [u32])
     ensures { Counted image.now.words.now found.now rows.old rows.new }
 {
@@ -139,10 +141,10 @@ pub fn count_image_runs(image: &Image, found: &[u32], rows: &mut [u32])
     // Kept: by number. A row is in one of two pools (`row_target`), and `rows` may be shorter than they are.
     let mut before: u32 = 0;
     let mut run: u32 = 0;
-    for q in 0..total {
+    for q in 0..total.min(rows.len()) {
         let m = word_of(found, row_target(image, q) as usize);
         run = run_on(run, before, m);
-        put(rows, q, run);
+        rows[q] = run;
         before = m;
     }
 }

@@ -1,5 +1,5 @@
 -- The hash of bytes: it is a word, bytes put behind are more steps, four bytes at once are four steps, and each step of the code's loop.
-use Prim.Native.Nat.{ℕ, zero, suc, ◌+◌, ◌*◌, ◌/◌, ◌%◌, ◌≤◌, ◌<◌}
+use Prim.Native.Nat.{ℕ, ◌+◌, ◌*◌, ◌/◌, ◌%◌, ◌≤◌, ◌<◌}
 use mathlib.Core.Path.{◌≡◌, refl, sym, ap, ◌∙◌, subst}
 use mathlib.Core.List.{List, [], ◌∷◌, ◌++◌}
 use native.Mathlib.Omega.{arith}
@@ -7,7 +7,7 @@ use native.Mathlib.Numerals.{add-one}
 use native.Mathlib.Nat.{add-zero, add-mul-mod_self_left}
 use lib.ListN.{length, get_or, take, drop}
 use lib.Seq.{drop-cons, drop-length, get_or-take, get_or-drop}
-use Rattle.std.proofs.lemmas.List.{drop-drop}
+pub use Rattle.words.proofs.CutLaws.{chunk_at}
 use Rattle.std.specs.Simd.{first_chunks}
 use Rattle.scratch_folds.specs.Hash.{byte_step, fold_hash, four_steps, bytes_hash, mix}
 
@@ -80,14 +80,6 @@ four-steps h a b c d =
     ∙ rest-same (byte_step h a * 1055306571 + (b + 1) * 637696617 + (c + 1) * 16777619 + d + 1)
     (h * 1345077009 + (a + 1) * 1055306571 + (b + 1) * 637696617 + (c + 1) * 16777619 + d + 1)
     ((h * 16777619 + a + 1) / 4294967296 * 1055306571) (4122390 * h) (omega arith)
-
--- the chunks of n, each by its index
-pub chunk_at : (n k : ℕ) (xs : List ℕ) (j : ℕ) → j < k → get_or (first_chunks n k xs) j [] ≡ take n (drop (j * n) xs)
-chunk_at n zero xs j l = absurd (omega arith)
-chunk_at n (suc k) xs zero l = let z : 0 ≡ 0 * n = omega arith in ap (λ (i : ℕ). take n (drop i xs)) z
-chunk_at n (suc k) xs (suc j) l =
-    let e : n + j * n ≡ suc j * n = omega arith in
-    chunk_at n k (drop n xs) j (omega arith) ∙ ap (take n) (drop-drop (j * n) n xs ∙ ap (λ (i : ℕ). drop i xs) e)
 
 module _ (bs : List ℕ) (t : ℕ) where
   folding-four :

@@ -1,3 +1,4 @@
+pub mod CutLaws
 pub mod CountLaws
 pub mod PartLaws
 pub mod RangeLaws

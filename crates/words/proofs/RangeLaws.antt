@@ -13,7 +13,8 @@ use Rattle.std.specs.Option.{MatchOption}
 use Rattle.std.proofs.Math.Bool.{and_assoc}
 use denote.Param.Members.{Mut}
 use Rattle.std.specs.Prelude.{Option}
-use mathlib.Core.List.{List}
+use mathlib.Core.List.{List, [], ◌∷◌}
+use lib.ListN.{length, get_or}
 use Rattle.words.specs.Count.{all_below}
 use Rattle.words.proofs.CountLaws.{all_none, all-suc, all_same}
 
@@ -22,7 +23,7 @@ and-last true = refl
 and-last false = refl
 
 -- a test of a run of numbers, the first told apart
-all-first : (f : ℕ → Bool) (n : ℕ) → all_below (suc n) f ≡ (f 0 && all_below n (λ k. f (suc k)))
+pub all-first : (f : ℕ → Bool) (n : ℕ) → all_below (suc n) f ≡ (f 0 && all_below n (λ k. f (suc k)))
 all-first f zero =
     all-suc f 0 ∙ ap (λ b. b && f 0) (all_none f) ∙ and-last (f 0) ∙ ap (λ b. f 0 && b) (sym (all_none (λ k. f (suc k))))
 all-first f (suc n) =
@@ -43,3 +44,8 @@ pub all_below-range : {F : Type 0} {g : Mut F (ℕ × Unit {0}) Bool} {s : _} (t
     → s ≡ record { start = 0; end = n } → ((x : ℕ) (b : Bool) (q : F) → Called g f (x, tt) b q → (q ≡ f) × (b ≡ test x)) → r ≡ all_below n test
 all_below-range test u f n r d e k = all_from_yields_List test u f r d (YieldsList-from_range 0 n n e (omega arith)) k ∙ list_all-range test 0 n
     ∙ all_same (λ k. test (0 + k)) test n (λ k l. ap test (omega arith))
+
+-- a test of a list's items, by their places
+pub list_all-index : {X : Type 0} (p : X → Bool) (d : X) (xs : List X) → list_all p xs ≡ all_below (length xs) (λ i. p (get_or xs i d))
+list_all-index p d [] = sym (all_none _)
+list_all-index p d (x ∷ xs) = ap (λ b. p x && b) (list_all-index p d xs) ∙ sym (all-first (λ i. p (get_or (x ∷ xs) i d)) (length xs))

@@ -2,8 +2,8 @@
 // there whole, reads as 0.
 #![tactic(auto)]
 
-ghost use Rattle.std.specs.Prelude.{◌≡◌, ◌+◌, ◌*◌, ◌<◌, ◌≤◌, length, take, drop};
-ghost use Rattle.words.specs.Word.{byte_of, from_bytes, word};
+ghost use Rattle.std.specs.Prelude.{◌≡◌, ◌+◌, ◌*◌, ◌<◌, ◌≤◌, ℕ, [], get_or, length, take, drop};
+ghost use Rattle.words.specs.Word.{byte_of, from_bytes, front, word};
 
 // Byte `i` of `s`, 0 past the end.
 // Kept: a function beside `get` of crate scratch and `word_of` of crate image_read, which read the scratch and an image. Each is one
@@ -50,4 +50,21 @@ pub fn part(s: &[u8], at: usize, len: usize) -> &[u8]
         return &s[at..end];
     }
     &s[at..]
+}
+
+// The number that the four bytes of a word stand for.
+pub fn number(bytes: [u8; 4]) -> u32
+    ensures { result ≡ front bytes }
+{
+    u32::from_le_bytes(bytes)
+}
+
+// The `n` words of `s` from word `at` on, or as many of them as it has whole, with the four bytes of each: for a loop over them, which
+// then asks of none whether the string has it.
+pub fn words_from(s: &[u8], at: usize, n: usize) -> &[[u8; 4]]
+    requires { at + n < 4611686018427387904 }
+    ensures few { length result.now ≤ n }
+    ensures each { (i : ℕ) → i < n → front (get_or result.now i []) ≡ word s.now (at + i) }
+{
+    part(s, 4 * at, 4 * n).as_chunks::<4>().0
 }

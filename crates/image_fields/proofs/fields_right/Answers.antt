@@ -24,6 +24,6 @@ returns c =
     (section _ (all_below-range (chain_right s w) _ _ _ _ c.all-6.ensures.ran refl (λ x b q k. search (rules, tests))) sized.chains)
     (section _ (all_below-range (step_right w) _ _ _ _ c.all-7.ensures.ran refl (λ x b q k. search (rules, tests))) sized.steps)
     (section _ (all_below-range (table_right w) _ _ _ _ c.all-8.ensures.ran refl (λ x b q k. search (rules, tests))) sized.tables)
-    (section _ (all_below-range (case_right w) _ _ _ _ c.all-9.ensures.ran refl (λ x b q k. search (rules, tests))) sized.cases)
-    (section _ (all_below-range (range_right w) _ _ _ _ c.all-10.ensures.ran refl (λ x b q k. search (rules, tests))) sized.ranges)
+    (section (case_right w) c.cases_right.ensures sized.cases)
+    (section (range_right w) c.ranges_right.ensures sized.ranges)
     ∙ ap₂ fields_right c.of-pair.ensures.sheet c.of-pair.ensures.image

@@ -1,5 +1,6 @@
 -- `image_rows::count_image_runs` meets its contract. Invariant: the runs that end at the first q rows are counted (`Counting`).
-use mathlib.Core.Path.{refl, ◌∙◌}
+use Rattle.std.proofs.Common.{rules}
+use mathlib.Core.Path.{refl}
 use native.Mathlib.Omega.{arith}
 use Rattle.image_rows.proofs.RunLaws.{counting-start, counting-on, counting-done}
 use Rattle.image_rows.proofs.count_image_runs.Goals as goal
@@ -13,9 +14,9 @@ loop-q-preserved c =
     let v = c.loop-q.invariant in
     let sized = a.image.now.sized in
     let test = c.loop-q-test.true in (
-      c.put.auto.out ∙ v.0,
+      search rules,
       counting-on a.image.now.words.now a.found.now _ _ _ _ _ _ _ _ _ v.1 (omega (arith, test, sized.cases, sized.ranges)) v.0
-          c.row_target.ensures c.word_of-m.ensures c.run_on-run.ensures.same c.run_on-run.ensures.other c.put.ensures,
+          c.row_target.ensures c.word_of-m.ensures c.run_on-run.ensures.same c.run_on-run.ensures.other refl,
     )
 
 pub returns : goal.returns
@@ -23,5 +24,5 @@ returns c =
     let a = c.args in
     let v = c.loop-q.invariant in
     let sized = a.image.now.sized in
-    counting-done a.image.now.words.now a.found.now _ _ _ _ _
-    (omega (arith, c.loop-q.auto.q-end, c.loop-q-test.false, sized.cases, sized.ranges)) v.1
+    λ room. counting-done a.image.now.words.now a.found.now _ _ _ _ _
+    (omega (arith, room, v.0, c.loop-q.auto.q-end, c.loop-q-test.false, sized.cases, sized.ranges)) v.1 room
