@@ -108,18 +108,36 @@ module _ (s name : List ℕ) (t left : ℕ) (is-text : name ≡ text s t) (no_en
         let apart = lengths_differ s name no_end t k is-text (λ e. ne (length-read ∙ e ∙ sym hn)) in
         sym (ap (λ i. same (text s i) name) local-read) ∙ apart
 
--- what the code reads for its test
+-- what is read for the test, from the sheet
+module _ (s name : List ℕ) (n lengths locals bytes left : ℕ) {k l : ℕ} (hk : k ≡ word s (locals + left))
+    (hl : l ≡ word s (lengths + k)) where
+  length-of : l ≡ word s (lengths + text_by s locals left)
+  unfolding text_by
+  length-of = hl ∙ ap (λ i. word s (lengths + i)) hk
+
+  pub read-equal : {a : ℕ} {r : Bool} → l ≡ n → a ≡ text_start s k → r ≡ same (take n (drop (bytes + a) s)) name
+      → r ≡ named_by s name n locals lengths bytes left
+  unfolding named_by text_by
+  read-equal e ha h =
+      rw (eq-eqb _ _ (sym length-of ∙ e), named_by, text_by)
+      (h ∙ ap (λ i. same (take n (drop (bytes + i) s)) name) (ha ∙ ap (text_start s) hk))
+
+  pub read-other : (l ≡ n → ⊥) → false ≡ named_by s name n locals lengths bytes left
+  unfolding named_by text_by
+  read-other ne = rw (ne_eqb _ _ (λ e. ne (length-of ∙ e)), named_by, text_by)
+
+-- what the code reads for its test, from words that were cut out
 module _ (s name : List ℕ) (n : ℕ) (locals lengths : List (List ℕ)) (bytes left : ℕ) {k l : ℕ} (hk : k ≡ cut_word locals left) where
-  pub read-equal : {a : ℕ} {r : Bool} → l ≡ cut_word lengths k → l ≡ n → a ≡ text_start s k → r ≡ same (take n (drop (bytes + a) s)) name
+  pub cut-equal : {a : ℕ} {r : Bool} → l ≡ cut_word lengths k → l ≡ n → a ≡ text_start s k → r ≡ same (take n (drop (bytes + a) s)) name
       → r ≡ cut_by s name n locals lengths bytes left
   unfolding cut_by
-  read-equal hl e ha h =
+  cut-equal hl e ha h =
       rw (eq-eqb _ _ (ap (cut_word lengths) (sym hk) ∙ sym hl ∙ e), cut_by)
       (h ∙ ap (λ i. same (take n (drop (bytes + i) s)) name) (ha ∙ ap (text_start s) hk))
 
-  pub read-other : l ≡ cut_word lengths k → (l ≡ n → ⊥) → false ≡ cut_by s name n locals lengths bytes left
+  pub cut-other : l ≡ cut_word lengths k → (l ≡ n → ⊥) → false ≡ cut_by s name n locals lengths bytes left
   unfolding cut_by
-  read-other hl ne = rw (ne_eqb _ _ (λ e. ne (hl ∙ ap (cut_word lengths) hk ∙ e)), cut_by)
+  cut-other hl ne = rw (ne_eqb _ _ (λ e. ne (hl ∙ ap (cut_word lengths) hk ∙ e)), cut_by)
 
 -- no word is there
 pub none-there : (ws : List (List ℕ)) (i : ℕ) → length ws ≤ i → 0 ≡ cut_word ws i
@@ -139,17 +157,16 @@ pub named-is :
     (s name : List ℕ) (t left : ℕ) {n lengths locals b : ℕ} → name ≡ text s t → (Ends s name → ⊥) → n ≡ text_length s t
     → lengths ≡ lengths_at s → locals ≡ locals_at s → b ≡ bytes_at s
     → named_by s name n locals lengths (4 * b) left ≡ same (text s (local_text s left)) name
-unfolding named_by text_by
 named-is s name t left {n} {lengths} {locals} {b} is-text no_end hn hs ho hb = by (eqb (word s (lengths + word s (locals + left))) n) refl
   where
     by : (q : Bool) → eqb (word s (lengths + word s (locals + left))) n ≡ q
         → named_by s name n locals lengths (4 * b) left ≡ same (text s (local_text s left)) name
     by true e =
-        rw (e, named_by, text_by)
-        (equal-length s name t left is-text no_end hn hs ho refl refl (eqb-true _ _ e) hb refl (λ _. refl))
+        sym (read-equal s name n lengths locals (4 * b) left refl refl (eqb-true _ _ e) refl refl)
+        ∙ equal-length s name t left is-text no_end hn hs ho refl refl (eqb-true _ _ e) hb refl (λ _. refl)
     by false e =
-        rw (e, named_by, text_by)
-        (sym (other_length s name t left is-text no_end hn hs ho refl refl (eqb-false _ _ e)))
+        sym (read-other s name n lengths locals (4 * b) left refl refl (eqb-false _ _ e))
+        ∙ sym (other_length s name t left is-text no_end hn hs ho refl refl (eqb-false _ _ e))
 
 -- the text's length is not 0
 pub some-length : (s name : List ℕ) (t : ℕ) {n : ℕ} → name ≡ text s t → (Ends s name → ⊥) → n ≡ text_length s t → 0 < n
